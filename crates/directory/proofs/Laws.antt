@@ -1,0 +1,344 @@
+-- The laws that the layer above works from: what a lookup finds before and after each step, and what each step keeps.
+use Prim.Native.Nat.{ℕ, _^_, _≤_, _<_}
+use mathlib.Core.Path.{_≡_, refl, sym, _∙_, ap}
+use mathlib.Core.Bool.{Bool, true, false}
+use mathlib.Core.Logic.{_⊎_, inl, inr, ⊎-elim}
+use native.Mathlib.Omega.{arith}
+use lib.Dec.{eqb}
+use lib.ListN.{length-set, getD-replicate}
+use borrow.Author.Tests.{eqb-true, eq-eqb}
+use Rattle.directory.specs.declared.steps.Directory.{Directory}
+use Rattle.directory.specs.declared.ways.Found.{Found}
+use Rattle.directory.specs.declared.ways.Found.the-variants.{At, Nothing}
+use Rattle.directory.specs.Address.{setOf, tagOf, lineOf}
+use Rattle.directory.specs.Ways.{holds, lookupIn}
+use Rattle.directory.specs.Steps.{validAt, tagAt, lruAt, lookupOf, stateOf, afterUse, afterFill, afterReset, afterControl, controlRefused, controlCall, afterFlush, invalidated, afterSnoop, snoopCall}
+use Rattle.directory.specs.WellFormed.{Held, GoodSet, Sized, WellFormed}
+use Rattle.directory.proofs.Tests.{both, refuted, differ, cond-true, cond-false, by-test}
+use Rattle.directory.proofs.FourWays.{lowest-at, lowest-nothing, none-lowest, one-lowest}
+use Rattle.directory.proofs.Lines.{Same, same-line, stored-line, stored-other, use-lru-below, fewer-well-formed}
+use Rattle.directory.proofs.SetState.{state-good, good-state}
+
+-- LOOKUP
+
+abbrev tagHeld : Directory → ℕ → ℕ → Bool
+tagHeld d a w = holds (d .tags) (d .valid) (setOf a) w (tagOf a)
+
+held-test : (d : Directory) (a w : ℕ) → Held d (setOf a) w (tagOf a) → tagHeld d a w ≡ true
+held-test d a w h = rw (h .0, eq-eqb _ _ (h .1))
+
+test-held : (d : Directory) (a w : ℕ) → tagHeld d a w ≡ true → Held d (setOf a) w (tagOf a)
+test-held d a w e =
+    let p = both (validAt d (setOf a) w) (eqb (tagAt d (setOf a) w) (tagOf a)) e in
+    (p .0, eqb-true _ _ (p .1))
+
+module _ (d : Directory) (a : ℕ) where
+  -- what is found is held
+  pub lookup-at : (w : ℕ) → lookupOf d a ≡ At w → (w < 4) × Held d (setOf a) w (tagOf a)
+  unfolding lookupIn
+  lookup-at w e = let p = lowest-at (tagHeld d a) w e in (p .0, test-held d a w (p .1))
+
+  -- where nothing is found, no way holds the address
+  pub lookup-nothing : lookupOf d a ≡ Nothing → (w : ℕ) → w < 4 → Held d (setOf a) w (tagOf a) → ⊥
+  unfolding lookupIn
+  lookup-nothing e w l h = differ (held-test d a w h) (lowest-nothing (tagHeld d a) e w l)
+
+  -- what is held in a good set is found
+  pub held-lookup : GoodSet d (setOf a) → (w : ℕ) → w < 4 → Held d (setOf a) w (tagOf a) → lookupOf d a ≡ At w
+  unfolding lookupIn
+  held-lookup g w l h =
+      one-lowest (tagHeld d a) w l (held-test d a w h) λ v m e. g .apart v w (tagOf a) m l (test-held d a v e) h
+
+  -- where no way holds the address, nothing is found
+  pub none-lookup : ((w : ℕ) → w < 4 → Held d (setOf a) w (tagOf a) → ⊥) → lookupOf d a ≡ Nothing
+  unfolding lookupIn
+  none-lookup n = none-lowest (tagHeld d a) λ w l. refuted (tagHeld d a w) λ e. n w l (test-held d a w e)
+
+-- RESET
+
+pub reset-none : (s w tag : ℕ) → s < 128 → w < 4 → Held afterReset s w tag → ⊥
+unfolding afterReset
+reset-none s w tag sl wl h = differ (h .0) (getD-replicate 512 (lineOf s w) false false (omega arith))
+
+pub reset-lookup : (a : ℕ) → lookupOf afterReset a ≡ Nothing
+reset-lookup a = none-lookup afterReset a λ w l. reset-none (setOf a) w (tagOf a) (omega arith) l
+
+pub reset-control : (afterReset .cd ≡ true) × (afterReset .nw ≡ true)
+unfolding afterReset
+reset-control = (refl, refl)
+
+pub reset-well-formed : WellFormed afterReset
+unfolding afterReset
+reset-well-formed =
+    record {
+      sized = record { tags = refl; valid = refl; lru = refl };
+      sets = λ s l.
+          record {
+            apart = λ w v tag wl vl h k. absurd (reset-none s w tag l wl h);
+            tags = λ w tag wl h. absurd (reset-none s w tag l wl h);
+            lru = let e : lruAt afterReset s ≡ 0 = getD-replicate {A = ℕ} 128 s 0 0 l in omega arith;
+          };
+    }
+
+-- USE: no line changes
+
+module _ (d : Directory) (s w : ℕ) where
+  pub use-held : (r v tag : ℕ) → Held (afterUse d s w) r v tag → Held d r v tag
+  unfolding afterUse
+  use-held r v tag h = h
+
+  pub use-kept : (r v tag : ℕ) → Held d r v tag → Held (afterUse d s w) r v tag
+  unfolding afterUse
+  use-kept r v tag h = h
+
+  pub use-lookup : (a : ℕ) → lookupOf (afterUse d s w) a ≡ lookupOf d a
+  unfolding afterUse
+  use-lookup a = refl
+
+  pub use-control : (afterUse d s w .cd ≡ d .cd) × (afterUse d s w .nw ≡ d .nw)
+  unfolding afterUse
+  use-control = (refl, refl)
+
+use-sized : (d : Directory) → Sized d → (s w : ℕ) → Sized (afterUse d s w)
+unfolding afterUse
+use-sized d z s w = record { tags = z .tags; valid = z .valid; lru = rw length-set (z .lru) }
+
+pub use-well-formed : (d : Directory) → WellFormed d → (s w : ℕ) → s < 128 → w < 4 → WellFormed (afterUse d s w)
+use-well-formed d g s w sl wl =
+    fewer-well-formed d (afterUse d s w) g (use-sized d (g .sized) s w)
+    (λ r v tag rl vl. use-held d s w r v tag)
+    (λ r rl. use-lru-below d (g .sized) s w sl wl r (g .sets r rl .lru))
+
+-- FILL: one line becomes the new one, and every other stays as it was
+
+module _ (d : Directory) (s w tag : ℕ) where
+  pub fill-control : (afterFill d s w tag .cd ≡ d .cd) × (afterFill d s w tag .nw ≡ d .nw)
+  unfolding afterFill
+  fill-control = (refl, refl)
+
+  fill-sized : Sized d → Sized (afterFill d s w tag)
+  unfolding afterFill
+  fill-sized z = record { tags = rw length-set (z .tags); valid = rw length-set (z .valid); lru = rw length-set (z .lru) }
+
+  fill-lru : (r : ℕ) → lruAt (afterFill d s w tag) r ≡ lruAt (afterUse d s w) r
+  unfolding afterFill afterUse
+  fill-lru r = refl
+
+  module _ (z : Sized d) (sl : s < 128) (wl : w < 4) where
+    pub fill-new : Held (afterFill d s w tag) s w tag
+    unfolding afterFill
+    fill-new = (stored-line (d .valid) true false s w (z .valid) sl wl, stored-line (d .tags) tag 0 s w (z .tags) sl wl)
+
+    pub fill-kept : (r v t : ℕ) → v < 4 → (Same r v s w → ⊥) → Held d r v t → Held (afterFill d s w tag) r v t
+    unfolding afterFill
+    fill-kept r v t vl n h = (
+      stored-other s w r v wl vl (d .valid) true false n ∙ h .0,
+      stored-other s w r v wl vl (d .tags) tag 0 n ∙ h .1,
+    )
+
+    other-held : (r v t : ℕ) → v < 4 → (Same r v s w → ⊥) → Held (afterFill d s w tag) r v t → Held d r v t
+    unfolding afterFill
+    other-held r v t vl n h = (
+      sym (stored-other s w r v wl vl (d .valid) true false n) ∙ h .0,
+      sym (stored-other s w r v wl vl (d .tags) tag 0 n) ∙ h .1,
+    )
+
+    -- a line that is held after a fill is the new one, or another that was held before
+    pub fill-held : (r v t : ℕ) → v < 4 → Held (afterFill d s w tag) r v t →
+        (Same r v s w × (t ≡ tag)) ⊎ ((Same r v s w → ⊥) × Held d r v t)
+    fill-held r v t vl h =
+        same-line s w r v wl vl _
+        (λ e. inl (e, sym (h .1) ∙ rw (e .0, e .1) (fill-new .1)))
+        (λ n. inr (n, other-held r v t vl n h))
+
+-- a fill of a tag that no way of its set holds
+pub fill-well-formed : (d : Directory) → WellFormed d → (s w tag : ℕ) → s < 128 → w < 4 → tag ≤ 2097151 →
+    ((v : ℕ) → v < 4 → Held d s v tag → ⊥) → WellFormed (afterFill d s w tag)
+fill-well-formed d g s w tag sl wl tl none =
+    let held = fill-held d s w tag (g .sized) sl wl in
+    record {
+      sized = fill-sized d s w tag (g .sized);
+      sets = λ r rl.
+          record {
+            apart = λ x y t xl yl h k.
+                ⊎-elim
+                (λ m. ⊎-elim (λ n. m .0 .1 ∙ sym (n .0 .1)) (λ n. absurd (none y yl (rw (m .1, m .0 .0) at (n .1)))) (held r y t yl k))
+                (λ m. ⊎-elim (λ n. absurd (none x xl (rw (n .1, n .0 .0) at (m .1)))) (λ n. g .sets r rl .apart x y t xl yl (m .1) (n .1)) (held r y t yl k))
+                (held r x t xl h);
+            tags = λ x t xl h. ⊎-elim (λ m. rw (m .1) tl) (λ m. g .sets r rl .tags x t xl (m .1)) (held r x t xl h);
+            lru = rw (fill-lru d s w tag r) (use-lru-below d (g .sized) s w sl wl r (g .sets r rl .lru));
+          };
+    }
+
+-- after a fill of an address that was not found, the address is found in the way that was filled
+module _ (d : Directory) (g : WellFormed d) (a w : ℕ) (al : a < 2 ^ 32) (wl : w < 4) (e : lookupOf d a ≡ Nothing) where
+  pub fill-address-well-formed : WellFormed (afterFill d (setOf a) w (tagOf a))
+  fill-address-well-formed =
+      fill-well-formed d g (setOf a) w (tagOf a) (omega arith) wl (omega arith) (lookup-nothing d a e)
+
+  pub fill-lookup : lookupOf (afterFill d (setOf a) w (tagOf a)) a ≡ At w
+  fill-lookup =
+      held-lookup (afterFill d (setOf a) w (tagOf a)) a (fill-address-well-formed .sets (setOf a) (omega arith)) w wl
+      (fill-new d (setOf a) w (tagOf a) (g .sized) (omega arith) wl)
+
+-- CONTROL: no line changes
+
+module _ (d : Directory) (cd nw : Bool) where
+  pub control-held : (r v tag : ℕ) → Held (afterControl d cd nw) r v tag → Held d r v tag
+  unfolding afterControl
+  control-held r v tag h = h
+
+  pub control-kept : (r v tag : ℕ) → Held d r v tag → Held (afterControl d cd nw) r v tag
+  unfolding afterControl
+  control-kept r v tag h = h
+
+  pub control-lookup : (a : ℕ) → lookupOf (afterControl d cd nw) a ≡ lookupOf d a
+  unfolding afterControl
+  control-lookup a = refl
+
+  pub control-set : (afterControl d cd nw .cd ≡ cd) × (afterControl d cd nw .nw ≡ nw)
+  unfolding afterControl
+  control-set = (refl, refl)
+
+  pub control-well-formed : WellFormed d → WellFormed (afterControl d cd nw)
+  unfolding afterControl
+  control-well-formed g =
+      fewer-well-formed d _ g (record { tags = g .sized .tags; valid = g .sized .valid; lru = g .sized .lru })
+      (λ r v tag rl vl h. h) (λ r rl. g .sets r rl .lru)
+
+  pub control-accepted : controlRefused cd nw ≡ false → controlCall d cd nw ≡ record { directory = afterControl d cd nw; number = 0 }
+  unfolding controlCall
+  control-accepted e = cond-false _ _ _ e
+
+  pub control-refused : controlRefused cd nw ≡ true → controlCall d cd nw ≡ record { directory = d; number = 9 }
+  unfolding controlCall
+  control-refused e = cond-true _ _ _ e
+
+-- FLUSH: no line stays
+
+module _ (d : Directory) where
+  pub flush-none : (s w tag : ℕ) → s < 128 → w < 4 → Held (afterFlush d) s w tag → ⊥
+  unfolding afterFlush
+  flush-none s w tag sl wl h = differ (h .0) (getD-replicate 512 (lineOf s w) false false (omega arith))
+
+  pub flush-lookup : (a : ℕ) → lookupOf (afterFlush d) a ≡ Nothing
+  flush-lookup a = none-lookup (afterFlush d) a λ w l. flush-none (setOf a) w (tagOf a) (omega arith) l
+
+  pub flush-control : (afterFlush d .cd ≡ d .cd) × (afterFlush d .nw ≡ d .nw)
+  unfolding afterFlush
+  flush-control = (refl, refl)
+
+  flush-lru : (s : ℕ) → lruAt (afterFlush d) s ≡ lruAt d s
+  unfolding afterFlush
+  flush-lru s = refl
+
+  flush-sized : Sized d → Sized (afterFlush d)
+  unfolding afterFlush
+  flush-sized z = record { tags = z .tags; valid = refl; lru = z .lru }
+
+  pub flush-well-formed : WellFormed d → WellFormed (afterFlush d)
+  flush-well-formed g =
+      fewer-well-formed d (afterFlush d) g (flush-sized (g .sized))
+      (λ s w tag sl wl h. absurd (flush-none s w tag sl wl h))
+      (λ s l. rw (flush-lru s) (g .sets s l .lru))
+
+-- SNOOP: with NW = 0 the line of the address goes, and every other stays as it was
+
+pub snoop-off : (d : Directory) (a : ℕ) → d .nw ≡ true → afterSnoop d a ≡ d
+unfolding afterSnoop
+snoop-off d a e = cond-true (d .nw) _ _ e
+
+pub snoop-on : (d : Directory) (a : ℕ) → d .nw ≡ false → afterSnoop d a ≡ invalidated d (setOf a) (lookupOf d a)
+unfolding afterSnoop
+snoop-on d a e = cond-false (d .nw) _ _ e
+
+module _ (d : Directory) (z : Sized d) (a : ℕ) where
+  abbrev gone : Found → Directory
+  gone f = invalidated d (setOf a) f
+
+  gone-held : (f : Found) → lookupOf d a ≡ f → (r v t : ℕ) → v < 4 → Held (gone f) r v t → Held d r v t
+  unfolding invalidated
+  gone-held (At w) e r v t vl h =
+      let wl = lookup-at d a w e .0 in
+      same-line (setOf a) w r v wl vl _
+      (λ m. absurd (differ (h .0) (rw (m .0, m .1) (stored-line (d .valid) false false (setOf a) w (z .valid) (omega arith) wl))))
+      (λ n. (sym (stored-other (setOf a) w r v wl vl (d .valid) false false n) ∙ h .0, h .1))
+  gone-held Nothing e r v t vl h = h
+
+  gone-kept : (f : Found) → lookupOf d a ≡ f → (r v t : ℕ) → v < 4 → (Same r t (setOf a) (tagOf a) → ⊥) → Held d r v t → Held (gone f) r v t
+  unfolding invalidated
+  gone-kept (At w) e r v t vl n h =
+      let k = lookup-at d a w e in
+      let o : Same r v (setOf a) w → ⊥ = λ m. n (m .0, sym (h .1) ∙ rw (m .0, m .1) (k .1 .1)) in
+      (stored-other (setOf a) w r v (k .0) vl (d .valid) false false o ∙ h .0, h .1)
+  gone-kept Nothing e r v t vl n h = h
+
+  gone-none : GoodSet d (setOf a) → (f : Found) → lookupOf d a ≡ f → (v : ℕ) → v < 4 → Held (gone f) (setOf a) v (tagOf a) → ⊥
+  unfolding invalidated
+  gone-none g (At w) e v vl h =
+      let k = lookup-at d a w e in
+      let j : v ≡ w = g .apart v w (tagOf a) vl (k .0) (gone-held (At w) e (setOf a) v (tagOf a) vl h) (k .1) in
+      differ (h .0) (rw j (stored-line (d .valid) false false (setOf a) w (z .valid) (omega arith) (k .0)))
+  gone-none g Nothing e v vl h = lookup-nothing d a e v vl h
+
+  gone-control : (f : Found) → (gone f .cd ≡ d .cd) × (gone f .nw ≡ d .nw)
+  unfolding invalidated
+  gone-control (At w) = (refl, refl)
+  gone-control Nothing = (refl, refl)
+
+  gone-sized : (f : Found) → Sized (gone f)
+  unfolding invalidated
+  gone-sized (At w) = record { tags = z .tags; valid = rw length-set (z .valid); lru = z .lru }
+  gone-sized Nothing = z
+
+  gone-lru : (f : Found) (r : ℕ) → lruAt (gone f) r ≡ lruAt d r
+  unfolding invalidated
+  gone-lru (At w) r = refl
+  gone-lru Nothing r = refl
+
+  -- what holds of the directory, and of the directory without the line of the address, holds after a snoop
+  by-nw : (P : Directory → Type 0) → (d .nw ≡ true → P d) → (d .nw ≡ false → P (gone (lookupOf d a))) → P (afterSnoop d a)
+  by-nw P p q =
+      by-test (λ b. d .nw ≡ b → P (afterSnoop d a)) (d .nw)
+      (λ _ e. rw (snoop-off d a e) (p e))
+      (λ _ e. rw (snoop-on d a e) (q e))
+      refl
+
+  -- a line that is held after a snoop was held before
+  pub snoop-held : (r v t : ℕ) → v < 4 → Held (afterSnoop d a) r v t → Held d r v t
+  snoop-held r v t vl = by-nw (λ x. Held x r v t → Held d r v t) (λ _ h. h) (λ _. gone-held _ refl r v t vl)
+
+  -- a line of another address stays held
+  pub snoop-kept : (r v t : ℕ) → v < 4 → (Same r t (setOf a) (tagOf a) → ⊥) → Held d r v t → Held (afterSnoop d a) r v t
+  snoop-kept r v t vl n = by-nw (λ x. Held d r v t → Held x r v t) (λ _ h. h) (λ _. gone-kept _ refl r v t vl n)
+
+  pub snoop-control : (afterSnoop d a .cd ≡ d .cd) × (afterSnoop d a .nw ≡ d .nw)
+  snoop-control = by-nw (λ x. (x .cd ≡ d .cd) × (x .nw ≡ d .nw)) (λ _. (refl, refl)) (λ _. gone-control _)
+
+  -- with NW = 0 no way holds a snooped address
+  pub snoop-none : GoodSet d (setOf a) → d .nw ≡ false → (v : ℕ) → v < 4 → Held (afterSnoop d a) (setOf a) v (tagOf a) → ⊥
+  snoop-none g e v vl h = gone-none g _ refl v vl (rw (snoop-on d a e) at h)
+
+  pub snoop-lookup : GoodSet d (setOf a) → d .nw ≡ false → lookupOf (afterSnoop d a) a ≡ Nothing
+  snoop-lookup g e = none-lookup (afterSnoop d a) a (snoop-none g e)
+
+pub snoop-well-formed : (d : Directory) → WellFormed d → (a : ℕ) → WellFormed (afterSnoop d a)
+snoop-well-formed d g a =
+    by-nw d (g .sized) a WellFormed (λ _. g)
+    (λ _.
+    fewer-well-formed d _ g (gone-sized d (g .sized) a _)
+    (λ r v t rl vl h. gone-held d (g .sized) a _ refl r v t vl h)
+    (λ r rl. rw (gone-lru d (g .sized) a _ r) (g .sets r rl .lru)))
+
+-- STATE NUMBERS
+
+-- a set meets no number exactly where it is good
+pub state-zero-good : (d : Directory) (s : ℕ) → stateOf d s ≡ 0 → GoodSet d s
+state-zero-good = state-good
+
+pub good-state-zero : (d : Directory) (s : ℕ) → GoodSet d s → stateOf d s ≡ 0
+good-state-zero = good-state
+
+pub snoop-accepted : (d : Directory) → WellFormed d → (a : ℕ) → snoopCall d a ≡ record { directory = afterSnoop d a; number = 0 }
+unfolding snoopCall
+snoop-accepted d g a = cond-true _ _ _ (eq-eqb _ 0 (good-state d (setOf a) (g .sets (setOf a) (omega arith))))

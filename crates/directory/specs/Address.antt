@@ -1,0 +1,16 @@
+-- Document 01, 'The directory': the parts of an address, and the name of a line.
+use Prim.Native.Nat.{ℕ, _+_, _*_, _/_, _%_}
+
+-- "An address has 32 bits: tag = address / 2048, set = (address / 16) mod 128, byte = address mod 16." (002: 21-bit tag, 7-bit index)
+abbrev pub tagOf : ℕ → ℕ
+tagOf address = address / 2048
+
+abbrev pub setOf : ℕ → ℕ
+setOf address = address / 16 % 128
+
+abbrev pub byteOf : ℕ → ℕ
+byteOf address = address % 16
+
+-- "A line is named by set and way 0 to 3": its place among the 512 tags and valid marks.
+abbrev pub lineOf : ℕ → ℕ → ℕ
+lineOf set way = set * 4 + way

@@ -1,0 +1,113 @@
+-- Document 01, 'The directory': the steps, each as the whole directory that it hands back.
+use Prim.Native.Nat.{ℕ}
+use mathlib.Core.Bool.{Bool, true, false, cond, not, _&&_}
+use lib.Dec.{eqb}
+use lib.ListN.{getD, set, replicate}
+use Rattle.directory.specs.declared.steps.Directory.{Directory}
+use Rattle.directory.specs.declared.steps.Answer.{Answer}
+use Rattle.directory.specs.declared.ways.Found.{Found}
+use Rattle.directory.specs.declared.ways.Found.the-variants.{At, Nothing}
+use Rattle.directory.specs.Address.{setOf, lineOf}
+use Rattle.directory.specs.Lru.{lruAfter}
+use Rattle.directory.specs.Ways.{markAt, tagIn, lookupIn, victimIn}
+use Rattle.directory.specs.State.{stateIn}
+
+-- What a directory has of a line and of a set, and the questions asked of it.
+abbrev pub validAt : Directory → ℕ → ℕ → Bool
+validAt d s w = markAt (d .valid) s w
+
+abbrev pub tagAt : Directory → ℕ → ℕ → ℕ
+tagAt d s w = tagIn (d .tags) s w
+
+abbrev pub lruAt : Directory → ℕ → ℕ
+lruAt d s = getD (d .lru) s 0
+
+abbrev pub lookupOf : Directory → ℕ → Found
+lookupOf d address = lookupIn (d .tags) (d .valid) address
+
+abbrev pub victimOf : Directory → ℕ → ℕ
+victimOf d s = victimIn (d .valid) (d .lru) s
+
+abbrev pub stateOf : Directory → ℕ → ℕ
+stateOf d s = stateIn (d .tags) (d .valid) (d .lru) s
+
+-- A use of a way changes the LRU number of its set. "Read hits, write hits and kept fills are uses". (001, 002)
+unfoldable pub afterUse : Directory → ℕ → ℕ → Directory
+afterUse d s w =
+    record {
+      tags = d .tags;
+      valid = d .valid;
+      lru = set (d .lru) s (lruAfter (lruAt d s) w);
+      cd = d .cd;
+      nw = d .nw;
+    }
+
+-- "A kept fill writes the victim's bytes, tag and valid mark", and is a use; the bytes are the data array's.
+unfoldable pub afterFill : Directory → ℕ → ℕ → ℕ → Directory
+afterFill d s w tag =
+    record {
+      tags = set (d .tags) (lineOf s w) tag;
+      valid = set (d .valid) (lineOf s w) true;
+      lru = set (d .lru) s (lruAfter (lruAt d s) w);
+      cd = d .cd;
+      nw = d .nw;
+    }
+
+-- "After reset all 512 lines are invalid, tags and LRU numbers are 0, and CD = NW = 1." (002)
+unfoldable pub afterReset : Directory
+afterReset =
+    record {
+      tags = replicate 512 0;
+      valid = replicate 512 false;
+      lru = replicate 128 0;
+      cd = true;
+      nw = true;
+    }
+
+-- "An accepted control call sets CD and NW to the two it is given and changes nothing else."
+unfoldable pub afterControl : Directory → Bool → Bool → Directory
+afterControl d cd nw =
+    record { tags = d .tags; valid = d .valid; lru = d .lru; cd = cd; nw = nw }
+
+-- "9. A control call with CD = 0 and NW = 1" (001)
+abbrev pub controlRefused : Bool → Bool → Bool
+controlRefused cd nw = not cd && nw
+
+unfoldable pub controlCall : Directory → Bool → Bool → Answer
+controlCall d cd nw =
+    cond (controlRefused cd nw)
+    (record { directory = d; number = 9 })
+    (record { directory = afterControl d cd nw; number = 0 })
+
+-- "A flush (FLUSH#, INVD and WBINVD alike) clears valid marks and nothing else (H)."
+unfoldable pub afterFlush : Directory → Directory
+afterFlush d =
+    record {
+      tags = d .tags;
+      valid = replicate 512 false;
+      lru = d .lru;
+      cd = d .cd;
+      nw = d .nw;
+    }
+
+-- "A snoop invalidates the line holding its address. With NW = 1 it changes nothing." (001, 002)
+unfoldable pub invalidated : Directory → ℕ → Found → Directory
+invalidated d s (At w) =
+    record {
+      tags = d .tags;
+      valid = set (d .valid) (lineOf s w) false;
+      lru = d .lru;
+      cd = d .cd;
+      nw = d .nw;
+    }
+invalidated d s Nothing = d
+
+unfoldable pub afterSnoop : Directory → ℕ → Directory
+afterSnoop d address = cond (d .nw) d (invalidated d (setOf address) (lookupOf d address))
+
+-- A snoop is turned away because of the state of its set, whatever NW is.
+unfoldable pub snoopCall : Directory → ℕ → Answer
+snoopCall d address =
+    cond (eqb (stateOf d (setOf address)) 0)
+    (record { directory = afterSnoop d address; number = 0 })
+    (record { directory = d; number = stateOf d (setOf address) })

@@ -1,0 +1,27 @@
+-- What the steps keep of a directory: the terms of the laws that the layer above works from.
+use Prim.Native.Nat.{ℕ, _≤_, _<_}
+use mathlib.Core.Path.{_≡_}
+use mathlib.Core.Bool.{true}
+use lib.ListN.{length}
+use Rattle.directory.specs.declared.steps.Directory.{Directory}
+use Rattle.directory.specs.Steps.{validAt, tagAt, lruAt}
+
+-- A way of a set is valid and has a tag.
+abbrev pub Held : Directory → ℕ → ℕ → ℕ → Type 0
+Held d s w tag = (validAt d s w ≡ true) × (tagAt d s w ≡ tag)
+
+-- A set that meets none of 21, 22 and 23.
+pub record GoodSet (d : Directory) (s : ℕ) : Type 0 where
+  pub apart : (w v tag : ℕ) → w < 4 → v < 4 → Held d s w tag → Held d s v tag → w ≡ v
+  pub tags : (w tag : ℕ) → w < 4 → Held d s w tag → tag ≤ 2097151
+  pub lru : lruAt d s ≤ 7
+
+-- The lengths of a directory's arrays.
+pub record Sized (d : Directory) : Type 0 where
+  pub tags : length (d .tags) ≡ 512
+  pub valid : length (d .valid) ≡ 512
+  pub lru : length (d .lru) ≡ 128
+
+pub record WellFormed (d : Directory) : Type 0 where
+  pub sized : Sized d
+  pub sets : (s : ℕ) → s < 128 → GoodSet d s

@@ -1,0 +1,16 @@
+// The directory of the 486's cache: which line each way of each set holds, and which way is replaced next.
+// It knows nothing of RAM, of the data array or of bus cycles.
+mod address;
+mod lru;
+mod state;
+mod steps;
+mod ways;
+
+pub use address::set_of;
+pub use address::tag_of;
+pub use state::state_number;
+pub use steps::Answer;
+pub use steps::Directory;
+pub use ways::Found;
+pub use ways::lookup;
+pub use ways::victim;

@@ -1,0 +1,128 @@
+// The directory and its steps. Each step hands the changed directory back.
+ghost use mathlib.Core.Path.{_≡_};
+ghost use Prim.Native.Nat.{_<_};
+ghost use Rattle.directory.specs.Steps.{afterControl, afterFill, afterFlush, afterReset, afterSnoop, afterUse, controlCall, snoopCall};
+use crate::address::set_of;
+use crate::lru::lru_after;
+use crate::state::state_number;
+use crate::ways::Found;
+use crate::ways::lookup;
+
+// The line of a set and a way is element set * 4 + way of tags and valid. The layout is C's: a host holds one.
+#[repr(C)]
+pub struct Directory {
+    pub tags: [u32; 512],
+    pub valid: [bool; 512],
+    pub lru: [u8; 128],
+    pub cd: bool,
+    pub nw: bool,
+}
+
+// What a call answers: 0 where it was done, the number where it was refused, and the directory.
+#[repr(C)]
+pub struct Answer {
+    pub directory: Directory,
+    pub number: u32,
+}
+
+impl Directory {
+    pub fn reset() -> Self
+        ensures { λ r. ⌜ r ≡ afterReset ⌝ }
+    {
+        let tags = [0u32; 512];
+        let valid = [false; 512];
+        let lru = [0u8; 128];
+        Directory {
+            tags,
+            valid,
+            lru,
+            cd: true,
+            nw: true,
+        }
+    }
+
+    // A use of a way. Callers have the set of an address and a way that was found or chosen.
+    pub fn used(mut self, set: usize, way: usize) -> Self
+        requires { ⌜ (set < 128) × (way < 4) ⌝ }
+        ensures { λ r. ⌜ r ≡ afterUse self set way ⌝ }
+    {
+        let old = self.lru[set];
+        self.lru[set] = lru_after(old, way);
+        self
+    }
+
+    // A kept fill of a way, which is a use of it.
+    pub fn filled(mut self, set: usize, way: usize, tag: u32) -> Self
+        requires { ⌜ (set < 128) × (way < 4) ⌝ }
+        ensures { λ r. ⌜ r ≡ afterFill self set way tag ⌝ }
+    {
+        let line = set * 4 + way;
+        self.tags[line] = tag;
+        self.valid[line] = true;
+        self.used(set, way)
+    }
+
+    pub fn with_control(mut self, cd: bool, nw: bool) -> Self
+        ensures { λ r. ⌜ r ≡ afterControl self cd nw ⌝ }
+    {
+        self.cd = cd;
+        self.nw = nw;
+        self
+    }
+
+    pub fn flushed(mut self) -> Self
+        ensures { λ r. ⌜ r ≡ afterFlush self ⌝ }
+    {
+        self.valid = [false; 512];
+        self
+    }
+
+    pub fn snooped(mut self, address: u32) -> Self
+        ensures { λ r. ⌜ r ≡ afterSnoop self address ⌝ }
+    {
+        if self.nw {
+            return self;
+        }
+        let Found::At(way) = lookup(&self.tags, &self.valid, address) else {
+            return self;
+        };
+        let line = set_of(address) * 4 + way;
+        self.valid[line] = false;
+        self
+    }
+
+    // The control call: 9 for CD = 0 with NW = 1.
+    pub fn control(self, cd: bool, nw: bool) -> Answer
+        ensures { λ r. ⌜ r ≡ controlCall self cd nw ⌝ }
+    {
+        if !cd & nw {
+            return Answer {
+                directory: self,
+                number: 9,
+            };
+        }
+        let directory = self.with_control(cd, nw);
+        Answer {
+            directory,
+            number: 0,
+        }
+    }
+
+    // The snoop call: the state of the address's set is checked first, whatever NW is.
+    pub fn snoop(self, address: u32) -> Answer
+        ensures { λ r. ⌜ r ≡ snoopCall self address ⌝ }
+    {
+        let number = state_number(&self.tags, &self.valid, &self.lru, set_of(address));
+        if number != 0 {
+            return Answer {
+                directory: self,
+                number,
+            };
+        }
+        let directory = self.snooped(address);
+        Answer {
+            directory,
+            number: 0,
+        }
+    }
+}

@@ -1,0 +1,1 @@
+"""The checks that the self-test runs."""

@@ -1,0 +1,110 @@
+"""A unit on the bench: its calls with the usual arguments, and how a result is checked."""
+
+from collections import Counter
+from collections.abc import Sequence
+from typing import Any
+
+from unit486_model import access, memory
+from unit486_model import directory as steps
+from unit486_model.access import Part, Result
+from unit486_model.bus import ANSWERS, DOUBLEWORDS, GROUP, KEN, LOG_WORDS
+from unit486_model.directory import place_of
+from unit486_model.events import Unit
+from unit486_model.refusal import DATA_BYTES
+
+RAM_BYTES = 0x4000
+KEPT = [KEN] * ANSWERS
+NO_KEN = [0] * ANSWERS
+
+
+class Mismatch(Exception):
+    """A result of the model that is not the papers'."""
+
+
+done = Counter[str]()
+
+
+def check(what: str, got: Any, expected: Any) -> None:
+    done["checks"] += 1
+    if got != expected:
+        raise Mismatch(f"{what}: got {got!r}, expected {expected!r}")
+
+
+def unit_of(ram_bytes: int = RAM_BYTES, cd: bool = False, nw: bool = False) -> Unit:
+    """A unit after reset, with CD and NW set directly and parity that agrees."""
+    ram = bytearray((7 * address + 3) % 251 for address in range(ram_bytes))
+    directory = steps.reset()
+    directory.cd, directory.nw = cd, nw
+    return Unit(directory, ram, memory.parity_for(ram), bytearray(DATA_BYTES))
+
+
+def read(
+    unit: Unit,
+    address: int,
+    width: int,
+    answers: Sequence[int] = tuple(KEPT),
+    pcd: bool = False,
+    log: list[int] | None = None,
+) -> Result:
+    log = [0] * LOG_WORDS if log is None else log
+    lent = (unit.directory, unit.ram, unit.parity, unit.data)
+    return access.read(*lent, address, width, pcd, answers, log)
+
+
+def write(
+    unit: Unit,
+    address: int,
+    width: int,
+    value: int,
+    answers: Sequence[int] = tuple(KEPT),
+    log: list[int] | None = None,
+) -> Result:
+    log = [0] * LOG_WORDS if log is None else log
+    lent = (unit.directory, unit.ram, unit.parity, unit.data)
+    return access.write(*lent, address, width, value, answers, log)
+
+
+def external(unit: Unit, address: int, data: bytes) -> Result:
+    return access.external_write(unit.directory, unit.ram, unit.parity, address, data)
+
+
+def view(unit: Unit, address: int) -> tuple[int, Part]:
+    lent = (unit.directory, unit.ram, unit.data)
+    return access.view_number(*lent, address), access.line_view(*lent, address)
+
+
+def plant(unit: Unit, set_index: int, way: int, tag: int) -> None:
+    unit.directory.tags[place_of(set_index, way)] = tag
+    unit.directory.valid[place_of(set_index, way)] = True
+
+
+def snapshot(unit: Unit) -> tuple[Any, ...]:
+    """A copy of all that a unit is lent, to compare with later."""
+    lines = unit.directory
+    kept = (list(lines.tags), list(lines.valid), list(lines.lru), lines.cd, lines.nw)
+    return (*kept, bytes(unit.ram), bytes(unit.parity), bytes(unit.data))
+
+
+def ram_number(length: int) -> int:
+    """The number of a read where RAM has this length, all else being right."""
+    unit = Unit(steps.reset(), bytearray(length), bytearray(length // 4), bytearray(DATA_BYTES))
+    return read(unit, 0, 4).number
+
+
+def flags(result: Result) -> list[int]:
+    return [record.flags for record in result.records]
+
+
+def marks(result: Result) -> list[tuple[int, int]]:
+    return [(record.address, record.flags) for record in result.records]
+
+
+def held(unit: Unit, address: int) -> int | None:
+    return steps.find(unit.directory, address)
+
+
+def answers_of(*given: Sequence[int]) -> list[int]:
+    """Groups of answers, the last of each repeated, missing groups 0."""
+    filled = [list(group) + [group[-1]] * (GROUP - len(group)) for group in given]
+    filled += [[0] * GROUP] * (DOUBLEWORDS - len(filled))
+    return [answer for group in filled for answer in group]

@@ -1,0 +1,224 @@
+"""Random lists of calls against the plain memory, and random calls that are refused."""
+
+import random
+from collections import Counter
+
+from unit486_model import access, memory
+from unit486_model import directory as steps
+from unit486_model.access import Result
+from unit486_model.bus import ANSWERS, KEN, LOG_WORDS, WIDTHS
+from unit486_model.directory import LINE_BYTES, Directory
+from unit486_model.events import Unit
+from unit486_model.plain import PlainMemory
+from unit486_model.refusal import DATA_BYTES
+
+from .bench import Mismatch, check, external, read, snapshot, unit_of, view, write
+
+# One line, two, two lines of one set; and twice six lines of one set, to have victims.
+RAM_SIZES = (16, 32, 2064, 10256, 10256)
+LISTS = 400
+CALLS = 80
+BAD_WIDTHS = (0, 3, 5, 8, 4294967295)
+
+
+def lines_of(directory: Directory) -> list[tuple[bool, int]]:
+    return list(zip(directory.valid, directory.tags))
+
+
+def replaced(before: list[tuple[bool, int]], after: list[tuple[bool, int]]) -> bool:
+    """Whether a valid line gave way to another."""
+    return before != after and any(old[0] and old != new for old, new in zip(before, after))
+
+
+class RandomList:
+    """A list of random calls from reset, each compared with the plain memory."""
+
+    def __init__(self, seed: int) -> None:
+        self.random = random.Random(seed)
+        ram = bytearray(self.random.randbytes(self.random.choice(RAM_SIZES)))
+        parity = memory.parity_for(ram)
+        for place in range(len(parity)):
+            parity[place] |= self.random.randrange(16) << 4
+        data = bytearray(self.random.randbytes(DATA_BYTES))
+        self.unit = Unit(steps.reset(), ram, parity, data)
+        self.plain = PlainMemory(bytearray(ram))
+        self.hostile = self.random.choice((0.0, 0.0, 0.05, 0.3))
+        self.seen: Counter[str] = Counter()
+
+    def odd(self) -> bool:
+        return self.random.random() < self.hostile
+
+    def address(self) -> int:
+        """Mostly in RAM, often in a few lines of one set, sometimes anywhere."""
+        length = len(self.unit.ram)
+        if self.odd():
+            return self.random.choice((length - 1, length, 4294967295, self.random.getrandbits(32)))
+        if self.random.random() < 0.7:
+            return (2048 * self.random.randrange(8) + self.random.randrange(-4, 20)) % length
+        return self.random.randrange(length)
+
+    def width(self) -> int:
+        return self.random.choice(BAD_WIDTHS if self.odd() else WIDTHS)
+
+    def answers(self) -> list[int]:
+        """Often such that fills are kept, else anything."""
+        chance = self.random.random()
+        if self.odd():
+            count = self.random.choice((0, ANSWERS - 1, ANSWERS, ANSWERS + 1))
+            return [self.random.randrange(256) for _ in range(count)]
+        if chance < 0.4:
+            return [KEN] * ANSWERS
+        ken = KEN if chance < 0.7 else 0
+        return [self.random.randrange(8) | ken for _ in range(ANSWERS)]
+
+    def log(self) -> list[int]:
+        extra = self.random.choice((-LOG_WORDS, -1)) if self.odd() else self.random.randrange(3)
+        return [self.random.getrandbits(32) for _ in range(LOG_WORDS + extra)]
+
+    def run(self) -> None:
+        # In some lists reads prevail, so that sets become full and lines are replaced.
+        reads, rarity = self.random.choice(((3, 0.1), (30, 0.02)))
+        calls = (*[self.read] * reads, self.write, self.external, self.view)
+        rare = (self.snoop, self.flush, self.control, self.reset)
+        self.control()
+        for _ in range(CALLS):
+            self.random.choice(rare if self.random.random() < rarity else calls)()
+            check("RAM", self.unit.ram, self.plain.bytes_held)
+        check("parity agrees", memory.parity_agrees(self.unit.ram, self.unit.parity), True)
+
+    def compared(self, call: str, number: int, expected: int) -> None:
+        self.seen[f"{call} refused" if number else call] += 1
+        check(f"number of {call}", number, expected)
+
+    def logged(self, result: Result, log: list[int], before: list[int]) -> None:
+        words = [word for record in result.records for word in record]
+        check("count", len(result.records), result.cycles)
+        check("log", log, words + before[len(words) :])
+        check("128", any(record.flags & 128 for record in result.records), False)
+
+    def read(self) -> None:
+        address, width, pcd = self.address(), self.width(), self.random.random() < 0.1
+        answers, log = self.answers(), self.log()
+        before, lines = list(log), lines_of(self.unit.directory)
+        result = read(self.unit, address, width, answers, pcd, log)
+        number, value = self.plain.read(address, width, pcd, answers, len(log))
+        self.compared("read", result.number, number)
+        check("value", result.value, value)
+        self.logged(result, log, before)
+        self.seen["hit"] += not result.number and not result.cycles
+        self.seen["replaced"] += replaced(lines, lines_of(self.unit.directory))
+
+    def write(self) -> None:
+        address, width = self.address(), self.width()
+        bits = self.random.choice((8, 16, 32)) if self.odd() else min(8 * width, 32)
+        value, answers, log = self.random.getrandbits(bits), self.answers(), self.log()
+        before = list(log)
+        result = write(self.unit, address, width, value, answers, log)
+        number = self.plain.write(address, width, value, answers, len(log))
+        self.compared("write", result.number, number)
+        self.logged(result, log, before)
+
+    def external(self) -> None:
+        address = self.address()
+        room = LINE_BYTES - address % LINE_BYTES
+        count = self.random.randrange(20) if self.odd() else self.random.randint(1, room)
+        data = self.random.randbytes(count)
+        number = external(self.unit, address, data).number
+        self.compared("external", number, self.plain.external_write(address, data))
+
+    def view(self) -> None:
+        address = self.address()
+        number, part = view(self.unit, address)
+        expected, sixteen = self.plain.view(address)
+        self.compared("view", number, expected)
+        check("view", access.part_bytes(part, self.unit.ram, self.unit.data), sixteen)
+
+    def snoop(self) -> None:
+        address = self.address()
+        number = access.snoop(self.unit.directory, address).number
+        self.compared("snoop", number, self.plain.snoop(address))
+
+    def flush(self) -> None:
+        self.compared("flush", access.flush(self.unit.directory).number, self.plain.flush())
+
+    def control(self) -> None:
+        """Never the pair 1, 1: with NW = 1 a held line may come to differ from RAM."""
+        cd, nw = self.random.choice(((False, False), (False, False), (True, False), (False, True)))
+        number = access.control(self.unit.directory, cd, nw).number
+        self.compared("control", number, self.plain.control(cd, nw))
+
+    def reset(self) -> None:
+        result, self.unit.directory = access.reset()
+        self.compared("reset", result.number, self.plain.reset())
+        self.control()
+
+
+def random_lists() -> None:
+    """Each list agrees with the plain memory, and the lists meet what they are meant to."""
+    seen: Counter[str] = Counter()
+    for seed in range(LISTS):
+        tried = RandomList(seed)
+        try:
+            tried.run()
+        except Mismatch as mismatch:
+            raise Mismatch(f"list {seed}: {mismatch}") from None
+        seen += tried.seen
+    for kind in ("read", "write", "external", "view", "snoop", "flush", "control", "reset"):
+        check(f"{kind} met", seen[kind] > 50, True)
+    for kind in ("read refused", "write refused", "external refused", "view refused"):
+        check(f"{kind} met", seen[kind] > 50, True)
+    for kind in ("control refused", "hit", "replaced"):
+        check(f"{kind} met", seen[kind] > 50, True)
+
+
+def ill_formed_directory(source: random.Random) -> Directory:
+    """A directory in which the few sets of a small RAM are often ill-formed."""
+    directory = steps.reset()
+    directory.cd, directory.nw = source.random() < 0.5, source.random() < 0.5
+    for place in range(8):
+        directory.tags[place] = source.choice((0, 1, 2, 3, 4, 5, 2097151, 2097152))
+        directory.valid[place] = source.random() < 0.5
+    directory.lru[:2] = [source.choice((0, 3, 7, 8, 255)) for _ in range(2)]
+    return directory
+
+
+def refused_calls() -> None:
+    """Whatever is lent, a refused call leaves all of it as it was."""
+    source = random.Random(486)
+    met: Counter[int] = Counter()
+    for _ in range(4000):
+        unit = unit_of(source.choice((16, 16, 32, 2064)))
+        if source.random() < 0.1:
+            unit.ram.pop()
+        unit.directory = ill_formed_directory(source)
+        if source.random() < 0.1:
+            unit.parity.append(0)
+        if source.random() < 0.1:
+            unit.data.pop()
+        log = [7] * source.choice((LOG_WORDS - 1, LOG_WORDS, LOG_WORDS))
+        before, log_before = snapshot(unit), list(log)
+        number = _any_call(source, unit, log)
+        met[number] += 1
+        if number:
+            check(f"untouched after {number}", snapshot(unit), before)
+            check("log untouched", log, log_before)
+    expected = {0, 1, 2, 3, 4, 5, 6, 7, 8, 9, 10, 21, 22, 23}
+    check("numbers met", set(met), expected)
+
+
+def _any_call(source: random.Random, unit: Unit, log: list[int]) -> int:
+    address = source.choice((0, 1, 13, 14, 15, 16, 2046, 2050, 99999))
+    width = source.choice((1, 2, 4, 4, 4, 3))
+    answers = [source.randrange(8) for _ in range(ANSWERS)] + [0] * (source.random() < 0.1)
+    call = source.randrange(6)
+    if call < 2:
+        return read(unit, address, width, answers, False, log).number
+    if call == 2:
+        value = source.choice((1, 255, 256, 4294967295))
+        return write(unit, address, width, value, answers, log).number
+    if call == 3:
+        return external(unit, address, bytes(source.randrange(18))).number
+    if call == 4:
+        return access.snoop(unit.directory, address).number
+    cd, nw = source.random() < 0.5, source.random() < 0.5
+    return access.control(unit.directory, cd, nw).number

@@ -1,0 +1,43 @@
+"""The papers' tables and examples, run against the model; then random lists of calls.
+
+Prints one line per group and `ok` at the end; stops with exit 1 at the first mismatch.
+"""
+
+import sys
+from collections.abc import Callable
+
+from checks import random_lists, readings, vectors
+from checks.bench import Mismatch, done
+
+GROUPS: list[tuple[str, Callable[[], None]]] = [
+    ("LRU updates, victims, four fills", vectors.lru_table),
+    ("lowest invalid way", vectors.lowest_invalid_way),
+    ("CD and NW", vectors.modes),
+    ("sizing tables 3-10/7-1 and 3-11/7-2", vectors.sizing_tables),
+    ("flag sequences", vectors.flag_table),
+    ("sizing examples", vectors.sizing_examples),
+    ("burst order, table 3-9", vectors.burst_order),
+    ("fill vectors", vectors.fill_vectors),
+    ("bench table", vectors.bench_table),
+    ("program example", vectors.program_example),
+    ("readings of document 01", readings.readings),
+    ("random lists against the plain memory", random_lists.random_lists),
+    ("refused calls", random_lists.refused_calls),
+]
+
+
+def main() -> int:
+    for name, group in GROUPS:
+        done.clear()
+        try:
+            group()
+        except Mismatch as mismatch:
+            print(f"{name}: {mismatch}")
+            return 1
+        print(f"{name}: {done['checks']} checks")
+    print("ok")
+    return 0
+
+
+if __name__ == "__main__":
+    sys.exit(main())

@@ -1,0 +1,26 @@
+"""The board table: the answers that the board gives to an access."""
+
+from collections.abc import Sequence
+
+from .bus import DOUBLEWORDS, GROUP, WIDTHS, doublewords
+
+# "The answer by 1 MiB block 0 to 15"
+BLOCK_BYTES = 1_048_576
+TABLE = (1, 1, 1, 1, 1, 1, 1, 1, 5, 5, 5, 5, 4, 4, 2, 3)
+
+
+def block_of(address: int) -> int:
+    """Rule: "The block is (address / 1,048,576) mod 16"."""
+    return address // BLOCK_BYTES % len(TABLE)
+
+
+def answers(address: int, width: int, table: Sequence[int] = TABLE) -> list[int]:
+    """Rule: "repeated 16 times for each doubleword; an absent upper doubleword takes the lower's"
+
+    The block is that of each doubleword's own address. A width that the access will answer
+    with 4 has no doubleword but the lower.
+    """
+    touched = doublewords(address, width if width in WIDTHS else 1)
+    given = [table[block_of(doubleword.address)] for doubleword in touched]
+    given += [given[0]] * (DOUBLEWORDS - len(given))
+    return [answer for answer in given for _ in range(GROUP)]

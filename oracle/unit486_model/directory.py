@@ -1,0 +1,154 @@
+"""The directory: tags, valid marks and LRU numbers, with CD and NW.
+
+The steps here change the directory they are given and check nothing; the calls that
+answer with numbers stand in `access`.
+"""
+
+from dataclasses import dataclass
+
+WAYS = 4
+SETS = 128
+LINES = SETS * WAYS
+LINE_BYTES = 16
+TAG_LIMIT = 2_097_151
+LRU_LIMIT = 7
+
+
+@dataclass
+class Directory:
+    """Rule: "The directory holds 512 tags, 512 valid marks and 128 LRU numbers, with CD and NW."
+
+    Tags and valid marks stand at set x 4 + way, as the lines stand in the data array.
+    """
+
+    tags: list[int]
+    valid: list[bool]
+    lru: list[int]
+    cd: bool
+    nw: bool
+
+
+def tag_of(address: int) -> int:
+    """Rule: "tag = address / 2048"."""
+    return address // (SETS * LINE_BYTES)
+
+
+def set_of(address: int) -> int:
+    """Rule: "set = (address / 16) mod 128"."""
+    return address // LINE_BYTES % SETS
+
+
+def line_of(address: int) -> int:
+    """The address of the line's byte 0, where "byte = address mod 16"."""
+    return address - address % LINE_BYTES
+
+
+def sets_of(address: int, length: int) -> list[int]:
+    """The sets that `length` bytes from `address` touch, the lower address's set first."""
+    return [set_of(line) for line in range(line_of(address), address + length, LINE_BYTES)]
+
+
+def place_of(set_index: int, way: int) -> int:
+    """Rule: "A line is named by set and way 0 to 3": its place among tags and valid marks."""
+    return set_index * WAYS + way
+
+
+def data_start(set_index: int, way: int) -> int:
+    """Rule: "Its bytes stand in the lent data array from (set x 4 + way) x 16 (H)"."""
+    return place_of(set_index, way) * LINE_BYTES
+
+
+def find(directory: Directory, address: int) -> int | None:
+    """The way that holds the address's line, the lowest if several do; None for a miss."""
+    tag = tag_of(address)
+    for way in range(WAYS):
+        place = place_of(set_of(address), way)
+        if directory.valid[place] and directory.tags[place] == tag:
+            return way
+    return None
+
+
+def lru_bits(lru: int) -> tuple[int, int, int]:
+    """Rule: "An LRU number is B0 + 2.B1 + 4.B2." A number above 7 has these three bits too."""
+    return lru % 2, lru // 2 % 2, lru // 4 % 2
+
+
+def lru_after_use(lru: int, way: int) -> int:
+    """Rule: "Use of way 0 sets B0 and B1; way 1 sets B0, clears B1; way 2 clears B0, sets B2;
+    way 3 clears B0 and B2. The other bit is kept"."""
+    b0, b1, b2 = lru_bits(lru)
+    if way == 0:
+        b0, b1 = 1, 1
+    elif way == 1:
+        b0, b1 = 1, 0
+    elif way == 2:
+        b0, b2 = 0, 1
+    else:
+        b0, b2 = 0, 0
+    return b0 + 2 * b1 + 4 * b2
+
+
+def use(directory: Directory, set_index: int, way: int) -> None:
+    """Rule: "Read hits, write hits and kept fills are uses; views are not (H)"."""
+    directory.lru[set_index] = lru_after_use(directory.lru[set_index], way)
+
+
+def victim(directory: Directory, set_index: int) -> int:
+    """Rule: "The victim is the lowest invalid way (H). If all are valid: B0 = 0 takes way B1;
+    B0 = 1 takes way 2 + B2"."""
+    for way in range(WAYS):
+        if not directory.valid[place_of(set_index, way)]:
+            return way
+    b0, b1, b2 = lru_bits(directory.lru[set_index])
+    return b1 if b0 == 0 else 2 + b2
+
+
+def fill(directory: Directory, address: int) -> int:
+    """Rule: "A kept fill writes the victim's bytes, tag and valid mark", and is a use.
+
+    The way is handed back; its bytes are the access's part.
+    """
+    set_index = set_of(address)
+    way = victim(directory, set_index)
+    directory.tags[place_of(set_index, way)] = tag_of(address)
+    directory.valid[place_of(set_index, way)] = True
+    use(directory, set_index, way)
+    return way
+
+
+def reset() -> Directory:
+    """Rule: "After reset all 512 lines are invalid, tags and LRU numbers are 0, and CD = NW
+    = 1"."""
+    return Directory([0] * LINES, [False] * LINES, [0] * SETS, True, True)
+
+
+def control(directory: Directory, cd: bool, nw: bool) -> None:
+    """Rule: "An accepted control call sets CD and NW to the two it is given and changes nothing
+    else"."""
+    directory.cd, directory.nw = cd, nw
+
+
+def flush(directory: Directory) -> None:
+    """Rule: "A flush (FLUSH#, INVD and WBINVD alike) clears valid marks and nothing else (H)"."""
+    directory.valid[:] = [False] * LINES
+
+
+def snoop(directory: Directory, address: int) -> None:
+    """Rule: "A snoop invalidates the line holding its address. With NW = 1 it changes nothing"."""
+    way = find(directory, address)
+    if way is not None and not directory.nw:
+        directory.valid[place_of(set_of(address), way)] = False
+
+
+def set_state(directory: Directory, set_index: int) -> int:
+    """Rule: "21. Two valid lines with one tag. 22. A valid tag above 2,097,151. 23. LRU number
+    above 7." 0 for a set with nothing wrong."""
+    places = [place_of(set_index, way) for way in range(WAYS)]
+    tags = [directory.tags[place] for place in places if directory.valid[place]]
+    if len(set(tags)) < len(tags):
+        return 21
+    if any(tag > TAG_LIMIT for tag in tags):
+        return 22
+    if directory.lru[set_index] > LRU_LIMIT:
+        return 23
+    return 0

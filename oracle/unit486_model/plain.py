@@ -1,0 +1,68 @@
+"""The plain memory, which has no cache: what a list of calls is compared with.
+
+"It is fed the calls' arguments except directory, RAM, parity and data array." Of the log it
+needs the length only. "a call meeting 4 to 10 does nothing and answers that number. Any
+other call answers 0."
+"""
+
+from collections.abc import Sequence
+from dataclasses import dataclass
+
+from . import refusal
+from .directory import LINE_BYTES, line_of
+
+
+@dataclass
+class PlainMemory:
+    """Rule: "The plain memory is a list of bytes, at first RAM's"."""
+
+    bytes_held: bytearray
+
+    def read(
+        self, address: int, width: int, pcd: bool, answers: Sequence[int], log: int
+    ) -> tuple[int, int]:
+        """Rule: "a read gives its bytes", taken little-endian; number and value."""
+        number = refusal.access(len(self.bytes_held), address, width, answers, log)
+        if number:
+            return number, 0
+        return 0, int.from_bytes(self.bytes_held[address : address + width], "little")
+
+    def write(
+        self, address: int, width: int, value: int, answers: Sequence[int], log: int
+    ) -> int:
+        """Rule: "A write ... replaces its bytes"."""
+        number = refusal.access(len(self.bytes_held), address, width, answers, log, value)
+        if not number:
+            self.bytes_held[address : address + width] = value.to_bytes(width, "little")
+        return number
+
+    def external_write(self, address: int, data: bytes) -> int:
+        """Rule: "A write or external write replaces its bytes"."""
+        number = refusal.external(len(self.bytes_held), address, len(data))
+        if not number:
+            self.bytes_held[address : address + len(data)] = data
+        return number
+
+    def view(self, address: int) -> tuple[int, bytes]:
+        """Rule: "a view gives its sixteen"."""
+        number = refusal.view(len(self.bytes_held), address)
+        if number:
+            return number, b""
+        start = line_of(address)
+        return 0, bytes(self.bytes_held[start : start + LINE_BYTES])
+
+    def control(self, cd: bool, nw: bool) -> int:
+        """Rule: "snoop, flush, control and reset do nothing"."""
+        return refusal.control(cd, nw)
+
+    def snoop(self, address: int) -> int:
+        """Rule: "snoop, flush, control and reset do nothing"."""
+        return 0
+
+    def flush(self) -> int:
+        """Rule: "snoop, flush, control and reset do nothing"."""
+        return 0
+
+    def reset(self) -> int:
+        """Rule: "snoop, flush, control and reset do nothing"."""
+        return 0

@@ -1,0 +1,79 @@
+"""Turned away: the numbers of the input, then those of the state.
+
+Each function gives the lowest number met, or 0. A call joins those for the things it
+receives with `or`, which keeps "Lowest number first, this list before the next".
+"""
+
+from collections.abc import Sequence
+
+from .bus import ANSWER_LIMIT, ANSWERS, LOG_WORDS, WIDTHS
+from .directory import LINE_BYTES, LINES, Directory, set_state
+from .memory import RAM_LEAST, RAM_MOST, RAM_STEP, parity_length
+
+DATA_BYTES = LINES * LINE_BYTES
+
+
+def ram_length(ram: int) -> int:
+    """Rule: "1. RAM length": "16 to 16,777,216 bytes, a multiple of 16"."""
+    return 0 if RAM_LEAST <= ram <= RAM_MOST and ram % RAM_STEP == 0 else 1
+
+
+def parity_array(ram: int, parity: int) -> int:
+    """Rule: "2. Parity length is not RAM / 4"."""
+    return 0 if parity == parity_length(ram) else 2
+
+
+def data_array(data: int) -> int:
+    """Rule: "3. Data array is not 8,192 bytes"."""
+    return 0 if data == DATA_BYTES else 3
+
+
+def access(
+    ram: int,
+    address: int,
+    width: int,
+    answers: Sequence[int],
+    log: int,
+    value: int | None = None,
+) -> int:
+    """Numbers 4 to 7 of a read, 4 to 8 of a write, which brings a value."""
+    if width not in WIDTHS:
+        return 4  # "Width not 1, 2, 4."
+    if address + width > ram:
+        return 5  # "Address + width beyond RAM"; the sum does not wrap.
+    if len(answers) != ANSWERS or max(answers) > ANSWER_LIMIT:
+        return 6  # "Not 32 answers, or one above 7", the unused ones too.
+    if log < LOG_WORDS:
+        return 7  # "Log below 96 words", also where no cycle will be made.
+    if value is not None and value >= 256**width:
+        return 8  # "Value too large for its width."
+    return 0
+
+
+def view(ram: int, address: int) -> int:
+    """Rule: "5. ... (view: address not in RAM)"."""
+    return 0 if address < ram else 5
+
+
+def control(cd: bool, nw: bool) -> int:
+    """Rule: "9. A control call with CD = 0 and NW = 1"."""
+    return 9 if nw and not cd else 0
+
+
+def external(ram: int, address: int, count: int) -> int:
+    """Rule: "10. External write empty, over 16 bytes, across lines or beyond RAM"."""
+    if count == 0 or count > LINE_BYTES:
+        return 10
+    if address % LINE_BYTES + count > LINE_BYTES:
+        return 10
+    return 10 if address + count > ram else 0
+
+
+def state(directory: Directory, sets: list[int]) -> int:
+    """Rule: "Checked in every touched set, the lower address's set first ... All of one set comes
+    before the next set"."""
+    for set_index in sets:
+        number = set_state(directory, set_index)
+        if number:
+            return number
+    return 0
