@@ -1,0 +1,118 @@
+-- Reads and writes: their doublewords one after the other, and what the whole call leaves.
+use Prim.Native.Nat.{ℕ, _+_, _*_}
+use mathlib.Core.Bool.{Bool, cond, not, _&&_}
+use mathlib.Core.List.{List, [], _∷_, _++_}
+use lib.Dec.{eqb}
+use lib.ListN.{length}
+use Rattle.directory.specs.declared.steps.Directory.{Directory}
+use Rattle.directory.specs.Address.{setOf}
+use Rattle.directory.specs.Steps.{lookupOf, victimOf}
+use Rattle.access.specs.declared.outcome.Outcome.{Outcome}
+use Rattle.bus.specs.Bytes.{valueOf, bytesOf}
+use Rattle.bus.specs.Parity.{Memory}
+use Rattle.bus.specs.Record.{Record, logged}
+use Rattle.access.specs.Doubleword.{Doubleword, doublewordsOf, changed, Done, readDone, writeDone}
+use Rattle.access.specs.Groups.{groups}
+use Rattle.access.specs.Refusal.{orElse, lentNumber, argumentNumber, valueNumber, statesOf}
+
+-- What a call is lent and changes: directory, RAM with its parity, data array.
+pub record State : Type 0 where
+  pub directory : Directory
+  pub memory : Memory
+  pub array : List ℕ
+
+abbrev pub state : Directory → Memory → List ℕ → State
+state d m array = record { directory = d; memory = m; array = array }
+
+-- What doublewords did so far: the state, the bytes read, the records.
+pub record Progress : Type 0 where
+  pub state : State
+  pub bytes : List ℕ
+  pub records : List Record
+
+abbrev pub progress : State → List ℕ → List Record → Progress
+progress s bytes records = record { state = s; bytes = bytes; records = records }
+
+-- A doubleword by the directory as it is then: "the lower one completed first (H)".
+unfoldable pub readOne : Bool → State → Doubleword → Done
+readOne pcd s w =
+    readDone (lookupOf (s .directory) (w .line)) (victimOf (s .directory) (setOf (w .line)))
+    (not (s .directory .cd) && not pcd)
+    (s .memory)
+    (s .array)
+    w
+
+unfoldable pub writeOne : List ℕ → State → Doubleword → Done
+writeOne operand s w =
+    writeDone (lookupOf (s .directory) (w .line)) (s .directory .cd && s .directory .nw) (s .memory) (s .array) operand w
+
+abbrev pub next : State → Doubleword → Done → State
+next s w done = state (changed (s .directory) (w .line) (done .change)) (done .memory) (done .array)
+
+-- All doublewords of an access, each by the same rule.
+unfoldable pub allOf : (State → Doubleword → Done) → State → List Doubleword → Progress
+allOf one s [] = progress s [] []
+allOf one s (w ∷ ws) =
+    let here = one s w in
+    let rest = allOf one (next s w here) ws in
+    progress (rest .state) (here .bytes ++ rest .bytes) (here .records ++ rest .records)
+
+-- What a call leaves: its answer with the directory, and every lent buffer.
+pub record After : Type 0 where
+  pub outcome : Outcome
+  pub memory : Memory
+  pub array : List ℕ
+  pub log : List ℕ
+
+abbrev pub after : Outcome → Memory → List ℕ → List ℕ → After
+after o m array log = record { outcome = o; memory = m; array = array; log = log }
+
+-- "The result is number, value (0 except from a read), cycle count (0 except from reads and writes)."
+abbrev pub outcome : Directory → ℕ → ℕ → ℕ → Outcome
+outcome d number value cycles =
+    record { directory = d; number = number; value = value; cycles = cycles }
+
+-- "Number, value 0, count 0; nothing lent changes; the directory comes back as given."
+abbrev pub refused : ℕ → State → List ℕ → After
+refused number s log = after (outcome (s .directory) number 0 0) (s .memory) (s .array) log
+
+abbrev pub accepted : ℕ → Progress → List ℕ → After
+accepted value p log =
+    after (outcome (p .state .directory) 0 value (length (p .records))) (p .state .memory) (p .state .array)
+    (logged log 0 (p .records))
+
+-- The number of a read and of a write: the input's first, then the state's.
+unfoldable pub readNumber : State → ℕ → ℕ → List ℕ → List ℕ → ℕ
+readNumber s address width answers log =
+    orElse (lentNumber (length (s .memory .ram)) (length (s .memory .parity)) (length (s .array)))
+    (orElse (argumentNumber (length (s .memory .ram)) address width answers (length log))
+    (statesOf (s .directory) address width))
+
+unfoldable pub writeNumber : State → ℕ → ℕ → ℕ → List ℕ → List ℕ → ℕ
+writeNumber s address width value answers log =
+    orElse (lentNumber (length (s .memory .ram)) (length (s .memory .parity)) (length (s .array)))
+    (orElse (argumentNumber (length (s .memory .ram)) address width answers (length log))
+    (orElse (valueNumber width value) (statesOf (s .directory) address width)))
+
+-- An accepted read and an accepted write.
+unfoldable pub readAll : State → ℕ → ℕ → Bool → List ℕ → Progress
+readAll s address width pcd answers = allOf (readOne pcd) s (doublewordsOf groups answers address width 0)
+
+-- "little-endian": the four bytes of a value, of which a write moves as many as its width.
+abbrev pub operandOf : ℕ → List ℕ
+operandOf value = bytesOf 4 value
+
+unfoldable pub writeAll : State → ℕ → ℕ → ℕ → List ℕ → Progress
+writeAll s address width value answers = allOf (writeOne (operandOf value)) s (doublewordsOf groups answers address width 0)
+
+-- The read call and the write call.
+unfoldable pub readCall : State → ℕ → ℕ → Bool → List ℕ → List ℕ → After
+readCall s address width pcd answers log =
+    let number = readNumber s address width answers log in
+    let done = readAll s address width pcd answers in
+    cond (eqb number 0) (accepted (valueOf (done .bytes)) done log) (refused number s log)
+
+unfoldable pub writeCall : State → ℕ → ℕ → ℕ → List ℕ → List ℕ → After
+writeCall s address width value answers log =
+    let number = writeNumber s address width value answers log in
+    cond (eqb number 0) (accepted 0 (writeAll s address width value answers) log) (refused number s log)

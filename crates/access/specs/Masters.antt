@@ -1,0 +1,50 @@
+-- Document 01, 'Other masters' and the calls on the directory alone.
+use Prim.Native.Nat.{ℕ}
+use mathlib.Core.Bool.{Bool, cond}
+use mathlib.Core.List.{List}
+use lib.Dec.{eqb}
+use lib.ListN.{length}
+use Rattle.directory.specs.declared.steps.Directory.{Directory}
+use Rattle.directory.specs.declared.steps.Answer.{Answer}
+use Rattle.directory.specs.Steps.{afterSnoop, afterReset, afterFlush, snoopCall, controlCall}
+use Rattle.access.specs.declared.outcome.Outcome.{Outcome}
+use Rattle.bus.specs.Parity.{Memory, stored}
+use Rattle.access.specs.Refusal.{orElse, memoryNumber, externalNumber, statesOf}
+use Rattle.access.specs.Access.{outcome}
+
+-- What an external write leaves: its answer with the directory, and memory.
+pub record Written : Type 0 where
+  pub outcome : Outcome
+  pub memory : Memory
+
+abbrev pub written : Outcome → Memory → Written
+written o m = record { outcome = o; memory = m }
+
+unfoldable pub masterNumber : Directory → Memory → ℕ → List ℕ → ℕ
+masterNumber d m address bytes =
+    orElse (memoryNumber (length (m .ram)) (length (m .parity)))
+    (orElse (externalNumber (length (m .ram)) address (length bytes)) (statesOf d address (length bytes)))
+
+-- "An external write puts 1 to 16 bytes of one line into RAM, sets their parity, then snoops. It leaves no record."
+unfoldable pub externalCall : Directory → Memory → ℕ → List ℕ → Written
+externalCall d m address bytes =
+    let number = masterNumber d m address bytes in
+    cond (eqb number 0)
+    (written (outcome (afterSnoop d address) 0 0 0) (stored m address bytes))
+    (written (outcome d number 0 0) m)
+
+-- The calls on the directory alone: value 0, count 0.
+abbrev pub answered : Answer → Outcome
+answered a = outcome (a .directory) (a .number) 0 0
+
+abbrev pub snoopOutcome : Directory → ℕ → Outcome
+snoopOutcome d address = answered (snoopCall d address)
+
+abbrev pub controlOutcome : Directory → Bool → Bool → Outcome
+controlOutcome d cd nw = answered (controlCall d cd nw)
+
+abbrev pub flushOutcome : Directory → Outcome
+flushOutcome d = outcome (afterFlush d) 0 0 0
+
+abbrev pub resetOutcome : Outcome
+resetOutcome = outcome afterReset 0 0 0

@@ -1,0 +1,65 @@
+-- Document 01, 'Turned away because of the input' and '.. of the state': the number of each call, 0 where it is accepted.
+use Prim.Native.Nat.{ℕ, _+_, _*_, _-_, _/_, _%_, _^_}
+use mathlib.Core.Bool.{Bool, true, false, cond, not, _&&_, _||_}
+use mathlib.Core.List.{List, [], _∷_}
+use lib.Dec.{eqb, ltb}
+use lib.ListN.{length}
+use Rattle.directory.specs.declared.steps.Directory.{Directory}
+use Rattle.directory.specs.Address.{setOf}
+use Rattle.directory.specs.State.{stateIn}
+use Rattle.directory.specs.Steps.{stateOf}
+use Rattle.access.specs.Groups.{group, groups}
+
+-- A number where a test holds; and "Lowest number first": the first of two that is met.
+abbrev pub when : Bool → ℕ → ℕ
+when bad number = cond bad number 0
+
+abbrev pub orElse : ℕ → ℕ → ℕ
+orElse number next = cond (eqb number 0) next number
+
+-- "RAM has 16 to 16,777,216 bytes, a multiple of 16."
+abbrev pub badRam : ℕ → Bool
+badRam ram = ltb ram 16 || ltb 16777216 ram || not (eqb (ram % 16) 0)
+
+-- "1. RAM length. 2. Parity length is not RAM / 4. 3. Data array is not 8,192 bytes.": of the lengths of what is lent.
+unfoldable pub memoryNumber : ℕ → ℕ → ℕ
+memoryNumber ram parity = orElse (when (badRam ram) 1) (when (not (eqb parity (ram / 4))) 2)
+
+unfoldable pub lentNumber : ℕ → ℕ → ℕ → ℕ
+lentNumber ram parity array = orElse (memoryNumber ram parity) (when (not (eqb array 8192)) 3)
+
+-- "4. Width not 1, 2, 4. 5. Address + width beyond RAM"
+abbrev pub badWidth : ℕ → Bool
+badWidth width = not (eqb width 1) && not (eqb width 2) && not (eqb width 4)
+
+-- "6. Not 32 answers, or one above 7."
+unfoldable pub anyAbove : ℕ → List ℕ → Bool
+anyAbove limit [] = false
+anyAbove limit (x ∷ xs) = ltb limit x || anyAbove limit xs
+
+abbrev pub badAnswers : List ℕ → Bool
+badAnswers answers = not (eqb (length answers) (group * groups)) || anyAbove 7 answers
+
+-- 4 to 7, of a read's or a write's own arguments; "7. Log below 96 words.": three words for each answer.
+unfoldable pub argumentNumber : ℕ → ℕ → ℕ → List ℕ → ℕ → ℕ
+argumentNumber ram address width answers log =
+    orElse (when (badWidth width) 4)
+    (orElse (when (ltb ram (address + width)) 5)
+    (orElse (when (badAnswers answers) 6) (when (ltb log (3 * (group * groups))) 7)))
+
+-- "8. Value too large for its width."
+unfoldable pub valueNumber : ℕ → ℕ → ℕ
+valueNumber width value = when (not (ltb value (256 ^ width))) 8
+
+-- "10. External write empty, over 16 bytes, across lines or beyond RAM.", of its number of bytes.
+unfoldable pub externalNumber : ℕ → ℕ → ℕ → ℕ
+externalNumber ram address n =
+    when (eqb n 0 || ltb 16 n || ltb 16 (address % 16 + n) || ltb ram (address + n)) 10
+
+-- "Checked in every touched set, the lower address's set first": of the first and the last byte of an access. "All of one set comes before the next set."
+unfoldable pub statesIn : List ℕ → List Bool → List ℕ → ℕ → ℕ → ℕ
+statesIn tags valid lru address n =
+    orElse (stateIn tags valid lru (setOf address)) (stateIn tags valid lru (setOf (address + n - 1)))
+
+abbrev pub statesOf : Directory → ℕ → ℕ → ℕ
+statesOf d address n = statesIn (d .tags) (d .valid) (d .lru) address n

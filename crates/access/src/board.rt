@@ -1,0 +1,42 @@
+// The board's answers for an access.
+ghost use mathlib.Core.Path.{_≡_};
+ghost use Prim.Native.Nat.{_+_};
+ghost use Rattle.access.specs.Board.{answerAt, boardAnswers, upperAddress};
+use crate::refusal::bad_width;
+
+// The answer of each 1 MiB block.
+const BLOCK_ANSWERS: [u8; 16] = [1, 1, 1, 1, 1, 1, 1, 1, 5, 5, 5, 5, 4, 4, 2, 3];
+
+fn answer_at(address: usize) -> u8
+    ensures { λ r. ⌜ r ≡ answerAt address ⌝ }
+{
+    BLOCK_ANSWERS[address / 1048576 % 16]
+}
+
+// The address of the upper doubleword, or of the access itself where there is none.
+fn upper_address(address: u32, width: u32) -> usize
+    ensures { λ r. ⌜ r ≡ upperAddress address width ⌝ }
+{
+    let start = address as usize;
+    if bad_width(width) {
+        return start;
+    }
+    if 4 < start % 4 + width as usize {
+        return start + 4;
+    }
+    start
+}
+
+pub fn board_answers(address: u32, width: u32) -> [u8; 32]
+    ensures { λ r. ⌜ r ≡ boardAnswers address width ⌝ }
+{
+    let lower = answer_at(address as usize);
+    let upper = answer_at(upper_address(address, width));
+    let mut answers = [lower; 32];
+    let mut k: usize = 16;
+    while k < 32 {
+        answers[k] = upper;
+        k += 1;
+    }
+    answers
+}

@@ -1,0 +1,104 @@
+// Other masters' writes and snoops, and the calls on the directory alone.
+ghost use mathlib.Core.Path.{_≡_};
+ghost use lib.ListN.{length};
+ghost use Rattle.bus.specs.Parity.{memory};
+ghost use Rattle.access.specs.Masters.{controlOutcome, externalCall, flushOutcome, masterNumber, resetOutcome, snoopOutcome, written};
+use crate::outcome::Outcome;
+use crate::refusal::external_number;
+use crate::refusal::memory_number;
+use crate::refusal::or_else;
+use crate::refusal::states_number;
+use bus::store_bytes;
+use directory::Directory;
+
+pub fn external_write(
+    given: Directory,
+    ram: &mut [u8],
+    parity: &mut [u8],
+    address: u32,
+    bytes: &[u8],
+) -> Outcome
+    ensures { λ r. ⌜ written r (memory (now (ram .exit)) (now (parity .exit)))
+        ≡ externalCall given (memory (now (ram .entry)) (now (parity .entry))) address (now (bytes .entry)) ⌝ }
+{
+    let count = bytes.len();
+    let number = or_else(
+        memory_number(ram.len(), parity.len()),
+        external_number(ram.len(), address, count),
+    );
+    if number != 0 {
+        return Outcome {
+            directory: given,
+            number,
+            value: 0,
+            cycles: 0,
+        };
+    }
+    let bad = states_number(&given.tags, &given.valid, &given.lru, address, count as u32);
+    if bad != 0 {
+        return Outcome {
+            directory: given,
+            number: bad,
+            value: 0,
+            cycles: 0,
+        };
+    }
+    store_bytes(bytes, 0, ram, parity, address as usize, count);
+    let directory = given.snooped(address);
+    Outcome {
+        directory,
+        number: 0,
+        value: 0,
+        cycles: 0,
+    }
+}
+
+pub fn snoop(given: Directory, address: u32) -> Outcome
+    ensures { λ r. ⌜ r ≡ snoopOutcome given address ⌝ }
+{
+    let answer = given.snoop(address);
+    let directory = answer.directory;
+    Outcome {
+        directory,
+        number: answer.number,
+        value: 0,
+        cycles: 0,
+    }
+}
+
+pub fn control(given: Directory, cd: bool, nw: bool) -> Outcome
+    ensures { λ r. ⌜ r ≡ controlOutcome given cd nw ⌝ }
+{
+    let answer = given.control(cd, nw);
+    let directory = answer.directory;
+    Outcome {
+        directory,
+        number: answer.number,
+        value: 0,
+        cycles: 0,
+    }
+}
+
+pub fn flush(given: Directory) -> Outcome
+    ensures { λ r. ⌜ r ≡ flushOutcome given ⌝ }
+{
+    let directory = given.flushed();
+    Outcome {
+        directory,
+        number: 0,
+        value: 0,
+        cycles: 0,
+    }
+}
+
+pub fn reset() -> Outcome
+    ensures { λ r. ⌜ r ≡ resetOutcome ⌝ }
+{
+    let directory = Directory::reset();
+    Outcome {
+        directory,
+        number: 0,
+        value: 0,
+        cycles: 0,
+    }
+}

@@ -1,0 +1,137 @@
+// The numbers that turn a call away.
+ghost use mathlib.Core.Path.{_≡_};
+ghost use mathlib.Core.Bool.{not};
+ghost use Prim.Native.Nat.{_+_, _-_, _^_, _<_};
+ghost use lib.Dec.{ltb};
+ghost use Rattle.directory.specs.Address.{setOf};
+ghost use Rattle.access.specs.Refusal.{anyAbove, argumentNumber, badAnswers, badRam, badWidth, externalNumber, lentNumber, memoryNumber, orElse, statesIn, valueNumber, when};
+
+fn number_if(bad: bool, number: u32) -> u32
+    ensures { λ r. ⌜ r ≡ when bad number ⌝ }
+{
+    if bad { number } else { 0 }
+}
+
+// The first of two numbers that is met.
+pub fn or_else(number: u32, next: u32) -> u32
+    ensures { λ r. ⌜ r ≡ orElse number next ⌝ }
+{
+    if number == 0 { next } else { number }
+}
+
+fn bad_ram(ram: usize) -> bool
+    ensures { λ r. ⌜ r ≡ badRam ram ⌝ }
+{
+    (ram < 16) | (16777216 < ram) | (ram % 16 != 0)
+}
+
+// Numbers 1 and 2, of the lengths of RAM and parity array.
+pub fn memory_number(ram: usize, parity: usize) -> u32
+    ensures { λ r. ⌜ r ≡ memoryNumber ram parity ⌝ }
+{
+    or_else(number_if(bad_ram(ram), 1), number_if(parity != ram / 4, 2))
+}
+
+// Numbers 1 to 3, of the lengths of RAM, parity array and data array.
+pub fn lent_number(ram: usize, parity: usize, array: usize) -> u32
+    ensures { λ r. ⌜ r ≡ lentNumber ram parity array ⌝ }
+{
+    or_else(memory_number(ram, parity), number_if(array != 8192, 3))
+}
+
+pub fn bad_width(width: u32) -> bool
+    ensures { λ r. ⌜ r ≡ badWidth width ⌝ }
+{
+    (width != 1) & (width != 2) & (width != 4)
+}
+
+fn any_above(limit: u8, answers: &[u8]) -> bool
+    ensures { λ r. ⌜ r ≡ anyAbove limit (now (answers .entry)) ⌝ }
+{
+    let mut above = false;
+    let mut k: usize = 0;
+    while k < answers.len() {
+        above = above | (limit < answers[k]);
+        k += 1;
+    }
+    above
+}
+
+fn bad_answers(answers: &[u8]) -> bool
+    ensures { λ r. ⌜ r ≡ badAnswers (now (answers .entry)) ⌝ }
+{
+    (answers.len() != 32) | any_above(7, answers)
+}
+
+// Numbers 4 to 7, of the arguments of a read or a write.
+pub fn argument_number(ram: usize, address: u32, width: u32, answers: &[u8], log: usize) -> u32
+    ensures { λ r. ⌜ r ≡ argumentNumber ram address width (now (answers .entry)) log ⌝ }
+{
+    let beyond = ram < address as usize + width as usize;
+    or_else(
+        number_if(bad_width(width), 4),
+        or_else(
+            number_if(beyond, 5),
+            or_else(number_if(bad_answers(answers), 6), number_if(log < 96, 7)),
+        ),
+    )
+}
+
+// Whether a value has more bytes than its width.
+fn too_large(width: u32, value: u32) -> bool
+    ensures { λ r. ⌜ r ≡ not (ltb value (256 ^ width)) ⌝ }
+{
+    match width {
+        0 => 0 < value,
+        1 => 255 < value,
+        2 => 65535 < value,
+        3 => 16777215 < value,
+        _ => false,
+    }
+}
+
+// Number 8.
+pub fn value_number(width: u32, value: u32) -> u32
+    ensures { λ r. ⌜ r ≡ valueNumber width value ⌝ }
+{
+    number_if(too_large(width, value), 8)
+}
+
+// Number 10, of an external write of so many bytes.
+pub fn external_number(ram: usize, address: u32, count: usize) -> u32
+    ensures { λ r. ⌜ r ≡ externalNumber ram address count ⌝ }
+{
+    if 16 < count {
+        return 10;
+    }
+    let start = address as usize;
+    number_if(
+        (count == 0) | (16 < start % 16 + count) | (ram < start + count),
+        10,
+    )
+}
+
+// The set of the last of so many bytes.
+fn last_set(address: u32, count: u32) -> usize
+    ensures { λ r. ⌜ (r ≡ setOf (address + count - 1)) × (r < 128) ⌝ }
+{
+    let end = address as usize + count as usize;
+    let last = if end == 0 { 0 } else { end - 1 };
+    last / 16 % 128
+}
+
+// Numbers 21 to 23 of every touched set, the lower address's set first.
+pub fn states_number<'a>(
+    tags: &'a [u32; 512],
+    valid: &'a [bool; 512],
+    lru: &'a [u8; 128],
+    address: u32,
+    count: u32,
+) -> u32
+    ensures { λ r. ⌜ r ≡ statesIn (now (tags .entry)) (now (valid .entry)) (now (lru .entry)) address count ⌝ }
+{
+    or_else(
+        directory::state_number(tags, valid, lru, directory::set_of(address)),
+        directory::state_number(tags, valid, lru, last_set(address, count)),
+    )
+}

@@ -1,0 +1,80 @@
+// The way of an access over its doublewords, the lowest first.
+ghost use mathlib.Core.Path.{_≡_};
+ghost use Prim.Native.Nat.{_+_, _≤_, _<_};
+ghost use Rattle.access.specs.Doubleword.{changed};
+ghost use Rattle.access.specs.Walks.{BelowFour, nextWalk, startWalk, wantedOf};
+use crate::doubleword::Change;
+use crate::doubleword::Wanted;
+use directory::Directory;
+
+// What is left between two doublewords: the address of the next wanted byte, the bytes left, the group of answers that
+// serves them, their place in the operand, and the records made.
+pub struct Walk {
+    pub address: u32,
+    pub left: usize,
+    pub group: usize,
+    pub place: usize,
+    pub records: usize,
+}
+
+// The directory after the doublewords of an access, and the records made.
+pub struct Walked {
+    pub directory: Directory,
+    pub records: usize,
+}
+
+impl Walk {
+    pub fn start(address: u32, width: u32) -> Walk
+        ensures { λ r. ⌜ r ≡ startWalk address width ⌝ }
+    {
+        Walk {
+            address,
+            left: width as usize,
+            group: 0,
+            place: 0,
+            records: 0,
+        }
+    }
+
+    // The wanted bytes of the next doubleword.
+    pub fn wanted(self) -> Wanted
+        ensures { λ r. ⌜ r ≡ wantedOf self ⌝ }
+    {
+        let room = (4 - self.address % 4) as usize;
+        let count = if self.left <= room { self.left } else { room };
+        Wanted {
+            line: self.address / 16 * 16,
+            from: (self.address % 16) as usize,
+            count,
+            place: self.place,
+        }
+    }
+
+    // What is left after a doubleword: so many bytes, and so many records.
+    pub fn next(self, count: usize, records: usize) -> Walk
+        requires { ⌜ (count ≤ self .left) × (self .address + self .left < 4294967296) × (self .group < 64) × (self .place < 64) × (self .left ≤ 64) × (self .records ≤ 64) × (records ≤ 64) ⌝ }
+        ensures { λ r. ⌜ r ≡ nextWalk self count records ⌝ }
+    {
+        Walk {
+            address: self.address + count as u32,
+            left: self.left - count,
+            group: self.group + 1,
+            place: self.place + count,
+            records: self.records + records,
+        }
+    }
+}
+
+// The directory after its change: the one step of a doubleword.
+pub fn changed_by(directory: Directory, line: u32, change: Change) -> Directory
+    requires { ⌜ BelowFour change ⌝ }
+    ensures { λ r. ⌜ r ≡ changed directory line change ⌝ }
+{
+    match change {
+        Change::Keep => directory,
+        Change::Use(way) => directory.used(directory::set_of(line), way),
+        Change::Fill(way) => {
+            directory.filled(directory::set_of(line), way, directory::tag_of(line))
+        }
+    }
+}

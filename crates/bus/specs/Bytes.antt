@@ -1,0 +1,23 @@
+-- Bytes in lists and as numbers. Bytes are put into a list from a place on by the library's `sets`.
+use Prim.Native.Nat.{ℕ, zero, suc, _+_, _*_, _/_, _%_}
+use mathlib.Core.List.{List, [], _∷_}
+use lib.ListN.{getD, replicate}
+use lib.Seq.{sets}
+
+-- So many bytes of a list, from a place on.
+unfoldable pub bytesAt : List ℕ → ℕ → ℕ → List ℕ
+bytesAt l i zero = []
+bytesAt l i (suc n) = getD l i 0 ∷ bytesAt l (suc i) n
+
+-- "little-endian": the number of some bytes, and so many bytes of a number.
+unfoldable pub valueOf : List ℕ → ℕ
+valueOf [] = 0
+valueOf (b ∷ bs) = b + 256 * valueOf bs
+
+unfoldable pub bytesOf : ℕ → ℕ → List ℕ
+bytesOf zero v = []
+bytesOf (suc n) v = v % 256 ∷ bytesOf n (v / 256)
+
+-- "data, unmoved lanes 0": the doubleword of some bytes that start in a lane.
+abbrev pub wordIn : ℕ → List ℕ → ℕ
+wordIn lane bytes = valueOf (sets (replicate 4 0) lane bytes)

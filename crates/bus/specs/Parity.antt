@@ -1,0 +1,57 @@
+-- Document 01, 'Memory and parity'.
+use Prim.Native.Nat.{ℕ, zero, suc, _+_, _*_, _/_, _%_, _^_, _<_}
+use mathlib.Core.Path.{_≡_}
+use mathlib.Core.Bool.{Bool, false, not, _||_}
+use mathlib.Core.List.{List, [], _∷_}
+use lib.ListN.{length, getD, set}
+use lib.Dec.{eqb}
+
+-- RAM, and "The parity array has one byte for each four RAM bytes".
+pub record Memory : Type 0 where
+  pub ram : List ℕ
+  pub parity : List ℕ
+
+abbrev pub memory : List ℕ → List ℕ → Memory
+memory ram parity = record { ram = ram; parity = parity }
+
+-- The ones among the lowest binary digits of a number.
+unfoldable pub onesOf : ℕ → ℕ → ℕ
+onesOf zero x = 0
+onesOf (suc n) x = x % 2 + onesOf n (x / 2)
+
+-- "Even parity: a byte and its DP bit together have an even number of ones." (001, 002)
+unfoldable pub dpOf : ℕ → ℕ
+dpOf b = onesOf 8 b % 2
+
+-- "bits 0 to 3 are DP0 to DP3": the bit of a lane of a parity byte, and the bit of a RAM byte.
+unfoldable pub laneBit : ℕ → ℕ → ℕ
+laneBit p lane = p / 2 ^ lane % 2
+
+unfoldable pub dpAt : List ℕ → ℕ → ℕ
+dpAt parity a = laneBit (getD parity (a / 4) 0) (a % 4)
+
+-- A parity byte with the bit of one lane replaced: "the upper four are ignored and become 0 when that byte is written".
+unfoldable pub withDp : ℕ → ℕ → ℕ → ℕ
+withDp p lane bit = p % 2 ^ lane + bit * 2 ^ lane + p % 16 / 2 ^ (lane + 1) * 2 ^ (lane + 1)
+
+-- One byte put into RAM, with its parity; and bytes from an address on, which every writer does.
+unfoldable pub put : Memory → ℕ → ℕ → Memory
+put m a b =
+    memory (set (m .ram) a b)
+    (set (m .parity) (a / 4) (withDp (getD (m .parity) (a / 4) 0) (a % 4) (dpOf b)))
+
+unfoldable pub stored : Memory → ℕ → List ℕ → Memory
+stored m a [] = m
+stored m a (b ∷ bs) = stored (put m a b) (suc a) bs
+
+-- "wrong parity in a moved byte": of one byte, and of any of so many from an address on.
+unfoldable pub wrongAt : Memory → ℕ → Bool
+wrongAt m a = not (eqb (dpAt (m .parity) a) (dpOf (getD (m .ram) a 0)))
+
+unfoldable pub wrongIn : Memory → ℕ → ℕ → Bool
+wrongIn m a zero = false
+wrongIn m a (suc n) = wrongAt m a || wrongIn m (suc a) n
+
+-- "Parity agrees when this holds for all of RAM."
+pub record Agrees (m : Memory) : Type 0 where
+  pub agree : (a : ℕ) → a < length (m .ram) → dpAt (m .parity) a ≡ dpOf (getD (m .ram) a 0)

@@ -1,0 +1,50 @@
+// Bytes moved between buffers, and as numbers.
+ghost use mathlib.Core.Path.{_≡_};
+ghost use Prim.Native.Nat.{_+_, _≤_};
+ghost use lib.ListN.{length};
+ghost use lib.Seq.{sets};
+ghost use Rattle.bus.specs.Bytes.{bytesAt, bytesOf, valueOf, wordIn};
+
+// So many bytes of src from a place on, put into dst.
+pub fn copy_bytes(src: &[u8], s: usize, dst: &mut [u8], d: usize, count: usize)
+    requires { ⌜ (s + count ≤ length (now src)) × (d + count ≤ length (now dst)) ⌝ }
+    ensures { λ _. ⌜ now (dst .exit) ≡ sets (now (dst .entry)) d (bytesAt (now (src .entry)) s count) ⌝ }
+{
+    let mut k: usize = 0;
+    while k < count {
+        dst[d + k] = src[s + k];
+        k += 1;
+    }
+}
+
+// The doubleword of four lanes.
+pub fn word_of(lanes: &[u8; 4]) -> u32
+    ensures { λ r. ⌜ r ≡ valueOf (now (lanes .entry)) ⌝ }
+{
+    lanes[0] as u32 + 256 * lanes[1] as u32 + 65536 * lanes[2] as u32 + 16777216 * lanes[3] as u32
+}
+
+// The doubleword that has some bytes from a lane on, and 0 in the other lanes.
+pub fn lane_word(src: &[u8], at: usize, lane: usize, count: usize) -> u32
+    requires { ⌜ (at + count ≤ length (now src)) × (lane + count ≤ 4) ⌝ }
+    ensures { λ r. ⌜ r ≡ wordIn lane (bytesAt (now (src .entry)) at count) ⌝ }
+{
+    let mut lanes = [0u8; 4];
+    copy_bytes(src, at, &mut lanes, lane, count);
+    word_of(&lanes)
+}
+
+// The four bytes of a number, the lowest first.
+pub fn bytes_of(value: u32) -> [u8; 4]
+    ensures { λ r. ⌜ r ≡ bytesOf 4 value ⌝ }
+{
+    let second = value / 256;
+    let third = second / 256;
+    let fourth = third / 256;
+    [
+        (value % 256) as u8,
+        (second % 256) as u8,
+        (third % 256) as u8,
+        (fourth % 256) as u8,
+    ]
+}

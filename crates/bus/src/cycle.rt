@@ -1,0 +1,226 @@
+// The cycles of a doubleword: sizing, burst order, and the loops that make them.
+ghost use mathlib.Core.Path.{_≡_};
+ghost use mathlib.Core.List.{[], _∷_, map};
+ghost use Prim.Native.Nat.{_+_, _≤_, _<_};
+ghost use lib.ListN.{length, getD};
+ghost use Rattle.bus.specs.Parity.{memory};
+ghost use Rattle.bus.specs.Bus.{room, run, sizeOf};
+ghost use Rattle.bus.specs.Record.{logged, readRecord, writeRecord};
+ghost use Rattle.bus.specs.Turns.{burstAt, cycleAt, nextTurn, Ready, Room, ReadCycle, ReadCycles, WriteCycle, WriteCycles};
+use crate::bytes::copy_bytes;
+use crate::bytes::lane_word;
+use crate::parity::any_wrong;
+use crate::parity::store_bytes;
+use crate::record::flags_of;
+use crate::record::put_record;
+
+// What is left between two cycles: the wanted bytes of the doubleword now on the bus, its turn in the burst order, the
+// doublewords after it, the answers used and the last of them. Nothing is wanted where count is 0.
+pub struct Turn {
+    pub from: usize,
+    pub count: usize,
+    pub turn: usize,
+    pub left: usize,
+    pub used: usize,
+    pub answer: u8,
+}
+
+// The bytes that an answer lets a cycle move from an offset on.
+fn room_of(answer: u8, from: usize) -> usize
+    ensures { λ r. ⌜ r ≡ room answer from ⌝ }
+{
+    if answer / 2 % 2 == 1 {
+        return 1;
+    }
+    if answer / 4 % 2 == 1 {
+        return 2 - from % 2;
+    }
+    4 - from % 4
+}
+
+// How many of the wanted bytes a cycle moves.
+fn size_of(answer: u8, from: usize, count: usize) -> usize
+    ensures { λ r. ⌜ r ≡ sizeOf answer (run from count) ⌝ }
+{
+    let room = room_of(answer, from);
+    if count <= room { count } else { room }
+}
+
+fn pick(n: usize, first: usize, second: usize, third: usize, fourth: usize) -> usize
+    requires { ⌜ n < 4 ⌝ }
+    ensures { λ r. ⌜ r ≡ getD (first ∷ second ∷ third ∷ fourth ∷ []) n 0 ⌝ }
+{
+    match n {
+        0 => first,
+        1 => second,
+        2 => third,
+        _ => fourth,
+    }
+}
+
+// The offset of a doubleword of the burst order.
+fn burst_offset(start: usize, turn: usize) -> usize
+    requires { ⌜ (start < 4) × (turn < 4) ⌝ }
+    ensures { λ r. ⌜ r ≡ burstAt start turn ⌝ }
+{
+    pick(
+        start,
+        pick(turn, 0, 4, 8, 12),
+        pick(turn, 4, 0, 12, 8),
+        pick(turn, 8, 12, 0, 4),
+        pick(turn, 12, 8, 4, 0),
+    )
+}
+
+impl Turn {
+    // What is left after a cycle with this answer.
+    fn next(self, start: usize, answer: u8) -> Turn
+        requires { ⌜ (start < 4) × (self .turn + self .left ≤ 3) × (self .from < 16) × (self .count ≤ 4) × (self .used < 64) ⌝ }
+        ensures { λ r. ⌜ r ≡ nextTurn start self answer ⌝ }
+    {
+        let size = size_of(answer, self.from, self.count);
+        if size != self.count {
+            return Turn {
+                from: self.from + size,
+                count: self.count - size,
+                turn: self.turn,
+                left: self.left,
+                used: self.used + 1,
+                answer,
+            };
+        }
+        if self.left == 0 {
+            return Turn {
+                from: self.from,
+                count: 0,
+                turn: self.turn,
+                left: 0,
+                used: self.used + 1,
+                answer,
+            };
+        }
+        Turn {
+            from: burst_offset(start, self.turn + 1),
+            count: 4,
+            turn: self.turn + 1,
+            left: self.left - 1,
+            used: self.used + 1,
+            answer,
+        }
+    }
+}
+
+// One read cycle: its record, and its bytes into the line buffer.
+fn read_cycle(
+    ram: &[u8],
+    parity: &[u8],
+    answers: &[u8],
+    log: &mut [u32],
+    buffer: &mut [u8],
+    t: Turn,
+    start: usize,
+    line: usize,
+    first: usize,
+    kind: u32,
+) -> Turn
+    requires { ⌜ (0 < t .count) × (start < 4) × (kind ≤ 32) × Ready t (length (now answers)) × Room line first (length (now ram)) (length (now parity)) (length (now answers)) (length (now log)) (length (now buffer)) ⌝ }
+    ensures { λ r. ⌜ ReadCycle kind (memory (now (ram .entry)) (now (parity .entry))) start line first t (getD (now (answers .entry)) (t .used) 0) (now (log .entry)) (now (buffer .entry)) r (now (log .exit)) (now (buffer .exit)) ⌝ }
+{
+    let used = t.used;
+    let from = t.from;
+    let answer = answers[used];
+    let size = size_of(answer, from, t.count);
+    let next = t.next(start, answer);
+    let at = line + from;
+    let wrong = any_wrong(ram, parity, at, size);
+    let flags = flags_of(from % 4, size, kind, next.count == 0, wrong);
+    let address = (line + from / 4 * 4) as u32;
+    let word = lane_word(ram, at, from % 4, size);
+    put_record(log, first + used, address, flags, word);
+    copy_bytes(ram, at, buffer, from, size);
+    next
+}
+
+// The read cycles from a turn on, all of them.
+pub fn read_cycles(
+    ram: &[u8],
+    parity: &[u8],
+    answers: &[u8],
+    log: &mut [u32],
+    buffer: &mut [u8],
+    begin: Turn,
+    start: usize,
+    line: usize,
+    first: usize,
+    kind: u32,
+) -> Turn
+    requires { ⌜ (begin .used ≡ 0) × (begin .answer ≡ 0) × (start < 4) × (kind ≤ 32) × Ready begin (length (now answers)) × Room line first (length (now ram)) (length (now parity)) (length (now answers)) (length (now log)) (length (now buffer)) ⌝ }
+    ensures { λ r. ⌜ ReadCycles kind (memory (now (ram .entry)) (now (parity .entry))) (now (answers .entry)) start line first begin (now (log .entry)) (now (buffer .entry)) r (now (log .exit)) (now (buffer .exit)) ⌝ }
+{
+    let mut t = begin;
+    while 0 < t.count {
+        let next = read_cycle(
+            ram,
+            parity,
+            answers,
+            log,
+            buffer,
+            t,
+            start,
+            line,
+            first,
+            kind,
+        );
+        t = next;
+    }
+    t
+}
+
+// One write cycle: its record, and its bytes of the line buffer into RAM.
+fn write_cycle(
+    ram: &mut [u8],
+    parity: &mut [u8],
+    answers: &[u8],
+    log: &mut [u32],
+    buffer: &[u8],
+    t: Turn,
+    line: usize,
+    first: usize,
+) -> Turn
+    requires { ⌜ (0 < t .count) × Ready t (length (now answers)) × Room line first (length (now ram)) (length (now parity)) (length (now answers)) (length (now log)) (length (now buffer)) ⌝ }
+    ensures { λ r. ⌜ WriteCycle (now (buffer .entry)) line first t (getD (now (answers .entry)) (t .used) 0) (memory (now (ram .entry)) (now (parity .entry))) (now (log .entry)) r (memory (now (ram .exit)) (now (parity .exit))) (now (log .exit)) ⌝ }
+{
+    let used = t.used;
+    let from = t.from;
+    let answer = answers[used];
+    let size = size_of(answer, from, t.count);
+    let next = t.next(0, answer);
+    let flags = flags_of(from % 4, size, 16, next.count == 0, false);
+    let address = (line + from / 4 * 4) as u32;
+    let word = lane_word(buffer, from, from % 4, size);
+    put_record(log, first + used, address, flags, word);
+    store_bytes(buffer, from, ram, parity, line + from, size);
+    next
+}
+
+// The write cycles from a turn on, all of them.
+pub fn write_cycles(
+    ram: &mut [u8],
+    parity: &mut [u8],
+    answers: &[u8],
+    log: &mut [u32],
+    buffer: &[u8],
+    begin: Turn,
+    line: usize,
+    first: usize,
+) -> Turn
+    requires { ⌜ (begin .used ≡ 0) × (begin .answer ≡ 0) × Ready begin (length (now answers)) × Room line first (length (now ram)) (length (now parity)) (length (now answers)) (length (now log)) (length (now buffer)) ⌝ }
+    ensures { λ r. ⌜ WriteCycles (now (buffer .entry)) (now (answers .entry)) line first begin (memory (now (ram .entry)) (now (parity .entry))) (now (log .entry)) r (memory (now (ram .exit)) (now (parity .exit))) (now (log .exit)) ⌝ }
+{
+    let mut t = begin;
+    while 0 < t.count {
+        let next = write_cycle(ram, parity, answers, log, buffer, t, line, first);
+        t = next;
+    }
+    t
+}

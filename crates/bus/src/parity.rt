@@ -1,0 +1,86 @@
+// RAM and its parity array.
+ghost use mathlib.Core.Path.{_≡_};
+ghost use Prim.Native.Nat.{_+_, _*_, _≤_, _<_};
+ghost use lib.ListN.{length};
+ghost use Rattle.bus.specs.Bytes.{bytesAt};
+ghost use Rattle.bus.specs.Parity.{dpOf, laneBit, memory, put, stored, withDp, wrongAt, wrongIn};
+
+// The DP bit of a byte.
+fn dp_bit(b: u8) -> u8
+    ensures { λ r. ⌜ r ≡ dpOf b ⌝ }
+{
+    (u8::count_ones(b) % 2) as u8
+}
+
+// The DP bit of a lane of a parity byte.
+fn lane_bit(p: u8, lane: usize) -> u8
+    requires { ⌜ lane < 4 ⌝ }
+    ensures { λ r. ⌜ r ≡ laneBit p lane ⌝ }
+{
+    match lane {
+        0 => p % 2,
+        1 => p / 2 % 2,
+        2 => p / 4 % 2,
+        _ => p / 8 % 2,
+    }
+}
+
+// A parity byte with the bit of one lane replaced.
+fn with_dp(p: u8, lane: usize, bit: u8) -> u8
+    requires { ⌜ (lane < 4) × (bit < 2) ⌝ }
+    ensures { λ r. ⌜ r ≡ withDp p lane bit ⌝ }
+{
+    match lane {
+        0 => bit + p % 16 / 2 * 2,
+        1 => p % 2 + bit * 2 + p % 16 / 4 * 4,
+        2 => p % 4 + bit * 4 + p % 16 / 8 * 8,
+        _ => p % 8 + bit * 8,
+    }
+}
+
+// A byte put into RAM, with its parity.
+fn put_byte(ram: &mut [u8], parity: &mut [u8], a: usize, b: u8)
+    requires { ⌜ (a < length (now ram)) × (a < 4 * length (now parity)) ⌝ }
+    ensures { λ _. ⌜ memory (now (ram .exit)) (now (parity .exit)) ≡ put (memory (now (ram .entry)) (now (parity .entry))) a b ⌝ }
+{
+    ram[a] = b;
+    let i = a / 4;
+    let old = parity[i];
+    parity[i] = with_dp(old, a % 4, dp_bit(b));
+}
+
+// So many bytes of src from a place on, put into RAM with their parity.
+pub fn store_bytes(src: &[u8], s: usize, ram: &mut [u8], parity: &mut [u8], a: usize, count: usize)
+    requires { ⌜ (s + count ≤ length (now src)) × (a + count ≤ length (now ram)) × (a + count ≤ 4 * length (now parity)) ⌝ }
+    ensures { λ _. ⌜ memory (now (ram .exit)) (now (parity .exit)) ≡ stored (memory (now (ram .entry)) (now (parity .entry))) a (bytesAt (now (src .entry)) s count) ⌝ }
+{
+    let mut k: usize = 0;
+    while k < count {
+        put_byte(ram, parity, a + k, src[s + k]);
+        k += 1;
+    }
+}
+
+// Whether a RAM byte has wrong parity.
+fn is_wrong(ram: &[u8], parity: &[u8], a: usize) -> bool
+    requires { ⌜ (a < length (now ram)) × (a < 4 * length (now parity)) ⌝ }
+    ensures { λ r. ⌜ r ≡ wrongAt (memory (now (ram .entry)) (now (parity .entry))) a ⌝ }
+{
+    let i = a / 4;
+    let p = parity[i];
+    lane_bit(p, a % 4) != dp_bit(ram[a])
+}
+
+// Whether any of so many RAM bytes has wrong parity.
+pub fn any_wrong(ram: &[u8], parity: &[u8], a: usize, count: usize) -> bool
+    requires { ⌜ (a + count ≤ length (now ram)) × (a + count ≤ 4 * length (now parity)) ⌝ }
+    ensures { λ r. ⌜ r ≡ wrongIn (memory (now (ram .entry)) (now (parity .entry))) a count ⌝ }
+{
+    let mut wrong = false;
+    let mut k: usize = 0;
+    while k < count {
+        wrong = wrong | is_wrong(ram, parity, a + k);
+        k += 1;
+    }
+    wrong
+}

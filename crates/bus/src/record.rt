@@ -1,0 +1,58 @@
+// The records that cycles leave in the log.
+ghost use mathlib.Core.Path.{_≡_};
+ghost use mathlib.Core.List.{[], _∷_};
+ghost use Prim.Native.Nat.{_+_, _*_, _≤_, _<_};
+ghost use lib.ListN.{length};
+ghost use Rattle.bus.specs.Record.{Record, flagsOf, lanesOf, logged};
+
+// The flags of lane 0 on.
+fn low_lanes(count: usize) -> u32
+    requires { ⌜ count ≤ 4 ⌝ }
+    ensures { λ r. ⌜ (r ≡ lanesOf 0 count) × (r ≤ 15) ⌝ }
+{
+    match count {
+        0 => 0,
+        1 => 1,
+        2 => 3,
+        3 => 7,
+        _ => 15,
+    }
+}
+
+// The flags of moved bytes: so many from a lane on.
+fn lanes_of(lane: usize, count: usize) -> u32
+    requires { ⌜ lane + count ≤ 4 ⌝ }
+    ensures { λ r. ⌜ (r ≡ lanesOf lane count) × (r ≤ 120) ⌝ }
+{
+    let low = low_lanes(count);
+    match lane {
+        0 => low,
+        1 => low * 2,
+        2 => low * 4,
+        _ => low * 8,
+    }
+}
+
+fn flag_if(on: bool, flag: u32) -> u32
+    ensures { λ r. ⌜ r ≤ flag ⌝ }
+{
+    if on { flag } else { 0 }
+}
+
+pub fn flags_of(lane: usize, count: usize, kind: u32, last: bool, wrong: bool) -> u32
+    requires { ⌜ (lane + count ≤ 4) × (kind ≤ 32) ⌝ }
+    ensures { λ r. ⌜ r ≡ flagsOf lane count kind last wrong ⌝ }
+{
+    lanes_of(lane, count) + kind + flag_if(last, 64) + flag_if(wrong, 128)
+}
+
+// A record at its place in the log.
+pub fn put_record(log: &mut [u32], place: usize, address: u32, flags: u32, word: u32)
+    requires { ⌜ 3 * place + 3 ≤ length (now log) ⌝ }
+    ensures { λ _. ⌜ now (log .exit) ≡ logged (now (log .entry)) place (record { address = address; flags = flags; word = word } ∷ []) ⌝ }
+{
+    let i = 3 * place;
+    log[i] = address;
+    log[i + 1] = flags;
+    log[i + 2] = word;
+}
