@@ -15,7 +15,7 @@ Row = tuple[str | int, ...]
 LRU_NUMBERS = range(LRU_LIMIT + 1)
 PAIRS = [(False, False), (False, True), (True, False), (True, True)]
 
-# The set asked in the state and snoop rows, and another one.
+# The set asked in every row, and another one.
 SET = 5
 OTHER_SET = 6
 

@@ -1,22 +1,23 @@
 -- The laws that the layer above works from: what a lookup finds before and after each step, and what each step keeps.
 use Prim.Native.Nat.{ℕ, _^_, _≤_, _<_}
-use mathlib.Core.Path.{_≡_, refl, sym, _∙_, ap}
+use mathlib.Core.Path.{_≡_, refl, sym, _∙_}
 use mathlib.Core.Bool.{Bool, true, false}
 use mathlib.Core.Logic.{_⊎_, inl, inr, ⊎-elim}
 use native.Mathlib.Omega.{arith}
 use lib.Dec.{eqb}
 use lib.ListN.{length-set, getD-replicate}
-use borrow.Author.Tests.{eqb-true, eq-eqb}
+use borrow.Author.Tests.{eqb-true, eq-eqb, ne-eqb}
 use Rattle.directory.specs.declared.steps.Directory.{Directory}
 use Rattle.directory.specs.declared.ways.Found.{Found}
 use Rattle.directory.specs.declared.ways.Found.the-variants.{At, Nothing}
 use Rattle.directory.specs.Address.{setOf, tagOf, lineOf}
+use Rattle.directory.specs.Lru.{lruAfter}
 use Rattle.directory.specs.Ways.{holds, lookupIn}
 use Rattle.directory.specs.Steps.{validAt, tagAt, lruAt, lookupOf, stateOf, afterUse, afterFill, afterReset, afterControl, controlRefused, controlCall, afterFlush, invalidated, afterSnoop, snoopCall}
-use Rattle.directory.specs.WellFormed.{Held, GoodSet, Sized, WellFormed}
+use Rattle.directory.specs.WellFormed.{Held, Same, GoodSet, Sized, WellFormed}
 use Rattle.directory.proofs.Tests.{both, refuted, differ, cond-true, cond-false, by-test}
 use Rattle.directory.proofs.FourWays.{lowest-at, lowest-nothing, none-lowest, one-lowest}
-use Rattle.directory.proofs.Lines.{Same, same-line, stored-line, stored-other, use-lru-below, fewer-well-formed}
+use Rattle.directory.proofs.Lines.{same-line, stored-line, stored-other, use-lru-here, use-lru-apart, use-lru-below, fewer-well-formed}
 use Rattle.directory.proofs.SetState.{state-good, good-state}
 
 -- LOOKUP
@@ -80,7 +81,7 @@ reset-well-formed =
           };
     }
 
--- USE: no line changes
+-- USE: no line changes, and one LRU number
 
 module _ (d : Directory) (s w : ℕ) where
   pub use-held : (r v tag : ℕ) → Held (afterUse d s w) r v tag → Held d r v tag
@@ -94,6 +95,12 @@ module _ (d : Directory) (s w : ℕ) where
   pub use-lookup : (a : ℕ) → lookupOf (afterUse d s w) a ≡ lookupOf d a
   unfolding afterUse
   use-lookup a = refl
+
+  pub use-lru : Sized d → s < 128 → lruAt (afterUse d s w) s ≡ lruAfter (lruAt d s) w
+  use-lru z sl = use-lru-here d z s w sl
+
+  pub use-lru-other : (r : ℕ) → (r ≡ s → ⊥) → lruAt (afterUse d s w) r ≡ lruAt d r
+  use-lru-other = use-lru-apart d s w
 
   pub use-control : (afterUse d s w .cd ≡ d .cd) × (afterUse d s w .nw ≡ d .nw)
   unfolding afterUse
@@ -120,7 +127,8 @@ module _ (d : Directory) (s w tag : ℕ) where
   unfolding afterFill
   fill-sized z = record { tags = rw length-set (z .tags); valid = rw length-set (z .valid); lru = rw length-set (z .lru) }
 
-  fill-lru : (r : ℕ) → lruAt (afterFill d s w tag) r ≡ lruAt (afterUse d s w) r
+  -- a kept fill is a use
+  pub fill-lru : (r : ℕ) → lruAt (afterFill d s w tag) r ≡ lruAt (afterUse d s w) r
   unfolding afterFill afterUse
   fill-lru r = refl
 
@@ -228,7 +236,7 @@ module _ (d : Directory) where
   unfolding afterFlush
   flush-control = (refl, refl)
 
-  flush-lru : (s : ℕ) → lruAt (afterFlush d) s ≡ lruAt d s
+  pub flush-lru : (s : ℕ) → lruAt (afterFlush d) s ≡ lruAt d s
   unfolding afterFlush
   flush-lru s = refl
 
@@ -312,6 +320,9 @@ module _ (d : Directory) (z : Sized d) (a : ℕ) where
   pub snoop-kept : (r v t : ℕ) → v < 4 → (Same r t (setOf a) (tagOf a) → ⊥) → Held d r v t → Held (afterSnoop d a) r v t
   snoop-kept r v t vl n = by-nw (λ x. Held d r v t → Held x r v t) (λ _ h. h) (λ _. gone-kept _ refl r v t vl n)
 
+  pub snoop-lru : (r : ℕ) → lruAt (afterSnoop d a) r ≡ lruAt d r
+  snoop-lru r = by-nw (λ x. lruAt x r ≡ lruAt d r) (λ _. refl) (λ _. gone-lru _ r)
+
   pub snoop-control : (afterSnoop d a .cd ≡ d .cd) × (afterSnoop d a .nw ≡ d .nw)
   snoop-control = by-nw (λ x. (x .cd ≡ d .cd) × (x .nw ≡ d .nw)) (λ _. (refl, refl)) (λ _. gone-control _)
 
@@ -339,6 +350,12 @@ state-zero-good = state-good
 pub good-state-zero : (d : Directory) (s : ℕ) → GoodSet d s → stateOf d s ≡ 0
 good-state-zero = good-state
 
-pub snoop-accepted : (d : Directory) → WellFormed d → (a : ℕ) → snoopCall d a ≡ record { directory = afterSnoop d a; number = 0 }
-unfolding snoopCall
-snoop-accepted d g a = cond-true _ _ _ (eq-eqb _ 0 (good-state d (setOf a) (g .sets (setOf a) (omega arith))))
+-- a snoop call is refused for the state of its set, and else accepted
+module _ (d : Directory) (a : ℕ) where
+  pub snoop-accepted : stateOf d (setOf a) ≡ 0 → snoopCall d a ≡ record { directory = afterSnoop d a; number = 0 }
+  unfolding snoopCall
+  snoop-accepted e = cond-true _ _ _ (eq-eqb _ 0 e)
+
+  pub snoop-refused : (stateOf d (setOf a) ≡ 0 → ⊥) → snoopCall d a ≡ record { directory = d; number = stateOf d (setOf a) }
+  unfolding snoopCall
+  snoop-refused n = cond-false _ _ _ (ne-eqb _ 0 n)

@@ -1,26 +1,19 @@
 -- What the steps do to single lines and LRU numbers.
 use Prim.Native.Nat.{ℕ, _≤_, _<_}
-use mathlib.Core.Path.{_≡_, refl, sym, _∙_}
-use mathlib.Core.Bool.{Bool, true, false}
+use mathlib.Core.Path.{_≡_}
 use mathlib.Core.List.{List}
-use mathlib.Core.Logic.{_⊎_, inl, inr}
 use native.Mathlib.Omega.{arith}
-use lib.ListN.{length, getD, set, length-set}
+use lib.ListN.{length, getD, set}
 use lib.Seq.{getD-set-same, getD-set-other}
 use Rattle.directory.specs.declared.steps.Directory.{Directory}
-use Rattle.directory.specs.declared.ways.Found.{Found}
-use Rattle.directory.specs.declared.ways.Found.the-variants.{At, Nothing}
 use Rattle.directory.specs.Address.{lineOf}
 use Rattle.directory.specs.Lru.{lruAfter}
-use Rattle.directory.specs.Steps.{validAt, tagAt, lruAt, afterUse, afterFill, invalidated}
-use Rattle.directory.specs.WellFormed.{Held, GoodSet, Sized, WellFormed}
-use Rattle.directory.proofs.Tests.{differ, same-or}
+use Rattle.directory.specs.Steps.{lruAt, afterUse}
+use Rattle.directory.specs.WellFormed.{Held, Same, Sized, WellFormed}
+use Rattle.directory.proofs.Tests.{same-or}
 use Rattle.directory.proofs.FourWays.{lru-after-below}
 
 -- a line is named by one set and one way
-abbrev pub Same : ℕ → ℕ → ℕ → ℕ → Type 0
-Same r v s w = (r ≡ s) × (v ≡ w)
-
 module _ (s w r v : ℕ) (wl : w < 4) (vl : v < 4) where
   line-other : (Same r v s w → ⊥) → lineOf r v ≡ lineOf s w → ⊥
   line-other n e =
@@ -37,29 +30,30 @@ module _ (s w r v : ℕ) (wl : w < 4) (vl : v < 4) where
       f (i, j))
       (λ n. g λ p. n (omega arith))
 
-  -- an array of lines after a store: the stored line has the new element, every other its own
+  -- an array of lines after a store: every other line has its own element
   module _ {A : Type 0} (l : List A) (x z : A) where
     pub stored-other : (Same r v s w → ⊥) → getD (set l (lineOf s w) x) (lineOf r v) z ≡ getD l (lineOf r v) z
     stored-other n = let o = line-other n in rw getD-set-other
 
+-- and the stored line the new one
 pub stored-line : {A : Type 0} (l : List A) (x z : A) (s w : ℕ) → length l ≡ 512 → s < 128 → w < 4 →
     getD (set l (lineOf s w) x) (lineOf s w) z ≡ x
 stored-line l x z s w e sl wl = let i : lineOf s w < length l = rw e (omega arith) in rw getD-set-same
 
 -- a set's LRU number after a use of one of its ways, or of another set's
-pub use-lru : (d : Directory) → Sized d → (s w : ℕ) → s < 128 → lruAt (afterUse d s w) s ≡ lruAfter (lruAt d s) w
+pub use-lru-here : (d : Directory) → Sized d → (s w : ℕ) → s < 128 → lruAt (afterUse d s w) s ≡ lruAfter (lruAt d s) w
 unfolding afterUse
-use-lru d z s w sl = let l : s < length (d .lru) = rw (z .lru) sl in rw getD-set-same
+use-lru-here d z s w sl = let l : s < length (d .lru) = rw (z .lru) sl in rw getD-set-same
 
-pub use-lru-other : (d : Directory) (s w r : ℕ) → (r ≡ s → ⊥) → lruAt (afterUse d s w) r ≡ lruAt d r
+pub use-lru-apart : (d : Directory) (s w r : ℕ) → (r ≡ s → ⊥) → lruAt (afterUse d s w) r ≡ lruAt d r
 unfolding afterUse
-use-lru-other d s w r n = rw getD-set-other
+use-lru-apart d s w r n = rw getD-set-other
 
 pub use-lru-below : (d : Directory) → Sized d → (s w : ℕ) → s < 128 → w < 4 → (r : ℕ) → lruAt d r ≤ 7 → lruAt (afterUse d s w) r ≤ 7
 use-lru-below d z s w sl wl r h =
     same-or _ r s
-    (λ e. let k = lru-after-below (lruAt d s) w wl in rw (e, use-lru d z s w sl) (omega arith))
-    (λ n. rw (use-lru-other d s w r n) h)
+    (λ e. let k = lru-after-below (lruAt d s) w wl in rw (e, use-lru-here d z s w sl) (omega arith))
+    (λ n. rw (use-lru-apart d s w r n) h)
 
 -- a directory that holds no line which a well-formed one doesn't, with LRU numbers up to 7, is well formed
 pub fewer-well-formed :

@@ -53,7 +53,7 @@ afterFill d s w tag =
       nw = d .nw;
     }
 
--- "After reset all 512 lines are invalid, tags and LRU numbers are 0, and CD = NW = 1." (002)
+-- "After reset all 512 lines are invalid, tags and LRU numbers are 0, and CD = NW = 1." (002: all invalid, CD = NW = 1)
 unfoldable pub afterReset : Directory
 afterReset =
     record {

@@ -20,11 +20,12 @@ tagIn tags set way = getD tags (lineOf set way) 0
 abbrev pub holds : List ℕ → List Bool → ℕ → ℕ → ℕ → Bool
 holds tags valid set way tag = markAt valid set way && eqb (tagIn tags set way) tag
 
--- What `Found` says in document 01's numbers: `At` is the lowest of the ways 0 to 3 for which a test holds, `Nothing` that it holds for none.
+-- The answer `Found`: `At` is the lowest of the ways 0 to 3 for which a test holds, `Nothing` says that it holds for none.
 unfoldable pub lowest : Bool → Bool → Bool → Bool → Found
 lowest test0 test1 test2 test3 =
     cond test0 (At 0) (cond test1 (At 1) (cond test2 (At 2) (cond test3 (At 3) Nothing)))
 
+-- Document 01's value for each case of `Found`: the way that `At` names; a rule says what stands for `Nothing`.
 abbrev pub wayOr : Found → ℕ → ℕ
 wayOr (At way) other = way
 wayOr Nothing other = other
@@ -38,7 +39,7 @@ lookupIn tags valid address =
     (holds tags valid (setOf address) 2 (tagOf address))
     (holds tags valid (setOf address) 3 (tagOf address))
 
--- "The victim is the lowest invalid way (H). If all are valid", the one that the LRU number takes. (002)
+-- "The victim is the lowest invalid way (H). If all are valid", the one that the LRU number takes. (002: invalid ways first)
 unfoldable pub victimIn : List Bool → List ℕ → ℕ → ℕ
 victimIn valid lru set =
     wayOr

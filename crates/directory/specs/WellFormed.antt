@@ -10,6 +10,10 @@ use Rattle.directory.specs.Steps.{validAt, tagAt, lruAt}
 abbrev pub Held : Directory → ℕ → ℕ → ℕ → Type 0
 Held d s w tag = (validAt d s w ≡ true) × (tagAt d s w ≡ tag)
 
+-- Two names of one line, by set and way; or of one address, by set and tag.
+abbrev pub Same : ℕ → ℕ → ℕ → ℕ → Type 0
+Same r v s w = (r ≡ s) × (v ≡ w)
+
 -- A set that meets none of 21, 22 and 23.
 pub record GoodSet (d : Directory) (s : ℕ) : Type 0 where
   pub apart : (w v tag : ℕ) → w < 4 → v < 4 → Held d s w tag → Held d s v tag → w ≡ v
