@@ -1,0 +1,195 @@
+-- Laws of sizing and of turns: what a cycle moves, and what is wanted after it.
+use Prim.Native.Nat.{ℕ, zero, suc, _+_, _*_, _-_, _/_, _%_, _≤_, _<_, min}
+use mathlib.Core.Path.{_≡_, refl, sym, _∙_, ap}
+use mathlib.Core.Bool.{Bool, true, false, cond}
+use mathlib.Core.List.{List, [], _∷_}
+use native.Mathlib.Omega.{arith}
+use lib.Dec.{eqb}
+use lib.ListN.{getD}
+use borrow.Author.Tests.{eqb-true, eqb-false, eq-eqb, ne-eqb}
+use Rattle.laws.proofs.Tests.{by-test, same-or, cond-true, cond-false}
+use Rattle.bus.specs.declared.cycle.Turn.{Turn}
+use Rattle.bus.specs.Bus.{bs8, bs16, Run, run, room, sizeOf, left, none, burst}
+use Rattle.bus.specs.Turns.{burstAt, later, wantedAt, nextTurn, Ready}
+
+room-some : (x from : ℕ) → 0 < room x from
+unfolding room
+room-some x from =
+    by-test (λ b. 0 < cond b 1 (cond (bs16 x) (2 - from % 2) (4 - from % 4))) (bs8 x) (λ _. omega arith)
+    (λ _. by-test (λ b. 0 < cond b (2 - from % 2) (4 - from % 4)) (bs16 x) (λ _. omega arith) (λ _. omega arith))
+
+-- a cycle moves at least one byte of those wanted, and no others
+pub size-some : (x from count : ℕ) → 0 < count → 0 < sizeOf x (run from count)
+unfolding sizeOf
+size-some x from count h = let r = room-some x from in omega arith
+
+pub size-most : (x from count : ℕ) → sizeOf x (run from count) ≤ count
+unfolding sizeOf
+size-most x from count = omega arith
+
+-- the four starts and turns of the burst order
+pub four : (P : ℕ → Type 0) → P 0 → P 1 → P 2 → P 3 → (n : ℕ) → n < 4 → P n
+four P p0 p1 p2 p3 zero h = p0
+four P p0 p1 p2 p3 (suc zero) h = p1
+four P p0 p1 p2 p3 (suc (suc zero)) h = p2
+four P p0 p1 p2 p3 (suc (suc (suc zero))) h = p3
+four P p0 p1 p2 p3 (suc (suc (suc (suc n)))) h = absurd (omega arith)
+
+-- an offset of the burst order is that of a doubleword of the line
+abbrev Whole : ℕ → Type 0
+Whole from = (from % 4 ≡ 0) × (from < 16)
+
+pub burst-whole : (start turn : ℕ) → start < 4 → turn < 4 → Whole (burstAt start turn)
+unfolding burst
+burst-whole start turn sl tl =
+    four (λ s. Whole (burstAt s turn))
+    (four (λ t. Whole (burstAt 0 t)) at0 at4 at8 at12 turn tl)
+    (four (λ t. Whole (burstAt 1 t)) at4 at0 at12 at8 turn tl)
+    (four (λ t. Whole (burstAt 2 t)) at8 at12 at0 at4 turn tl)
+    (four (λ t. Whole (burstAt 3 t)) at12 at8 at4 at0 turn tl)
+    start
+    sl
+  where
+    at0 : Whole 0
+    at0 = (refl, omega arith)
+
+    at4 : Whole 4
+    at4 = (refl, omega arith)
+
+    at8 : Whole 8
+    at8 = (refl, omega arith)
+
+    at12 : Whole 12
+    at12 = (refl, omega arith)
+
+-- the burst order is its first doubleword and those after it
+pub burst-later : (start : ℕ) → start < 4 → burst start ≡ run (start * 4) 4 ∷ later start 0 3
+unfolding burst later
+burst-later start sl = four (λ s. burst s ≡ run (s * 4) 4 ∷ later s 0 3) refl refl refl refl start sl
+
+-- the turn after a cycle, by what the cycle left
+module _ (start : ℕ) (t : Turn) (x : ℕ) where
+  abbrev size : ℕ
+  size = sizeOf x (run (t .from) (t .count))
+
+  abbrev pub doneTurn : Turn
+  doneTurn = record { from = t .from; count = 0; turn = t .turn; left = 0; used = t .used + 1; answer = x }
+
+  abbrev pub wholeTurn : Turn
+  wholeTurn =
+      record {
+        from = burstAt start (t .turn + 1);
+        count = 4;
+        turn = t .turn + 1;
+        left = t .left - 1;
+        used = t .used + 1;
+        answer = x;
+      }
+
+  abbrev pub partTurn : Turn
+  partTurn =
+      record {
+        from = t .from + size;
+        count = t .count - size;
+        turn = t .turn;
+        left = t .left;
+        used = t .used + 1;
+        answer = x;
+      }
+
+  pub next-done : size ≡ t .count → t .left ≡ 0 → nextTurn start t x ≡ doneTurn
+  unfolding nextTurn
+  next-done e f = rw (eq-eqb _ _ e, eq-eqb _ _ f)
+
+  pub next-whole : size ≡ t .count → (t .left ≡ 0 → ⊥) → nextTurn start t x ≡ wholeTurn
+  unfolding nextTurn
+  next-whole e n = rw (eq-eqb _ _ e, ne-eqb _ _ n)
+
+  pub next-part : (size ≡ t .count → ⊥) → nextTurn start t x ≡ partTurn
+  unfolding nextTurn
+  next-part n = rw (ne-eqb _ _ n)
+
+  -- what holds of each of the three holds of the next turn
+  pub next-cases :
+      (P : Turn → Type 0) →
+      (size ≡ t .count → t .left ≡ 0 → P doneTurn) →
+      (size ≡ t .count → (t .left ≡ 0 → ⊥) → P wholeTurn) →
+      ((size ≡ t .count → ⊥) → P partTurn) →
+      P (nextTurn start t x)
+  next-cases P f g h =
+      same-or _ size (t .count)
+      (λ e. same-or _ (t .left) 0 (λ k. rw (next-done e k) (f e k)) (λ n. rw (next-whole e n) (g e n)))
+      (λ n. rw (next-part n) (h n))
+
+  pub next-used : (nextTurn start t x .used ≡ t .used + 1) × (nextTurn start t x .answer ≡ x)
+  next-used = next-cases (λ r. (r .used ≡ t .used + 1) × (r .answer ≡ x)) (λ _ _. (refl, refl)) (λ _ _. (refl, refl)) (λ _. (refl, refl))
+
+  pub next-ready : (n : ℕ) → start < 4 → 0 < t .count → Ready t n → Ready (nextTurn start t x) n
+  next-ready n sl some r =
+      let k = size-some x (t .from) (t .count) some in
+      let m = size-most x (t .from) (t .count) in
+      next-cases (λ u. Ready u n)
+      (λ e z. record { lanes = omega (arith, r .lanes); line = r .line; turns = omega (arith, r .turns); enough = omega (arith, r .enough) })
+      (λ e z.
+      let b = burst-whole start (t .turn + 1) sl (omega (arith, r .turns)) in
+      record { lanes = omega arith; line = b .1; turns = omega (arith, r .turns); enough = omega (arith, r .enough) })
+      (λ z. record { lanes = omega (arith, r .lanes); line = omega (arith, r .lanes, r .line); turns = r .turns; enough = omega (arith, r .enough) })
+
+-- what is wanted at a turn: nothing exactly where the count is 0
+pub wanted-some : (start : ℕ) (t : Turn) → 0 < t .count → wantedAt start t ≡ run (t .from) (t .count) ∷ later start (t .turn) (t .left)
+unfolding wantedAt
+wanted-some start t h = rw (ne-eqb (t .count) 0 (λ e. omega arith))
+
+pub wanted-none : (start : ℕ) (t : Turn) → t .count ≡ 0 → wantedAt start t ≡ []
+unfolding wantedAt
+wanted-none start t e = rw (eq-eqb (t .count) 0 e)
+
+none-count : (start : ℕ) (t : Turn) → none (wantedAt start t) ≡ eqb (t .count) 0
+unfolding wantedAt
+none-count start t =
+    by-test (λ b. none (cond b [] (run (t .from) (t .count) ∷ later start (t .turn) (t .left))) ≡ b) (eqb (t .count) 0) (λ _. refl) (λ _. refl)
+
+later-none : (start turn n : ℕ) → n ≡ 0 → later start turn n ≡ []
+unfolding later
+later-none start turn n e = rw e
+
+-- the doublewords after a turn are the next one and those after it
+later-next : (start turn n : ℕ) → (n ≡ 0 → ⊥) → later start turn n ≡ run (burstAt start (turn + 1)) 4 ∷ later start (turn + 1) (n - 1)
+unfolding later
+later-next start turn zero z = absurd (z refl)
+later-next start turn (suc n) z = let e : suc n - 1 ≡ n = omega arith in rw e
+
+-- the next turn wants what a cycle left
+module _ (start : ℕ) (t : Turn) (x : ℕ) (some : 0 < t .count) where
+  abbrev after : List Run
+  after = later start (t .turn) (t .left)
+
+  pub wanted-next : wantedAt start (nextTurn start t x) ≡ left x (run (t .from) (t .count)) after
+  unfolding left
+  wanted-next =
+      let m = size-most x (t .from) (t .count) in
+      next-cases start t x (λ u. wantedAt start u ≡ left x (run (t .from) (t .count)) after)
+      (λ e z. wanted-none start (doneTurn start t x) refl ∙ sym (later-none start (t .turn) (t .left) z) ∙ sym (cond-true _ _ _ (eq-eqb _ _ e)))
+      (λ e z. wanted-some start (wholeTurn start t x) (omega arith) ∙ sym (later-next start (t .turn) (t .left) z) ∙ sym (cond-true _ _ _ (eq-eqb _ _ e)))
+      (λ z. wanted-some start (partTurn start t x) (omega arith) ∙ sym (cond-false _ _ _ (ne-eqb _ _ z)))
+
+  -- a cycle is the last exactly where the next turn wants nothing
+  pub last-next : eqb (nextTurn start t x .count) 0 ≡ none (left x (run (t .from) (t .count)) after)
+  last-next = sym (none-count start (nextTurn start t x)) ∙ ap none wanted-next
+
+-- the burst order picked by turn, then by start
+pub burst-picked : (start turn a b c d : ℕ) → start < 4 → turn < 4 →
+    a ≡ getD (0 ∷ 4 ∷ 8 ∷ 12 ∷ []) turn 0 →
+    b ≡ getD (4 ∷ 0 ∷ 12 ∷ 8 ∷ []) turn 0 →
+    c ≡ getD (8 ∷ 12 ∷ 0 ∷ 4 ∷ []) turn 0 →
+    d ≡ getD (12 ∷ 8 ∷ 4 ∷ 0 ∷ []) turn 0 →
+    getD (a ∷ b ∷ c ∷ d ∷ []) start 0 ≡ burstAt start turn
+unfolding burst
+burst-picked start turn a b c d sl tl ea eb ec ed =
+    four (λ s. getD (a ∷ b ∷ c ∷ d ∷ []) s 0 ≡ burstAt s turn)
+    (ea ∙ four (λ t. getD (0 ∷ 4 ∷ 8 ∷ 12 ∷ []) t 0 ≡ burstAt 0 t) refl refl refl refl turn tl)
+    (eb ∙ four (λ t. getD (4 ∷ 0 ∷ 12 ∷ 8 ∷ []) t 0 ≡ burstAt 1 t) refl refl refl refl turn tl)
+    (ec ∙ four (λ t. getD (8 ∷ 12 ∷ 0 ∷ 4 ∷ []) t 0 ≡ burstAt 2 t) refl refl refl refl turn tl)
+    (ed ∙ four (λ t. getD (12 ∷ 8 ∷ 4 ∷ 0 ∷ []) t 0 ≡ burstAt 3 t) refl refl refl refl turn tl)
+    start
+    sl

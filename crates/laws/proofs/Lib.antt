@@ -1,0 +1,2 @@
+-- Plain laws that the proofs of every crate cite.
+pub mod Tests
