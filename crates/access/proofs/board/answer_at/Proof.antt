@@ -1,0 +1,15 @@
+use Rattle.access.specs.Board.{answerAt}
+use mathlib.Core.Path.{refl}
+use borrow.Author.Needs.{needs}
+use Rattle.access.proofs.board.answer_at.Statement.{statement}
+use Rattle.access.proofs.board.answer_at.Tie as tie
+
+array-read-result : tie.Need-array-read-result
+array-read-result c = search needs
+
+returns : tie.Need-returns
+unfolding answerAt
+returns c = refl
+
+pub answer-at-spec : {M : Type 1} → statement M
+answer-at-spec = tie.close (tie.spec array-read-result returns)

@@ -1,0 +1,12 @@
+use borrow.Author.Needs.{needs}
+use Rattle.access.proofs.master.flush.Statement.{statement}
+use Rattle.access.proofs.master.flush.Tie as tie
+
+flushed-requires : tie.Need-flushed-requires
+flushed-requires c κs = search needs
+
+returns : tie.Need-returns
+returns c = rw (c .flushed .ensures)
+
+pub flush-spec : {M : Type 1} → statement M
+flush-spec = tie.close (tie.spec flushed-requires returns)
