@@ -10,7 +10,7 @@ use lib.ListN.{length, getD, drop}
 use lib.Seq.{drop-cons, sets, length-sets}
 use Rattle.bus.specs.declared.cycle.Turn.{Turn}
 use Rattle.bus.specs.Bytes.{bytesAt, wordIn}
-use Rattle.bus.specs.Parity.{Memory, wrongIn}
+use Rattle.bus.specs.Parity.{Memory, stored, wrongIn}
 use Rattle.bus.specs.Bus.{Run, run, sizeOf, left, none, Cycle, cyclesOf, lastAnswer, through, brought, sent}
 use Rattle.bus.specs.Record.{Record, flagsOf, readRecord, writeRecord, wordsOf, logged, writing}
 use Rattle.bus.specs.Turns.{later, wantedAt, nextTurn, cycleAt, Ready, Room, ReadCycle, ReadCycles, WriteCycle, WriteCycles}
@@ -65,3 +65,83 @@ module _ {S : Type 0} (f : Run → S → S) (make : Cycle → Record) (start fir
     pub ends : lastAnswer (t .answer) (restAt start xs t) ≡ lastAnswer 0 (restAt start xs begin)
     pub ready : Ready t (length xs)
     pub lengths : length log ≡ length log₀
+
+  pub kept-begin : (begin : Turn) (log₀ : List ℕ) (s₀ : S) → begin .used ≡ 0 → begin .answer ≡ 0 → Ready begin (length xs) → Kept begin log₀ s₀ begin log₀ s₀
+  kept-begin begin log₀ s₀ e a r =
+      let n : first + begin .used ≡ first = omega arith in
+      record {
+        logs = rw n;
+        works = refl;
+        made = omega arith;
+        ends = rw a;
+        ready = r;
+        lengths = refl;
+      }
+
+  pub used-more : (t : Turn) → Ready t (length xs) → 0 < t .count → t .used < length xs
+  used-more t r some = omega (arith, r .enough)
+
+  pub kept-next : {begin : Turn} {log₀ : List ℕ} {s₀ : S} {t : Turn} {log : List ℕ} {s : S} (u : Turn) (log′ : List ℕ) (s′ : S) →
+      start < 4 → 0 < t .count → Kept begin log₀ s₀ t log s →
+      u ≡ nextTurn start t (getD xs (t .used) 0) →
+      log′ ≡ logged log (first + t .used) (make (cycleAt start t (getD xs (t .used) 0)) ∷ []) →
+      s′ ≡ f (cycleAt start t (getD xs (t .used) 0) .moved) s →
+      Kept begin log₀ s₀ u log′ s′
+  unfolding through lastAnswer
+  kept-next {begin} {log₀} {s₀} {t} {log} {s} u log′ s′ sl some k eu el es =
+      let x = getD xs (t .used) 0 in
+      let more = used-more t (k .ready) some in
+      let r : restAt start xs t ≡ cycleAt start t x ∷ restAt start xs u = rest-next start xs t some more ∙ rw eu in
+      let n = next-used start t x in
+      let uu : u .used ≡ t .used + 1 = rw eu (n .0) in
+      let ua : u .answer ≡ x = rw eu (n .1) in
+      let at : first + u .used ≡ first + t .used + 1 = omega arith in
+      record {
+        logs = rw (at, el, ← logged-cons log (first + t .used) (make (cycleAt start t x)) (map make (restAt start xs u))) (rw r at (k .logs));
+        works = rw es (rw r at (k .works));
+        made = let m = rw r at (k .made) in omega arith;
+        ends = ap (λ (y : ℕ). lastAnswer y (restAt start xs u)) ua ∙ (rw r at (k .ends));
+        ready = rw eu (next-ready start t x (length xs) sl some (k .ready));
+        lengths = rw el (length-sets log (3 * (first + t .used)) _ ∙ k .lengths);
+      }
+
+  pub kept-end : {begin : Turn} {log₀ : List ℕ} {s₀ : S} {t : Turn} {log : List ℕ} {s : S} → t .count ≡ 0 → Kept begin log₀ s₀ t log s →
+      (log ≡ logged log₀ first (map make (restAt start xs begin)))
+      × (s ≡ through f (restAt start xs begin) s₀)
+      × (t .used ≡ length (restAt start xs begin))
+      × (t .answer ≡ lastAnswer 0 (restAt start xs begin))
+  unfolding through lastAnswer wordsOf
+  kept-end {t = t} z k =
+      let r = rest-done start xs t z in
+      (rw r at (k .logs), rw r at (k .works), (let m = rw r at (k .made) in omega arith), rw r at (k .ends))
+
+-- one read cycle of the code, from what its parts leave
+module _ (kind : ℕ) (m : Memory) (start line first : ℕ) (t : Turn) (x : ℕ) (log₀ buffer₀ : List ℕ) where
+  pub read-cycle-left : {size address flags word : ℕ} {wrong : Bool} {next : Turn} {log buffer : List ℕ} →
+      size ≡ sizeOf x (run (t .from) (t .count)) →
+      next ≡ nextTurn start t x →
+      wrong ≡ wrongIn m (line + t .from) size →
+      flags ≡ flagsOf (t .from % 4) size kind (eqb (next .count) 0) wrong →
+      address ≡ line + t .from / 4 * 4 →
+      word ≡ wordIn (t .from % 4) (bytesAt (m .ram) (line + t .from) size) →
+      log ≡ logged log₀ (first + t .used) (record { address = address; flags = flags; word = word } ∷ []) →
+      buffer ≡ sets buffer₀ (t .from) (bytesAt (m .ram) (line + t .from) size) →
+      ReadCycle kind m start line first t x log₀ buffer₀ next log buffer
+  unfolding readRecord
+  read-cycle-left es en ew ef ea ed el eb =
+      record { turn = en; logs = rw (el, ed, ef, ew, ea, en, es); brings = rw (eb, es) }
+
+-- one write cycle of the code
+module _ (buffer : List ℕ) (line first : ℕ) (t : Turn) (x : ℕ) (m₀ : Memory) (log₀ : List ℕ) where
+  pub write-cycle-left : {size address flags word : ℕ} {next : Turn} {m : Memory} {log : List ℕ} →
+      size ≡ sizeOf x (run (t .from) (t .count)) →
+      next ≡ nextTurn 0 t x →
+      flags ≡ flagsOf (t .from % 4) size 16 (eqb (next .count) 0) false →
+      address ≡ line + t .from / 4 * 4 →
+      word ≡ wordIn (t .from % 4) (bytesAt buffer (t .from) size) →
+      log ≡ logged log₀ (first + t .used) (record { address = address; flags = flags; word = word } ∷ []) →
+      m ≡ stored m₀ (line + t .from) (bytesAt buffer (t .from) size) →
+      WriteCycle buffer line first t x m₀ log₀ next m log
+  unfolding writeRecord
+  write-cycle-left es en ef ea ed el em =
+      record { turn = en; logs = rw (el, ed, ef, ea, en, es); sends = rw (em, es) }
