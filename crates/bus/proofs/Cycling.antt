@@ -102,7 +102,7 @@ module _ {S : Type 0} (f : Run → S → S) (make : Cycle → Record) (start fir
         made = let m = rw r at (k .made) in omega arith;
         ends = ap (λ (y : ℕ). lastAnswer y (restAt start xs u)) ua ∙ (rw r at (k .ends));
         ready = rw eu (next-ready start t x (length xs) sl some (k .ready));
-        lengths = rw el (length-sets log (3 * (first + t .used)) _ ∙ k .lengths);
+        lengths = rw el (length-sets log (3 * (first + t .used)) (wordsOf (make (cycleAt start t x) ∷ [])) ∙ k .lengths);
       }
 
   pub kept-end : {begin : Turn} {log₀ : List ℕ} {s₀ : S} {t : Turn} {log : List ℕ} {s : S} → t .count ≡ 0 → Kept begin log₀ s₀ t log s →
