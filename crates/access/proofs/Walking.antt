@@ -127,11 +127,11 @@ module _ (one : State → Doubleword → Done) (xs : List ℕ) where
         record {
           states = rw es (sym (ap (λ (q : Progress). q .state) a) ∙ g .states);
           logs =
-            rw (es, el)
-            (ap (λ (i : ℕ). logged (logged log (walk .records) (one s w .records)) i (rest .records)) k
-            ∙ sym (logged-append log (walk .records) (one s w .records) (rest .records))
-            ∙ sym (ap (λ (q : Progress). logged log (walk .records) (q .records)) a)
-            ∙ g .logs);
+              rw (es, el)
+              (ap (λ (i : ℕ). logged (logged log (walk .records) (one s w .records)) i (rest .records)) k
+              ∙ sym (logged-append log (walk .records) (one s w .records) (rest .records))
+              ∙ sym (ap (λ (q : Progress). logged log (walk .records) (q .records)) a)
+              ∙ g .logs);
           made = rw es (omega (arith, g .made));
         }
 
