@@ -25,6 +25,13 @@ zero-or a b z = cond-true _ _ _ (eq-eqb a 0 z)
 pub first-or : (a b : ℕ) → (a ≡ 0 → ⊥) → orElse a b ≡ a
 first-or a b n = cond-false _ _ _ (ne-eqb a 0 n)
 
+-- three numbers in order, however they are grouped
+pub or-grouped : (a b c : ℕ) → orElse (orElse a b) c ≡ orElse a (orElse b c)
+or-grouped a b c =
+    same-or _ a 0
+    (λ z. let e = zero-or a b z in let k = zero-or a (orElse b c) z in rw (e, k))
+    (λ n. let e = first-or a b n in let k = first-or a (orElse b c) n in rw (e, k) (first-or a c n))
+
 when-zero : (b : Bool) (n : ℕ) → 0 < n → when b n ≡ 0 → b ≡ false
 when-zero true n h e = absurd (omega arith)
 when-zero false n h e = refl

@@ -5,4 +5,5 @@ pub mod Accepted
 pub mod Doublewords
 pub mod Walking
 pub mod Values
+pub mod Calls
 pub mod Bench

@@ -17,8 +17,10 @@ use Rattle.access.specs.declared.walk.Walk.{Walk}
 use Rattle.access.specs.declared.walk.Walked.{Walked}
 use Rattle.access.specs.Groups.{group, groups}
 use Rattle.access.specs.Doubleword.{Doubleword, Done, doublewordsOf, changed}
-use Rattle.access.specs.Access.{State, state, Progress, allOf, next}
-use Rattle.access.specs.Walks.{doublewordOf, Spot, wantedOf, nextWalk, restOf, Path}
+use Rattle.access.specs.Access.{State, state, Progress, allOf, next, readOne, writeOne}
+use Rattle.access.specs.Walks.{doublewordOf, Spot, Reads, Writes, wantedOf, nextWalk, restOf, Path, ReadsAll, WritesAll}
+use Rattle.access.proofs.Doublewords.{one-memory}
+use Rattle.access.proofs.Values.{one-length}
 
 -- lists put in one after the other
 pub sets-append : {A : Type 0} (l : List A) (i : ℕ) (a b : List A) → sets l i (a ++ b) ≡ sets (sets l i a) (i + length a) b
@@ -226,3 +228,137 @@ module _ (walk : Walk) (ram parity array answers log operand : ℕ) (z : Path wa
         operands = omega (arith, z .operands);
         four = z .four;
       }
+
+-- the group of answers that the code takes is the rules'
+pub group-is : (xs : List ℕ) (from to : ℕ) → to ≡ from + 16 → take (to - from) (drop from xs) ≡ take group (drop from xs)
+group-is xs from to e = let k : to - from ≡ 16 = omega arith in ap (λ (n : ℕ). take n (drop from xs)) k
+
+pub group-length : (xs : List ℕ) (from to : ℕ) → to ≡ from + 16 → from + 16 ≤ length xs → length (take (to - from) (drop from xs)) ≡ group
+group-length xs from to e l =
+    let k : to - from ≡ 16 = omega arith in
+    length-take (to - from) (drop from xs) ∙ rw (length-drop from xs) (omega arith)
+
+-- what the loop of a read keeps
+module _ (pcd : Bool) (xs : List ℕ) where
+  pub record ReadGoing (p : Progress) (log₀ operand₀ : List ℕ) (walk : Walk) (s : State) (log operand : List ℕ) : Type 0 where
+    pub going : Going (readOne pcd) xs p log₀ walk s log
+    pub bytes : sets operand (walk .place) (allOf (readOne pcd) s (restOf walk xs) .bytes) ≡ sets operand₀ 0 (p .bytes)
+
+  pub reading-begin : (walk : Walk) (s : State) (log₀ operand₀ : List ℕ) → walk .records ≡ 0 → walk .place ≡ 0 →
+      ReadGoing (allOf (readOne pcd) s (restOf walk xs)) log₀ operand₀ walk s log₀ operand₀
+  reading-begin walk s log₀ operand₀ e f =
+      record {
+        going = going-begin (readOne pcd) xs walk s log₀ e;
+        bytes = ap (λ (i : ℕ). sets operand₀ i (allOf (readOne pcd) s (restOf walk xs) .bytes)) f;
+      }
+
+  -- one doubleword of the code, read by the rules
+  pub reading-next : {p : Progress} {log₀ operand₀ : List ℕ} (walk : Walk) (d : Directory) (m : Memory) (array log operand : List ℕ) →
+      (w : Wanted) (given : List ℕ) (r : Moved) (d′ : Directory) (array′ log′ operand′ : List ℕ) (u : Walk) →
+      0 < walk .left → walk .group < groups →
+      ReadGoing p log₀ operand₀ walk (state d m array) log operand →
+      w ≡ wantedOf walk → given ≡ groupAt walk xs →
+      Reads (readOne pcd (state d m array) (doublewordOf w given)) (w .place) (walk .records) log operand r array′ log′ operand′ →
+      d′ ≡ changed d (w .line) (r .change) →
+      u ≡ nextWalk walk (w .count) (r .records) →
+      ReadGoing p log₀ operand₀ u (state d′ m array′) log′ operand′
+  reading-next {p} {log₀} {operand₀} walk d m array log operand w given r d′ array′ log′ operand′ u some more g ew eg k ed eu =
+      let here = doublewordOf (wantedOf walk) (groupAt walk xs) in
+      let s = state d m array in
+      let k′ : Reads (readOne pcd s here) (walk .place) (walk .records) log operand r array′ log′ operand′ = rw (ew, eg) at k in
+      let c : d′ ≡ changed d (here .line) (readOne pcd s here .change) = ed ∙ ap (λ (x : Wanted). changed d (x .line) (r .change)) ew ∙ ap (changed d (here .line)) (k′ .change) in
+      let mm : readOne pcd s here .memory ≡ m = one-memory pcd s here in
+      let es : state d′ m array′ ≡ next s here (readOne pcd s here) =
+          ap (λ (x : Directory). state x m array′) c
+          ∙ ap (λ (x : Memory). state (changed d (here .line) (readOne pcd s here .change)) x array′) (sym mm)
+          ∙ ap (λ (x : List ℕ). state (changed d (here .line) (readOne pcd s here .change)) (readOne pcd s here .memory) x) (k′ .arrays) in
+      let eu′ : u ≡ nextWalk walk (min (walk .left) (4 - walk .address % 4)) (r .records) = eu ∙ ap (λ (x : Wanted). nextWalk walk (x .count) (r .records)) ew in
+      rw eu′
+      (record {
+        going = going-next (readOne pcd) xs walk s log some more (state d′ m array′) log′ (r .records) (g .going) es (k′ .logs) (k′ .made);
+        bytes = bytes-next (readOne pcd) xs walk s log some more p operand operand′ operand₀ (state d′ m array′) (r .records) (g .bytes) es (k′ .bytes) (one-length pcd s here);
+      })
+
+-- one doubleword of the code, written by the rules
+pub writing-next : (operand xs : List ℕ) {p : Progress} {log₀ : List ℕ} (walk : Walk) (d : Directory) (m : Memory) (array log : List ℕ) →
+    (w : Wanted) (given : List ℕ) (r : Moved) (d′ : Directory) (m′ : Memory) (array′ log′ : List ℕ) (u : Walk) →
+    0 < walk .left → walk .group < groups →
+    Going (writeOne operand) xs p log₀ walk (state d m array) log →
+    w ≡ wantedOf walk → given ≡ groupAt walk xs →
+    Writes (writeOne operand (state d m array) (doublewordOf w given)) (walk .records) log r m′ array′ log′ →
+    d′ ≡ changed d (w .line) (r .change) →
+    u ≡ nextWalk walk (w .count) (r .records) →
+    Going (writeOne operand) xs p log₀ u (state d′ m′ array′) log′
+writing-next operand xs walk d m array log w given r d′ m′ array′ log′ u some more g ew eg k ed eu =
+    let here = doublewordOf (wantedOf walk) (groupAt walk xs) in
+    let s = state d m array in
+    let k′ : Writes (writeOne operand s here) (walk .records) log r m′ array′ log′ = rw (ew, eg) at k in
+    let c : d′ ≡ changed d (here .line) (writeOne operand s here .change) = ed ∙ ap (λ (x : Wanted). changed d (x .line) (r .change)) ew ∙ ap (changed d (here .line)) (k′ .change) in
+    let es : state d′ m′ array′ ≡ next s here (writeOne operand s here) =
+        ap (λ (x : Directory). state x m′ array′) c
+        ∙ ap (λ (x : Memory). state (changed d (here .line) (writeOne operand s here .change)) x array′) (k′ .memories)
+        ∙ ap (λ (x : List ℕ). state (changed d (here .line) (writeOne operand s here .change)) (writeOne operand s here .memory) x) (k′ .arrays) in
+    let eu′ : u ≡ nextWalk walk (min (walk .left) (4 - walk .address % 4)) (r .records) = eu ∙ ap (λ (x : Wanted). nextWalk walk (x .count) (r .records)) ew in
+    rw eu′ (going-next (writeOne operand) xs walk s log some more (state d′ m′ array′) log′ (r .records) g es (k′ .logs) (k′ .made))
+
+-- where nothing is left the loops have left what all doublewords leave
+pub reading-end : (pcd : Bool) (xs : List ℕ) {p : Progress} {log₀ operand₀ : List ℕ} (walk : Walk) (d : Directory) (m : Memory) (array log operand : List ℕ) →
+    walk .left ≡ 0 → walk .records ≤ 32 → ReadGoing pcd xs p log₀ operand₀ walk (state d m array) log operand →
+    ReadsAll p log₀ operand₀ (record { directory = d; records = walk .records }) m array log operand
+unfolding allOf
+reading-end pcd xs walk d m array log operand z l g =
+    let e = going-end (readOne pcd) xs walk (state d m array) log z (g .going) in
+    let r = rest-done walk xs z in
+    record { states = e .0; logs = e .1; bytes = rw r at (g .bytes); made = e .2; most = l }
+
+pub writing-end : (operand xs : List ℕ) {p : Progress} {log₀ : List ℕ} (walk : Walk) (d : Directory) (m : Memory) (array log : List ℕ) →
+    walk .left ≡ 0 → walk .records ≤ 32 → Going (writeOne operand) xs p log₀ walk (state d m array) log →
+    WritesAll p log₀ (record { directory = d; records = walk .records }) m array log
+writing-end operand xs walk d m array log z l g =
+    let e = going-end (writeOne operand) xs walk (state d m array) log z g in
+    record { states = e .0; logs = e .1; made = e .2; most = l }
+
+-- the code's next walk
+module _ (walk u : Walk) (w : Wanted) (n : ℕ) (some : 0 < walk .left) (ew : w ≡ wantedOf walk) (eu : u ≡ nextWalk walk (w .count) n) where
+  walk-next : u ≡ nextWalk walk (min (walk .left) (4 - walk .address % 4)) n
+  walk-next = eu ∙ ap (λ (x : Wanted). nextWalk walk (x .count) n) ew
+
+  pub walk-less : u .left < walk .left
+  walk-less = rw walk-next (omega arith)
+
+  pub walk-path : (ram parity array answers log operand : ℕ) → n ≤ group → Path walk ram parity array answers log operand → Path u ram parity array answers log operand
+  walk-path ram parity array answers log operand l z = rw walk-next (path-next walk ram parity array answers log operand z some n l)
+
+-- what the code's next walk needs
+pub record Steps (walk : Walk) (w : Wanted) (n : ℕ) : Type 0 where
+  pub count : w .count ≤ walk .left
+  pub address : walk .address + walk .left < 4294967296
+  pub group : walk .group < 64
+  pub place : walk .place < 64
+  pub left : walk .left ≤ 64
+  pub records : walk .records ≤ 64
+  pub made : n ≤ 64
+
+pub walk-steps : (walk : Walk) (w : Wanted) (n ram parity array answers log operand : ℕ) → 0 < walk .left → w ≡ wantedOf walk → n ≤ 16 →
+    Path walk ram parity array answers log operand → Steps walk w n
+walk-steps walk w n ram parity array answers log operand some ew l z =
+    let c : w .count ≡ min (walk .left) (4 - walk .address % 4) = ap (λ (x : Wanted). x .count) ew in
+    record {
+      count = rw c (omega arith);
+      address = omega (arith, z .inside, z .small);
+      group = omega (arith, z .last);
+      place = omega (arith, z .operands, z .four);
+      left = omega (arith, z .operands, z .four);
+      records = omega (arith, z .made, z .last);
+      made = omega arith;
+    }
+
+-- what the next doubleword's code needs
+pub walk-spot : (walk : Walk) (w : Wanted) (ram parity array answers log₀ log operand₀ operand given : ℕ) → 0 < walk .left → w ≡ wantedOf walk →
+    Path walk ram parity array answers log₀ operand₀ → log ≡ log₀ → operand ≡ operand₀ → given ≡ group →
+    Spot w (walk .records) ram parity given log × (w .place + w .count ≤ operand)
+walk-spot walk w ram parity array answers log₀ log operand₀ operand given some ew z el eo eg =
+    rw (ew, el, eo) (path-spot walk ram parity array answers log₀ operand₀ z some given eg, room (walk .place) (walk .left) _ operand₀ (z .operands))
+  where
+    room : (place left r operand : ℕ) → place + left ≤ operand → place + min left r ≤ operand
+    room place left r operand h = omega arith
