@@ -269,9 +269,9 @@ module _ (pcd : Bool) (xs : List ℕ) where
       let c : d′ ≡ changed d (here .line) (readOne pcd s here .change) = ed ∙ ap (λ (x : Wanted). changed d (x .line) (r .change)) ew ∙ ap (changed d (here .line)) (k′ .change) in
       let mm : readOne pcd s here .memory ≡ m = one-memory pcd s here in
       let es : state d′ m array′ ≡ next s here (readOne pcd s here) =
-          ap (λ (x : Directory). state x m array′) c
-          ∙ ap (λ (x : Memory). state (changed d (here .line) (readOne pcd s here .change)) x array′) (sym mm)
-          ∙ ap (λ (x : List ℕ). state (changed d (here .line) (readOne pcd s here .change)) (readOne pcd s here .memory) x) (k′ .arrays) in
+      ap (λ (x : Directory). state x m array′) c
+      ∙ ap (λ (x : Memory). state (changed d (here .line) (readOne pcd s here .change)) x array′) (sym mm)
+      ∙ ap (λ (x : List ℕ). state (changed d (here .line) (readOne pcd s here .change)) (readOne pcd s here .memory) x) (k′ .arrays) in
       let eu′ : u ≡ nextWalk walk (min (walk .left) (4 - walk .address % 4)) (r .records) = eu ∙ ap (λ (x : Wanted). nextWalk walk (x .count) (r .records)) ew in
       rw eu′
       (record {
@@ -295,9 +295,9 @@ writing-next operand xs walk d m array log w given r d′ m′ array′ log′ u
     let k′ : Writes (writeOne operand s here) (walk .records) log r m′ array′ log′ = rw (ew, eg) at k in
     let c : d′ ≡ changed d (here .line) (writeOne operand s here .change) = ed ∙ ap (λ (x : Wanted). changed d (x .line) (r .change)) ew ∙ ap (changed d (here .line)) (k′ .change) in
     let es : state d′ m′ array′ ≡ next s here (writeOne operand s here) =
-        ap (λ (x : Directory). state x m′ array′) c
-        ∙ ap (λ (x : Memory). state (changed d (here .line) (writeOne operand s here .change)) x array′) (k′ .memories)
-        ∙ ap (λ (x : List ℕ). state (changed d (here .line) (writeOne operand s here .change)) (writeOne operand s here .memory) x) (k′ .arrays) in
+    ap (λ (x : Directory). state x m′ array′) c
+    ∙ ap (λ (x : Memory). state (changed d (here .line) (writeOne operand s here .change)) x array′) (k′ .memories)
+    ∙ ap (λ (x : List ℕ). state (changed d (here .line) (writeOne operand s here .change)) (writeOne operand s here .memory) x) (k′ .arrays) in
     let eu′ : u ≡ nextWalk walk (min (walk .left) (4 - walk .address % 4)) (r .records) = eu ∙ ap (λ (x : Wanted). nextWalk walk (x .count) (r .records)) ew in
     rw eu′ (going-next (writeOne operand) xs walk s log some more (state d′ m′ array′) log′ (r .records) g es (k′ .logs) (k′ .made))
 
