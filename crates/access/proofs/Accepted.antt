@@ -8,7 +8,7 @@ use lib.Dec.{eqb, ltb}
 use lib.ListN.{length}
 use borrow.Author.Tests.{eq-eqb, ne-eqb, eqb-true, eqb-false, ltb-false, not-false}
 use Rattle.laws.proofs.Tests.{neither, cond-true, cond-false, same-or, by-test}
-use Rattle.access.specs.Groups.{group, groups}
+use Rattle.bus.specs.Groups.{group, groups}
 use Rattle.access.specs.Refusal.{when, orElse, badRam, memoryNumber, lentNumber, badWidth, badAnswers, anyAbove, argumentNumber, externalNumber}
 
 -- neither of two numbers is met

@@ -15,7 +15,7 @@ use Rattle.bus.specs.Bytes.{bytesAt, valueOf, bytesOf}
 use Rattle.bus.specs.Parity.{Memory, memory, onesOf, dpOf, laneBit, dpAt, withDp, put, stored, wrongAt, wrongIn}
 use Rattle.bus.specs.Bus.{room, sizeOf, left, cyclesOf, burst, lastAnswer, through}
 use Rattle.bus.specs.Record.{lanesOf, flagsOf, readRecord, writeRecord, wordsOf}
-use Rattle.access.specs.Doubleword.{doublewordsOf, changed, readHit, readPlain, readFill, readDone, writeThrough, hitArray, writeDone}
+use Rattle.doubleword.specs.Doubleword.{doublewordsOf, changed, readHit, readPlain, readFill, readDone, writeThrough, hitArray, writeDone}
 use Rattle.access.specs.Refusal.{memoryNumber, lentNumber, anyAbove, argumentNumber, valueNumber, statesIn}
 use Rattle.access.specs.Access.{State, state, readOne, writeOne, allOf, After, readNumber, writeNumber, readAll, writeAll, readCall, writeCall}
 

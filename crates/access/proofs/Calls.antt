@@ -14,8 +14,8 @@ use Rattle.bus.specs.Parity.{Memory, stored}
 use Rattle.bus.specs.Record.{logged}
 use Rattle.access.specs.declared.walk.Walk.{Walk}
 use Rattle.access.specs.declared.walk.Walked.{Walked}
-use Rattle.access.specs.Groups.{group, groups}
-use Rattle.access.specs.Doubleword.{doublewordsOf}
+use Rattle.bus.specs.Groups.{group, groups}
+use Rattle.doubleword.specs.Doubleword.{doublewordsOf}
 use Rattle.access.specs.Refusal.{orElse, memoryNumber, externalNumber, statesOf, lentNumber, argumentNumber, valueNumber}
 use Rattle.access.specs.Access.{State, state, Progress, allOf, readOne, writeOne, After, after, outcome, refused, accepted, readNumber, writeNumber, readAll, writeAll, operandOf, readCall, writeCall}
 use Rattle.access.specs.Masters.{Written, written, masterNumber, externalCall}

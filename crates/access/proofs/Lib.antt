@@ -2,8 +2,7 @@
 pub mod Numbers
 pub mod Filling
 pub mod Accepted
-pub mod Doublewords
-pub mod Walking
 pub mod Values
+pub mod Walking
 pub mod Calls
 pub mod Bench

@@ -12,8 +12,9 @@ use Rattle.directory.specs.declared.ways.Found.the-variants.{At, Nothing}
 use Rattle.bus.specs.Bytes.{bytesAt, valueOf}
 use Rattle.bus.specs.Parity.{Memory}
 use Rattle.bus.specs.Bus.{ken}
-use Rattle.access.specs.Groups.{group}
-use Rattle.access.specs.Doubleword.{Doubleword, doublewordsOf, readDone, readHit, readFill, readPlain}
+use Rattle.bus.specs.Groups.{group}
+use Rattle.doubleword.specs.Doubleword.{Doubleword, doublewordsOf, readDone, readHit, readFill, readPlain}
+use Rattle.doubleword.proofs.Doublewords.{read-memory}
 use Rattle.access.specs.Access.{State, next, readOne, allOf}
 
 bytes-length : (l : List ℕ) (i n : ℕ) → length (bytesAt l i n) ≡ n
@@ -35,6 +36,11 @@ read-length Nothing victim may m array w =
 pub one-length : (pcd : Bool) (s : State) (w : Doubleword) → length (readOne pcd s w .bytes) ≡ w .wanted .count
 unfolding readOne
 one-length pcd s w = read-length _ _ _ _ _ w
+
+-- and leaves memory as it was
+pub one-memory : (pcd : Bool) (s : State) (w : Doubleword) → readOne pcd s w .memory ≡ s .memory
+unfolding readOne
+one-memory pcd s w = read-memory _ _ _ _ _ w
 
 -- and all of them no more than the access wants
 pub all-length : (pcd : Bool) (g : ℕ) (xs : List ℕ) (address n place : ℕ) (s : State) →

@@ -11,16 +11,16 @@ use Rattle.bus.specs.Parity.{Memory}
 use Rattle.bus.specs.Bus.{run}
 use Rattle.bus.specs.Record.{Record, logged, wordsOf}
 use Rattle.directory.specs.declared.steps.Directory.{Directory}
-use Rattle.access.specs.declared.doubleword.Moved.{Moved}
-use Rattle.access.specs.declared.doubleword.Wanted.{Wanted}
+use Rattle.doubleword.specs.declared.change.Moved.{Moved}
+use Rattle.doubleword.specs.declared.change.Wanted.{Wanted}
 use Rattle.access.specs.declared.walk.Walk.{Walk}
 use Rattle.access.specs.declared.walk.Walked.{Walked}
-use Rattle.access.specs.Groups.{group, groups}
-use Rattle.access.specs.Doubleword.{Doubleword, Done, doublewordsOf, changed}
+use Rattle.bus.specs.Groups.{group, groups}
+use Rattle.doubleword.specs.Doubleword.{Doubleword, Done, doublewordsOf, changed}
 use Rattle.access.specs.Access.{State, state, Progress, allOf, next, readOne, writeOne}
-use Rattle.access.specs.Walks.{doublewordOf, Spot, Reads, Writes, wantedOf, nextWalk, restOf, Path, ReadsAll, WritesAll}
-use Rattle.access.proofs.Doublewords.{one-memory}
-use Rattle.access.proofs.Values.{one-length}
+use Rattle.doubleword.specs.Moves.{doublewordOf, Spot, Reads, Writes}
+use Rattle.access.specs.Walks.{wantedOf, nextWalk, restOf, Path, ReadsAll, WritesAll}
+use Rattle.access.proofs.Values.{one-length, one-memory}
 
 -- lists put in one after the other
 pub sets-append : {A : Type 0} (l : List A) (i : ℕ) (a b : List A) → sets l i (a ++ b) ≡ sets (sets l i a) (i + length a) b

@@ -11,8 +11,8 @@ use Rattle.access.specs.declared.outcome.Outcome.{Outcome}
 use Rattle.bus.specs.Bytes.{valueOf, bytesOf}
 use Rattle.bus.specs.Parity.{Memory}
 use Rattle.bus.specs.Record.{Record, logged}
-use Rattle.access.specs.Doubleword.{Doubleword, doublewordsOf, changed, Done, readDone, writeDone}
-use Rattle.access.specs.Groups.{groups}
+use Rattle.doubleword.specs.Doubleword.{Doubleword, doublewordsOf, changed, Done, readDone, writeDone}
+use Rattle.bus.specs.Groups.{groups}
 use Rattle.access.specs.Refusal.{orElse, lentNumber, argumentNumber, valueNumber, statesOf}
 
 -- What a call is lent and changes: directory, RAM with its parity, data array.

@@ -8,7 +8,7 @@ use Rattle.directory.specs.declared.steps.Directory.{Directory}
 use Rattle.directory.specs.Address.{setOf}
 use Rattle.directory.specs.State.{stateIn}
 use Rattle.directory.specs.Steps.{stateOf}
-use Rattle.access.specs.Groups.{group, groups}
+use Rattle.bus.specs.Groups.{group, groups}
 
 -- A number where a test holds; and "Lowest number first": the first of two that is met.
 abbrev pub when : Bool → ℕ → ℕ

@@ -1,93 +1,19 @@
--- What the code's own state between two doublewords of an access stands for, and what the parts of a call leave.
+-- What the code's own state between two doublewords of an access stands for, and what the loops over doublewords leave.
 use Prim.Native.Nat.{ℕ, _+_, _*_, _-_, _/_, _%_, _≤_, _<_, min}
 use mathlib.Core.Path.{_≡_}
-use mathlib.Core.Bool.{Bool, cond}
-use mathlib.Core.List.{List, map}
+use mathlib.Core.Bool.{Bool}
+use mathlib.Core.List.{List}
 use lib.ListN.{length, drop}
 use lib.Seq.{sets}
-use Rattle.bus.specs.declared.cycle.Turn.{Turn}
-use Rattle.bus.specs.Bytes.{bytesAt}
+use Rattle.bus.specs.Groups.{group, groups}
 use Rattle.bus.specs.Parity.{Memory}
-use Rattle.bus.specs.Bus.{run, Cycle, brought, sent, through, lastAnswer}
-use Rattle.bus.specs.Record.{logged, readRecord, writeRecord, plainRead, filling}
-use Rattle.access.specs.declared.doubleword.Change.{Change}
-use Rattle.access.specs.declared.doubleword.Change.the-variants.{Keep, Use, Fill}
-use Rattle.access.specs.declared.doubleword.Moved.{Moved}
-use Rattle.access.specs.declared.doubleword.Wanted.{Wanted}
+use Rattle.bus.specs.Record.{logged}
+use Rattle.doubleword.specs.declared.change.Wanted.{Wanted}
+use Rattle.doubleword.specs.Doubleword.{Doubleword, doublewordsOf}
 use Rattle.access.specs.declared.walk.Walk.{Walk}
 use Rattle.access.specs.declared.walk.Walked.{Walked}
-use Rattle.access.specs.Doubleword.{Doubleword, Done, doublewordsOf, ownCycles, fillCycles, slotOf, laid}
-use Rattle.access.specs.Groups.{group, groups}
 use Rattle.access.specs.Refusal.{orElse, lentNumber, argumentNumber, valueNumber, statesIn}
 use Rattle.access.specs.Access.{Progress, state}
-
--- The doubleword that the code's wanted bytes stand for.
-abbrev pub doublewordOf : Wanted → List ℕ → Doubleword
-doublewordOf w answers =
-    record { line = w .line; wanted = run (w .from) (w .count); place = w .place; answers = answers }
-
--- What a doubleword needs: wanted bytes of one doubleword of a line in RAM, its answers, room for a record of each.
-pub record Spot (w : Wanted) (first ram parity answers log : ℕ) : Type 0 where
-  pub aligned : w .line % 16 ≡ 0
-  pub inside : w .line + 16 ≤ ram
-  pub small : ram ≤ 16777216
-  pub bits : ram ≤ 4 * parity
-  pub some : 0 < w .count
-  pub lanes : w .from % 4 + w .count ≤ 4
-  pub line : w .from < 16
-  pub served : answers ≡ group
-  pub records : 3 * (first + group) ≤ log
-  pub few : first ≤ 48
-
--- What the cycles of a doubleword that missed leave.
-abbrev pub missCycles : Bool → Doubleword → List Cycle
-missCycles fills w = cond fills (fillCycles w) (ownCycles w)
-
-abbrev pub missKind : Bool → ℕ
-missKind fills = cond fills filling plainRead
-
-pub record Missed (fills : Bool) (m : Memory) (w : Doubleword) (first : ℕ) (log₀ buffer₀ : List ℕ) (r : Turn) (log buffer : List ℕ) : Type 0 where
-  pub logs : log ≡ logged log₀ first (map (readRecord (missKind fills) m (w .line)) (missCycles fills w))
-  pub brings : buffer ≡ through (brought (m .ram) (w .line)) (missCycles fills w) buffer₀
-  pub made : r .used ≡ length (missCycles fills w)
-  pub ends : r .answer ≡ lastAnswer 0 (missCycles fills w)
-  pub most : r .used ≤ group
-
--- A fill that is kept, or dropped.
-abbrev pub keptChange : Bool → ℕ → Change
-keptChange kept victim = cond kept (Fill victim) Keep
-
-abbrev pub keptArray : Bool → ℕ → ℕ → List ℕ → List ℕ → List ℕ
-keptArray kept victim line buffer array = cond kept (sets array (slotOf line victim) (bytesAt buffer 0 16)) array
-
--- What the code hands back and leaves in the buffers for what a doubleword of a read, or of a write, does.
-pub record Reads (done : Done) (place first : ℕ) (log₀ operand₀ : List ℕ) (r : Moved) (array log operand : List ℕ) : Type 0 where
-  pub change : r .change ≡ done .change
-  pub arrays : array ≡ done .array
-  pub logs : log ≡ logged log₀ first (done .records)
-  pub bytes : operand ≡ sets operand₀ place (done .bytes)
-  pub made : r .records ≡ length (done .records)
-  pub most : r .records ≤ group
-
-pub record Sends (operand : List ℕ) (w : Doubleword) (first : ℕ) (m₀ : Memory) (log₀ : List ℕ) (r : ℕ) (m : Memory) (log : List ℕ) : Type 0 where
-  pub logs : log ≡ logged log₀ first (map (writeRecord (laid operand w) (w .line)) (ownCycles w))
-  pub sends : m ≡ through (sent (laid operand w) (w .line)) (ownCycles w) m₀
-  pub made : r ≡ length (ownCycles w)
-  pub most : r ≤ group
-
-pub record Writes (done : Done) (first : ℕ) (log₀ : List ℕ) (r : Moved) (m : Memory) (array log : List ℕ) : Type 0 where
-  pub change : r .change ≡ done .change
-  pub memories : m ≡ done .memory
-  pub arrays : array ≡ done .array
-  pub logs : log ≡ logged log₀ first (done .records)
-  pub made : r .records ≡ length (done .records)
-  pub most : r .records ≤ group
-
--- A change names a way below 4.
-abbrev pub BelowFour : Change → Type 0
-BelowFour Keep = Unit {0}
-BelowFour (Use way) = way < 4
-BelowFour (Fill way) = way < 4
 
 -- The start of an access, its next doubleword, and what is left after it.
 abbrev pub startWalk : ℕ → ℕ → Walk

@@ -1,7 +1,6 @@
-// Reads, writes, other masters, and the numbers that turn a call away, on the promises of the directory and of the bus.
+// Reads, writes, other masters, and the numbers that turn a call away, on the promises of the directory, the bus and the doubleword.
 // RAM, parity array, data array, answers and log are lent by the caller.
 mod board;
-mod doubleword;
 mod master;
 mod outcome;
 mod reading;

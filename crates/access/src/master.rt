@@ -4,6 +4,7 @@ ghost use lib.ListN.{length};
 ghost use Rattle.bus.specs.Parity.{memory};
 ghost use Rattle.access.specs.Masters.{controlOutcome, externalCall, flushOutcome, masterNumber, resetOutcome, snoopOutcome, written};
 use crate::outcome::Outcome;
+use crate::outcome::refused;
 use crate::refusal::external_number;
 use crate::refusal::memory_number;
 use crate::refusal::or_else;
@@ -27,21 +28,11 @@ pub fn external_write(
         external_number(ram.len(), address, count),
     );
     if number != 0 {
-        return Outcome {
-            directory: given,
-            number,
-            value: 0,
-            cycles: 0,
-        };
+        return refused(given, number);
     }
     let bad = states_number(&given.tags, &given.valid, &given.lru, address, count as u32);
     if bad != 0 {
-        return Outcome {
-            directory: given,
-            number: bad,
-            value: 0,
-            cycles: 0,
-        };
+        return refused(given, bad);
     }
     store_bytes(bytes, 0, ram, parity, address as usize, count);
     let directory = given.snooped(address);

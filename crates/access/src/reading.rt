@@ -5,17 +5,18 @@ ghost use lib.ListN.{length};
 ghost use Rattle.bus.specs.Parity.{memory};
 ghost use Rattle.access.specs.Access.{after, allOf, readCall, readNumber, readOne, state};
 ghost use Rattle.access.specs.Walks.{Path, readNumberIn, ReadsAll, restOf};
-use crate::doubleword::read_doubleword;
 use crate::outcome::Outcome;
+use crate::outcome::refused;
 use crate::refusal::argument_number;
 use crate::refusal::lent_number;
 use crate::refusal::or_else;
 use crate::refusal::states_number;
 use crate::walk::Walk;
 use crate::walk::Walked;
-use crate::walk::changed_by;
 use bus::word_of;
 use directory::Directory;
+use doubleword::changed_by;
+use doubleword::read_doubleword;
 
 // The doublewords of a read.
 fn read_all(
@@ -119,12 +120,7 @@ pub fn read(
         width,
     );
     if number != 0 {
-        return Outcome {
-            directory: given,
-            number,
-            value: 0,
-            cycles: 0,
-        };
+        return refused(given, number);
     }
     let mut operand = [0u8; 4];
     let begin = Walk::start(address, width);

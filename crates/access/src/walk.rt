@@ -1,11 +1,9 @@
 // The way of an access over its doublewords, the lowest first.
 ghost use mathlib.Core.Path.{_≡_};
 ghost use Prim.Native.Nat.{_+_, _≤_, _<_};
-ghost use Rattle.access.specs.Doubleword.{changed};
-ghost use Rattle.access.specs.Walks.{BelowFour, nextWalk, startWalk, wantedOf};
-use crate::doubleword::Change;
-use crate::doubleword::Wanted;
+ghost use Rattle.access.specs.Walks.{nextWalk, startWalk, wantedOf};
 use directory::Directory;
+use doubleword::Wanted;
 
 // What is left between two doublewords: the address of the next wanted byte, the bytes left, the group of answers that
 // serves them, their place in the operand, and the records made.
@@ -61,20 +59,6 @@ impl Walk {
             group: self.group + 1,
             place: self.place + count,
             records: self.records + records,
-        }
-    }
-}
-
-// The directory after its change: the one step of a doubleword.
-pub fn changed_by(directory: Directory, line: u32, change: Change) -> Directory
-    requires { ⌜ BelowFour change ⌝ }
-    ensures { λ r. ⌜ r ≡ changed directory line change ⌝ }
-{
-    match change {
-        Change::Keep => directory,
-        Change::Use(way) => directory.used(directory::set_of(line), way),
-        Change::Fill(way) => {
-            directory.filled(directory::set_of(line), way, directory::tag_of(line))
         }
     }
 }

@@ -5,8 +5,8 @@ ghost use lib.ListN.{length};
 ghost use Rattle.bus.specs.Parity.{memory};
 ghost use Rattle.access.specs.Access.{after, allOf, state, writeCall, writeOne};
 ghost use Rattle.access.specs.Walks.{Path, restOf, writeNumberIn, WritesAll};
-use crate::doubleword::write_doubleword;
 use crate::outcome::Outcome;
+use crate::outcome::refused;
 use crate::refusal::argument_number;
 use crate::refusal::lent_number;
 use crate::refusal::or_else;
@@ -14,9 +14,10 @@ use crate::refusal::states_number;
 use crate::refusal::value_number;
 use crate::walk::Walk;
 use crate::walk::Walked;
-use crate::walk::changed_by;
 use bus::bytes_of;
 use directory::Directory;
+use doubleword::changed_by;
+use doubleword::write_doubleword;
 
 // The doublewords of a write.
 fn write_all(
@@ -123,12 +124,7 @@ pub fn write(
         value,
     );
     if number != 0 {
-        return Outcome {
-            directory: given,
-            number,
-            value: 0,
-            cycles: 0,
-        };
+        return refused(given, number);
     }
     let operand = bytes_of(value);
     let begin = Walk::start(address, width);

@@ -2,6 +2,7 @@
 -- `Turns` alone is no rule: it says what the code's own state between cycles stands for.
 pub mod Bytes
 pub mod Parity
+pub mod Groups
 pub mod Bus
 pub mod Record
 pub mod Turns

@@ -19,6 +19,10 @@ unfoldable pub later : ℕ → ℕ → ℕ → List Run
 later start turn zero = []
 later start turn (suc n) = run (burstAt start (turn + 1)) 4 ∷ later start (turn + 1) n
 
+-- The turn before the first cycle: so many bytes from an offset on, and so many doublewords after them.
+abbrev pub beginTurn : ℕ → ℕ → ℕ → Turn
+beginTurn from count after = record { from = from; count = count; turn = 0; left = after; used = 0; answer = 0 }
+
 -- The wanted bytes at a turn: none where the count is 0.
 unfoldable pub wantedAt : ℕ → Turn → List Run
 wantedAt start t = cond (eqb (t .count) 0) [] (run (t .from) (t .count) ∷ later start (t .turn) (t .left))

@@ -6,7 +6,7 @@ ghost use lib.ListN.{length, getD};
 ghost use Rattle.bus.specs.Parity.{memory};
 ghost use Rattle.bus.specs.Bus.{room, run, sizeOf};
 ghost use Rattle.bus.specs.Record.{logged, readRecord, writeRecord};
-ghost use Rattle.bus.specs.Turns.{burstAt, cycleAt, nextTurn, Ready, Room, ReadCycle, ReadCycles, WriteCycle, WriteCycles};
+ghost use Rattle.bus.specs.Turns.{beginTurn, burstAt, cycleAt, nextTurn, Ready, Room, ReadCycle, ReadCycles, WriteCycle, WriteCycles};
 use crate::bytes::copy_bytes;
 use crate::bytes::lane_word;
 use crate::parity::any_wrong;
@@ -73,6 +73,20 @@ fn burst_offset(start: usize, turn: usize) -> usize
 }
 
 impl Turn {
+    // Before the first cycle: so many bytes from an offset on, and so many doublewords after them.
+    pub fn begin(from: usize, count: usize, left: usize) -> Turn
+        ensures { λ r. ⌜ r ≡ beginTurn from count left ⌝ }
+    {
+        Turn {
+            from,
+            count,
+            turn: 0,
+            left,
+            used: 0,
+            answer: 0,
+        }
+    }
+
     // What is left after a cycle with this answer.
     fn next(self, start: usize, answer: u8) -> Turn
         requires { ⌜ (start < 4) × (self .turn + self .left ≤ 3) × (self .from < 16) × (self .count ≤ 4) × (self .used < 64) ⌝ }

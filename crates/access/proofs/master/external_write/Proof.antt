@@ -1,11 +1,8 @@
 use denote.Ref.{now}
-use Rattle.bus.specs.Parity.{memory}
-use Rattle.access.proofs.Calls.{input-refused, input-good, state-refused, external-made}
 use native.Mathlib.Omega.{arith}
 use mathlib.Core.Path.{_≡_, refl, sym, _∙_, ap}
-use Prim.Native.Nat.{_+_, _*_, _≤_}
-use Rattle.access.proofs.Accepted.{or-zero, zero-or, first-or, memory-accepted, external-accepted}
-use Rattle.access.proofs.Calls.{bytes-all, master-grouped, external-refused, external-done}
+use Rattle.bus.specs.Parity.{memory}
+use Rattle.access.proofs.Calls.{input-refused, input-good, state-refused, external-made}
 use borrow.Author.Needs.{needs}
 use Rattle.access.proofs.master.external_write.Statement.{statement}
 use Rattle.access.proofs.master.external_write.Tie as tie
@@ -19,8 +16,11 @@ external-number-requires c κs = search needs
 or-else-requires : tie.Need-or-else-requires
 or-else-requires c κs = search needs
 
+refused-requires : tie.Need-refused-requires
+refused-requires c κs = search needs
+
 returns : tie.Need-returns
-returns c = input-refused _ _ _ _ _ _ (c .before .before .before .memory-number .ensures) (c .before .before .external-number .ensures) _ (c .before .or-else .ensures) (c .if1 .taken)
+returns c = rw (c .refused .ensures) (input-refused (c .before .before .before .before .before .before .before .before .args .t1) (memory (now (c .before .before .before .before .before .before .before .before .args .ram)) (now (c .before .before .before .before .before .before .before .before .args .parity))) (c .before .before .before .before .before .before .before .before .args .address) (now (c .before .before .before .before .before .before .before .before .args .bytes)) _ _ (c .before .before .before .before .memory-number .ensures) (c .before .before .before .external-number .ensures) _ (c .before .before .or-else .ensures) (c .before .if1 .taken))
 
 cast-states-number : tie.Need-cast-states-number
 cast-states-number c = let g = input-good (c .before .before .before .before .before .before .before .before .before .before .before .args .t1) (memory (now (c .before .before .before .before .before .before .before .before .before .before .before .args .ram)) (now (c .before .before .before .before .before .before .before .before .before .before .before .args .parity))) (c .before .before .before .before .before .before .before .before .before .before .before .args .address) (now (c .before .before .before .before .before .before .before .before .before .before .before .args .bytes)) _ _ (c .before .before .before .before .before .before .before .memory-number .ensures) (c .before .before .before .before .before .before .external-number .ensures) _ (c .before .before .before .before .before .or-else .ensures) (c .before .before .before .before .if1 .left) .1 in omega (arith, g .most)
@@ -28,8 +28,11 @@ cast-states-number c = let g = input-good (c .before .before .before .before .be
 states-number-requires : tie.Need-states-number-requires
 states-number-requires c κs = search needs
 
+refused-requires-2 : tie.Need-refused-requires-2
+refused-requires-2 c κs = search needs
+
 returns-2 : tie.Need-returns-2
-returns-2 c = state-refused _ _ _ _ _ _ (c .before .before .before .before .before .before .before .before .before .memory-number .ensures) (c .before .before .before .before .before .before .before .before .external-number .ensures) _ (c .before .before .before .before .before .before .before .or-else .ensures) (c .before .before .before .before .before .before .if1 .left) _ (c .before .states-number .ensures) (c .if2 .taken)
+returns-2 c = rw (c .refused2 .ensures) (state-refused (c .before .before .before .before .before .before .before .before .before .before .before .before .before .before .args .t1) (memory (now (c .before .before .before .before .before .before .before .before .before .before .before .before .before .before .args .ram)) (now (c .before .before .before .before .before .before .before .before .before .before .before .before .before .before .args .parity))) (c .before .before .before .before .before .before .before .before .before .before .before .before .before .before .args .address) (now (c .before .before .before .before .before .before .before .before .before .before .before .before .before .before .args .bytes)) _ _ (c .before .before .before .before .before .before .before .before .before .before .memory-number .ensures) (c .before .before .before .before .before .before .before .before .before .external-number .ensures) _ (c .before .before .before .before .before .before .before .before .or-else .ensures) (c .before .before .before .before .before .before .before .if1 .left) _ (c .before .before .states-number .ensures) (c .before .if2 .taken))
 
 store-bytes-requires : tie.Need-store-bytes-requires
 store-bytes-requires c κs = let g = input-good (c .before .before .before .before .before .before .before .before .before .before .before .before .before .before .before .args .t1) (memory (now (c .before .before .before .before .before .before .before .before .before .before .before .before .before .before .before .args .ram)) (now (c .before .before .before .before .before .before .before .before .before .before .before .before .before .before .before .args .parity))) (c .before .before .before .before .before .before .before .before .before .before .before .before .before .before .before .args .address) (now (c .before .before .before .before .before .before .before .before .before .before .before .before .before .before .before .args .bytes)) _ _ (c .before .before .before .before .before .before .before .before .before .before .before .memory-number .ensures) (c .before .before .before .before .before .before .before .before .before .before .external-number .ensures) _ (c .before .before .before .before .before .before .before .before .before .or-else .ensures) (c .before .before .before .before .before .before .before .before .if1 .left) in (omega arith, g .1 .inside, omega (arith, g .0 .bits, g .0 .whole, g .1 .inside))
@@ -44,7 +47,7 @@ same-length-2 : tie.Need-same-length-2
 same-length-2 c = search needs
 
 returns-3 : tie.Need-returns-3
-returns-3 c = external-made _ _ _ _ _ _ (c .before .before .before .before .before .before .before .before .before .before .before .before .before .before .before .before .before .memory-number .ensures) (c .before .before .before .before .before .before .before .before .before .before .before .before .before .before .before .before .external-number .ensures) _ (c .before .before .before .before .before .before .before .before .before .before .before .before .before .before .before .or-else .ensures) (c .before .before .before .before .before .before .before .before .before .before .before .before .before .before .if1 .left) _ (c .before .before .before .before .before .before .before .before .before .states-number .ensures) (c .before .before .before .before .before .before .before .before .if2 .left) _ _ (c .snooped .ensures) (c .before .before .before .before .before .store-bytes .ensures)
+returns-3 c = external-made (c .before .before .before .before .before .before .before .before .before .before .before .before .before .before .before .before .before .before .before .before .before .args .t1) (memory (now (c .before .before .before .before .before .before .before .before .before .before .before .before .before .before .before .before .before .before .before .before .before .args .ram)) (now (c .before .before .before .before .before .before .before .before .before .before .before .before .before .before .before .before .before .before .before .before .before .args .parity))) (c .before .before .before .before .before .before .before .before .before .before .before .before .before .before .before .before .before .before .before .before .before .args .address) (now (c .before .before .before .before .before .before .before .before .before .before .before .before .before .before .before .before .before .before .before .before .before .args .bytes)) _ _ (c .before .before .before .before .before .before .before .before .before .before .before .before .before .before .before .before .before .memory-number .ensures) (c .before .before .before .before .before .before .before .before .before .before .before .before .before .before .before .before .external-number .ensures) _ (c .before .before .before .before .before .before .before .before .before .before .before .before .before .before .before .or-else .ensures) (c .before .before .before .before .before .before .before .before .before .before .before .before .before .before .if1 .left) _ (c .before .before .before .before .before .before .before .before .before .states-number .ensures) (c .before .before .before .before .before .before .before .before .if2 .left) _ _ (c .snooped .ensures) (c .before .before .before .before .before .store-bytes .ensures)
 
 pub external-write-spec : {M : Type 1} → statement M
 external-write-spec =
@@ -53,9 +56,11 @@ external-write-spec =
     memory-number-requires
     external-number-requires
     or-else-requires
+    refused-requires
     returns
     cast-states-number
     states-number-requires
+    refused-requires-2
     returns-2
     store-bytes-requires
     snooped-requires

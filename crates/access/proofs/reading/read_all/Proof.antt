@@ -7,7 +7,7 @@ use lib.ListN.{length}
 use Rattle.bus.specs.Parity.{memory}
 use Rattle.access.specs.Access.{state, allOf, readOne}
 use Rattle.access.specs.Walks.{restOf, Path}
-use Rattle.access.proofs.Doublewords.{reads-below}
+use Rattle.doubleword.proofs.Doublewords.{reads-below}
 use Rattle.access.proofs.Walking.{ReadGoing, reading-begin, reading-next, reading-end, path-more, group-is, group-length, walk-spot, walk-steps, walk-less, walk-path}
 use Rattle.access.proofs.reading.read_all.Statement.{statement}
 use Rattle.access.proofs.reading.read_all.Tie as tie

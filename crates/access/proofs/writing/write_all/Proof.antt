@@ -7,7 +7,7 @@ use lib.ListN.{length}
 use Rattle.bus.specs.Parity.{memory}
 use Rattle.access.specs.Access.{state, allOf, writeOne}
 use Rattle.access.specs.Walks.{restOf, Path}
-use Rattle.access.proofs.Doublewords.{writes-below}
+use Rattle.doubleword.proofs.Doublewords.{writes-below}
 use Rattle.access.proofs.Walking.{Going, going-begin, writing-next, writing-end, path-more, group-is, group-length, walk-spot, walk-steps, walk-less, walk-path}
 use Rattle.access.proofs.writing.write_all.Statement.{statement}
 use Rattle.access.proofs.writing.write_all.Tie as tie

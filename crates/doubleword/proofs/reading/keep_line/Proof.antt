@@ -1,8 +1,8 @@
 use mathlib.Core.Path.{_≡_, refl, sym, _∙_, ap}
 use Rattle.directory.proofs.FourWays.{victim-below}
 use borrow.Author.Needs.{needs}
-use Rattle.access.proofs.doubleword.keep_line.Statement.{statement}
-use Rattle.access.proofs.doubleword.keep_line.Tie as tie
+use Rattle.doubleword.proofs.reading.keep_line.Statement.{statement}
+use Rattle.doubleword.proofs.reading.keep_line.Tie as tie
 
 set-of-requires : tie.Need-set-of-requires
 set-of-requires c κs = search needs

@@ -3,10 +3,10 @@ use mathlib.Core.Path.{_≡_, refl, sym, _∙_, ap}
 use Rattle.directory.specs.declared.ways.Found.the-variants.{At, Nothing}
 use Rattle.directory.specs.Ways.{lookupIn}
 use Rattle.directory.proofs.FourWays.{lookup-below}
-use Rattle.access.proofs.Doublewords.{hit-reads, miss-reads, missed-done, missed-length}
+use Rattle.doubleword.proofs.Doublewords.{hit-reads, miss-reads, missed-done, missed-length}
 use borrow.Author.Needs.{needs}
-use Rattle.access.proofs.doubleword.read_doubleword.Statement.{statement}
-use Rattle.access.proofs.doubleword.read_doubleword.Tie as tie
+use Rattle.doubleword.proofs.reading.read_doubleword.Statement.{statement}
+use Rattle.doubleword.proofs.reading.read_doubleword.Tie as tie
 
 lookup-requires : tie.Need-lookup-requires
 lookup-requires c κs = search needs

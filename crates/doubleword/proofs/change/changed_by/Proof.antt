@@ -1,8 +1,8 @@
 use native.Mathlib.Omega.{arith}
-use Rattle.access.specs.Doubleword.{changed}
+use Rattle.doubleword.specs.Doubleword.{changed}
 use borrow.Author.Needs.{needs}
-use Rattle.access.proofs.walk.changed_by.Statement.{statement}
-use Rattle.access.proofs.walk.changed_by.Tie as tie
+use Rattle.doubleword.proofs.change.changed_by.Statement.{statement}
+use Rattle.doubleword.proofs.change.changed_by.Tie as tie
 
 enum-told : tie.Need-enum-told
 enum-told c = search needs

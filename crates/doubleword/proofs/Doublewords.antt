@@ -18,23 +18,22 @@ use Rattle.bus.specs.Bytes.{bytesAt}
 use Rattle.bus.specs.Parity.{Memory}
 use Rattle.bus.specs.Bus.{ken, run, Cycle, cyclesOf, burst, lastAnswer, through, brought, sent}
 use Rattle.bus.specs.Record.{readRecord, writeRecord, logged, wordsOf, plainRead, filling}
-use Rattle.bus.specs.Turns.{later, wantedAt, Ready, Room, ReadCycles, WriteCycles}
+use Rattle.bus.specs.Turns.{beginTurn, later, wantedAt, Ready, Room, ReadCycles, WriteCycles}
 use Rattle.bus.proofs.Sizing.{wanted-some, burst-later}
-use Rattle.access.specs.declared.doubleword.Change.{Change}
-use Rattle.access.specs.declared.doubleword.Change.the-variants.{Keep, Use, Fill}
-use Rattle.access.specs.declared.doubleword.Moved.{Moved}
-use Rattle.access.specs.declared.doubleword.Wanted.{Wanted}
-use Rattle.access.specs.Groups.{group}
-use Rattle.access.specs.Doubleword.{Doubleword, Done, slotOf, ownCycles, fillCycles, laid, hitArray, readDone, readHit, readFill, readPlain, writeDone, writeThrough}
-use Rattle.access.specs.Access.{State, readOne}
-use Rattle.access.specs.Walks.{doublewordOf, Spot, Missed, missCycles, keptChange, keptArray, BelowFour, Reads, Sends, Writes}
+use Rattle.doubleword.specs.declared.change.Change.{Change}
+use Rattle.doubleword.specs.declared.change.Change.the-variants.{Keep, Use, Fill}
+use Rattle.doubleword.specs.declared.change.Moved.{Moved}
+use Rattle.doubleword.specs.declared.change.Wanted.{Wanted}
+use Rattle.bus.specs.Groups.{group}
+use Rattle.doubleword.specs.Doubleword.{Doubleword, Done, slotOf, ownCycles, fillCycles, laid, hitArray, readDone, readHit, readFill, readPlain, writeDone, writeThrough}
+use Rattle.doubleword.specs.Moves.{doublewordOf, Spot, Missed, missCycles, keptChange, keptArray, BelowFour, Reads, Sends, Writes}
 
 -- the turns that a doubleword's own bytes, and a fill of its line, begin with
 abbrev pub ownTurn : Wanted → Turn
-ownTurn w = record { from = w .from; count = w .count; turn = 0; left = 0; used = 0; answer = 0 }
+ownTurn w = beginTurn (w .from) (w .count) 0
 
 abbrev pub fillTurn : Wanted → Turn
-fillTurn w = record { from = w .from / 4 * 4; count = 4; turn = 0; left = 3; used = 0; answer = 0 }
+fillTurn w = beginTurn (w .from / 4 * 4) 4 3
 
 module _ (w : Wanted) (first ram parity answers log : ℕ) (z : Spot w first ram parity answers log) where
   pub spot-room : (buffer : ℕ) → buffer ≡ 16 → Room (w .line) first ram parity answers log buffer
@@ -127,10 +126,6 @@ unfolding readDone readHit readFill readPlain
 read-memory (At way) victim may m array w = refl
 read-memory Nothing victim may m array w =
     by-test (λ b. cond b (readFill victim m array w) (readPlain m array w) .memory ≡ m) (may && ken (getD (w .answers) 0 0)) (λ _. refl) (λ _. refl)
-
-pub one-memory : (pcd : Bool) (s : State) (w : Doubleword) → readOne pcd s w .memory ≡ s .memory
-unfolding readOne
-one-memory pcd s w = read-memory _ _ _ _ _ w
 
 -- read cycles leave the length of the line buffer
 through-length : (ram : List ℕ) (line : ℕ) (cs : List Cycle) (buffer : List ℕ) → length (through (brought ram line) cs buffer) ≡ length buffer

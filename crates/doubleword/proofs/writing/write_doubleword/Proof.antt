@@ -3,10 +3,10 @@ use mathlib.Core.Path.{_≡_, refl, sym, _∙_, ap}
 use Rattle.directory.specs.declared.ways.Found.the-variants.{At, Nothing}
 use Rattle.directory.specs.Ways.{lookupIn}
 use Rattle.directory.proofs.FourWays.{lookup-below}
-use Rattle.access.proofs.Doublewords.{stay-writes, hit-writes, miss-writes}
+use Rattle.doubleword.proofs.Doublewords.{stay-writes, hit-writes, miss-writes}
 use borrow.Author.Needs.{needs}
-use Rattle.access.proofs.doubleword.write_doubleword.Statement.{statement}
-use Rattle.access.proofs.doubleword.write_doubleword.Tie as tie
+use Rattle.doubleword.proofs.writing.write_doubleword.Statement.{statement}
+use Rattle.doubleword.proofs.writing.write_doubleword.Tie as tie
 
 lookup-requires : tie.Need-lookup-requires
 lookup-requires c κs = search needs

@@ -9,9 +9,9 @@ use Rattle.directory.specs.declared.ways.Found.{Found}
 use Rattle.directory.specs.declared.ways.Found.the-variants.{At, Nothing}
 use Rattle.directory.specs.Address.{byteOf, setOf, tagOf, lineOf}
 use Rattle.directory.specs.Steps.{afterUse, afterFill}
-use Rattle.access.specs.Groups.{group}
-use Rattle.access.specs.declared.doubleword.Change.{Change}
-use Rattle.access.specs.declared.doubleword.Change.the-variants.{Keep, Use, Fill}
+use Rattle.bus.specs.Groups.{group}
+use Rattle.doubleword.specs.declared.change.Change.{Change}
+use Rattle.doubleword.specs.declared.change.Change.the-variants.{Keep, Use, Fill}
 use Rattle.bus.specs.Bytes.{bytesAt}
 use Rattle.bus.specs.Parity.{Memory}
 use Rattle.bus.specs.Bus.{ken, Run, run, Cycle, cyclesOf, burst, lastAnswer, through, brought, sent}

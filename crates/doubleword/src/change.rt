@@ -1,0 +1,49 @@
+// What a doubleword wants, and what it does to the directory.
+ghost use mathlib.Core.Path.{_≡_};
+ghost use Prim.Native.Nat.{_+_, _≤_, _<_};
+ghost use Rattle.doubleword.specs.Doubleword.{changed, slotOf};
+ghost use Rattle.doubleword.specs.Moves.{BelowFour};
+use directory::Directory;
+
+// What a doubleword does to the directory: nothing, a use of a way, or a kept fill of a way.
+pub enum Change {
+    Keep,
+    Use(usize),
+    Fill(usize),
+}
+
+// The directory's change, and the records of the cycles made.
+pub struct Moved {
+    pub change: Change,
+    pub records: usize,
+}
+
+// The wanted bytes of a doubleword: the address of its line, their offset in it, how many, and their place in the operand.
+pub struct Wanted {
+    pub line: u32,
+    pub from: usize,
+    pub count: usize,
+    pub place: usize,
+}
+
+// Where the data array holds the line of an address, in a way.
+pub fn slot_of(line: u32, way: usize) -> usize
+    requires { ⌜ way < 4 ⌝ }
+    ensures { λ r. ⌜ (r ≡ slotOf line way) × (r + 16 ≤ 8192) ⌝ }
+{
+    (directory::set_of(line) * 4 + way) * 16
+}
+
+// The directory after its change: the one step of a doubleword.
+pub fn changed_by(directory: Directory, line: u32, change: Change) -> Directory
+    requires { ⌜ BelowFour change ⌝ }
+    ensures { λ r. ⌜ r ≡ changed directory line change ⌝ }
+{
+    match change {
+        Change::Keep => directory,
+        Change::Use(way) => directory.used(directory::set_of(line), way),
+        Change::Fill(way) => {
+            directory.filled(directory::set_of(line), way, directory::tag_of(line))
+        }
+    }
+}

@@ -1,0 +1,91 @@
+// One doubleword of a write.
+ghost use mathlib.Core.Path.{_≡_};
+ghost use Prim.Native.Nat.{_+_, _≤_};
+ghost use lib.ListN.{length};
+ghost use Rattle.directory.specs.Ways.{lookupIn};
+ghost use Rattle.bus.specs.Parity.{memory};
+ghost use Rattle.doubleword.specs.Doubleword.{writeDone};
+ghost use Rattle.doubleword.specs.Moves.{doublewordOf, Sends, Spot, Writes};
+use crate::change::Change;
+use crate::change::Moved;
+use crate::change::Wanted;
+use crate::change::slot_of;
+use bus::Turn;
+use bus::copy_bytes;
+use bus::write_cycles;
+use directory::Found;
+
+// The write cycles of a doubleword, from the operand through a line buffer.
+fn write_through(
+    ram: &mut [u8],
+    parity: &mut [u8],
+    answers: &[u8],
+    log: &mut [u32],
+    operand: &[u8],
+    w: Wanted,
+    first: usize,
+) -> usize
+    requires { ⌜ Spot w first (length (now ram)) (length (now parity)) (length (now answers)) (length (now log)) × (w .place + w .count ≤ length (now operand)) ⌝ }
+    ensures { λ r. ⌜ Sends (now (operand .entry)) (doublewordOf w (now (answers .entry))) first (memory (now (ram .entry)) (now (parity .entry))) (now (log .entry)) r (memory (now (ram .exit)) (now (parity .exit))) (now (log .exit)) ⌝ }
+{
+    let mut buffer = [0u8; 16];
+    copy_bytes(operand, w.place, &mut buffer, w.from, w.count);
+    let own = Turn::begin(w.from, w.count, 0);
+    let t = write_cycles(
+        ram,
+        parity,
+        answers,
+        log,
+        &buffer,
+        own,
+        w.line as usize,
+        first,
+    );
+    t.used
+}
+
+// One doubleword of a write. stays: CD = NW = 1, where a hit makes no cycle.
+pub fn write_doubleword<'a>(
+    tags: &'a [u32; 512],
+    valid: &'a [bool; 512],
+    stays: bool,
+    ram: &mut [u8],
+    parity: &mut [u8],
+    data: &mut [u8],
+    answers: &[u8],
+    log: &mut [u32],
+    operand: &[u8],
+    w: Wanted,
+    first: usize,
+) -> Moved
+    requires { ⌜ Spot w first (length (now ram)) (length (now parity)) (length (now answers)) (length (now log)) × (length (now «data») ≡ 8192) × (w .place + w .count ≤ length (now operand)) ⌝ }
+    ensures { λ r. ⌜ Writes (writeDone (lookupIn (now (tags .entry)) (now (valid .entry)) (w .line)) stays
+        (memory (now (ram .entry)) (now (parity .entry))) (now («data» .entry)) (now (operand .entry)) (doublewordOf w (now (answers .entry))))
+        first (now (log .entry)) r (memory (now (ram .exit)) (now (parity .exit))) (now («data» .exit)) (now (log .exit)) ⌝ }
+{
+    if let Found::At(way) = directory::lookup(tags, valid, w.line) {
+        copy_bytes(
+            operand,
+            w.place,
+            data,
+            slot_of(w.line, way) + w.from,
+            w.count,
+        );
+        if stays {
+            return Moved {
+                change: Change::Use(way),
+                records: 0,
+            };
+        }
+        let records = write_through(ram, parity, answers, log, operand, w, first);
+        return Moved {
+            change: Change::Use(way),
+            records,
+        };
+    }
+    let records = write_through(ram, parity, answers, log, operand, w, first);
+    Moved {
+        change: Change::Keep,
+        records,
+    }
+}
