@@ -42,6 +42,7 @@ readOne pcd s w =
     (s .array)
     w
 
+-- The same for a write, whose operand is given.
 unfoldable pub writeOne : List ℕ → State → Doubleword → Done
 writeOne operand s w =
     writeDone (lookupOf (s .directory) (w .line)) (s .directory .cd && s .directory .nw) (s .memory) (s .array) operand w
@@ -88,6 +89,7 @@ readNumber s address width answers log =
     (orElse (argumentNumber (length (s .memory .ram)) address width answers (length log))
     (statesOf (s .directory) address width))
 
+-- A write has number 8 as well.
 unfoldable pub writeNumber : State → ℕ → ℕ → ℕ → List ℕ → List ℕ → ℕ
 writeNumber s address width value answers log =
     orElse (lentNumber (length (s .memory .ram)) (length (s .memory .parity)) (length (s .array)))
@@ -102,6 +104,7 @@ readAll s address width pcd answers = allOf (readOne pcd) s (doublewordsOf group
 abbrev pub operandOf : ℕ → List ℕ
 operandOf value = bytesOf 4 value
 
+-- All doublewords of an accepted write.
 unfoldable pub writeAll : State → ℕ → ℕ → ℕ → List ℕ → Progress
 writeAll s address width value answers = allOf (writeOne (operandOf value)) s (doublewordsOf groups answers address width 0)
 
@@ -112,6 +115,7 @@ readCall s address width pcd answers log =
     let done = readAll s address width pcd answers in
     cond (eqb number 0) (accepted (valueOf (done .bytes)) done log) (refused number s log)
 
+-- The same for a write, whose value is 0.
 unfoldable pub writeCall : State → ℕ → ℕ → ℕ → List ℕ → List ℕ → After
 writeCall s address width value answers log =
     let number = writeNumber s address width value answers log in

@@ -20,6 +20,7 @@ pub record Written : Type 0 where
 abbrev pub written : Outcome → Memory → Written
 written o m = record { outcome = o; memory = m }
 
+-- Its number: 1, 2, 10, then the state of its set.
 unfoldable pub masterNumber : Directory → Memory → ℕ → List ℕ → ℕ
 masterNumber d m address bytes =
     orElse (memoryNumber (length (m .ram)) (length (m .parity)))

@@ -25,6 +25,7 @@ badRam ram = ltb ram 16 || ltb 16777216 ram || not (eqb (ram % 16) 0)
 unfoldable pub memoryNumber : ℕ → ℕ → ℕ
 memoryNumber ram parity = orElse (when (badRam ram) 1) (when (not (eqb parity (ram / 4))) 2)
 
+-- 1 to 3, for a call that receives the data array too.
 unfoldable pub lentNumber : ℕ → ℕ → ℕ → ℕ
 lentNumber ram parity array = orElse (memoryNumber ram parity) (when (not (eqb array 8192)) 3)
 

@@ -66,6 +66,7 @@ pub record ReadsAll (p : Progress) (log₀ operand₀ : List ℕ) (r : Walked) (
   pub made : r .records ≡ length (p .records)
   pub most : r .records ≤ 32
 
+-- The same for a write, which reads no bytes and changes memory.
 pub record WritesAll (p : Progress) (log₀ : List ℕ) (r : Walked) (m : Memory) (array log : List ℕ) : Type 0 where
   pub states : state (r .directory) m array ≡ p .state
   pub logs : log ≡ logged log₀ 0 (p .records)
@@ -78,6 +79,7 @@ readNumberIn tags valid lru m array address width answers log =
     orElse (lentNumber (length (m .ram)) (length (m .parity)) (length array))
     (orElse (argumentNumber (length (m .ram)) address width answers (length log)) (statesIn tags valid lru address width))
 
+-- The same for a write.
 unfoldable pub writeNumberIn : List ℕ → List Bool → List ℕ → Memory → List ℕ → ℕ → ℕ → ℕ → List ℕ → List ℕ → ℕ
 writeNumberIn tags valid lru m array address width value answers log =
     orElse (lentNumber (length (m .ram)) (length (m .parity)) (length array))

@@ -14,6 +14,7 @@ unfoldable pub valueOf : List ℕ → ℕ
 valueOf [] = 0
 valueOf (b ∷ bs) = b + 256 * valueOf bs
 
+-- The lowest bytes of a number, the lowest first.
 unfoldable pub bytesOf : ℕ → ℕ → List ℕ
 bytesOf zero v = []
 bytesOf (suc n) v = v % 256 ∷ bytesOf n (v / 256)

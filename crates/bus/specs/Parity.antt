@@ -27,6 +27,7 @@ dpOf b = onesOf 8 b % 2
 unfoldable pub laneBit : ℕ → ℕ → ℕ
 laneBit p lane = p / 2 ^ lane % 2
 
+-- The DP bit that a parity array has for the RAM byte at an address.
 unfoldable pub dpAt : List ℕ → ℕ → ℕ
 dpAt parity a = laneBit (getD parity (a / 4) 0) (a % 4)
 
@@ -40,6 +41,7 @@ put m a b =
     memory (set (m .ram) a b)
     (set (m .parity) (a / 4) (withDp (getD (m .parity) (a / 4) 0) (a % 4) (dpOf b)))
 
+-- Bytes put in one after another, from an address on.
 unfoldable pub stored : Memory → ℕ → List ℕ → Memory
 stored m a [] = m
 stored m a (b ∷ bs) = stored (put m a b) (suc a) bs
@@ -48,6 +50,7 @@ stored m a (b ∷ bs) = stored (put m a b) (suc a) bs
 unfoldable pub wrongAt : Memory → ℕ → Bool
 wrongAt m a = not (eqb (dpAt (m .parity) a) (dpOf (getD (m .ram) a 0)))
 
+-- Whether any of so many bytes is wrong.
 unfoldable pub wrongIn : Memory → ℕ → ℕ → Bool
 wrongIn m a zero = false
 wrongIn m a (suc n) = wrongAt m a || wrongIn m (suc a) n

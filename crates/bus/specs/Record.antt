@@ -43,6 +43,7 @@ readRecord kind m line c =
       word = wordIn (c .moved .from % 4) (bytesAt (m .ram) (line + c .moved .from) (c .moved .count));
     }
 
+-- A write cycle moves bytes of the line buffer and checks no parity.
 unfoldable pub writeRecord : List ℕ → ℕ → Cycle → Record
 writeRecord buffer line c =
     record {

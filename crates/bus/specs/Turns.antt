@@ -97,6 +97,7 @@ pub record WriteCycle (buffer : List ℕ) (line first : ℕ) (t : Turn) (x : ℕ
   pub logs : log ≡ logged log₀ (first + t .used) (writeRecord buffer line (cycleAt 0 t x) ∷ [])
   pub sends : m ≡ sent buffer line (cycleAt 0 t x .moved) m₀
 
+-- What all write cycles from a turn on leave.
 pub record WriteCycles (buffer answers : List ℕ) (line first : ℕ) (t : Turn) (m₀ : Memory) (log₀ : List ℕ) (r : Turn) (m : Memory) (log : List ℕ) : Type 0 where
   pub logs : log ≡ logged log₀ first (map (writeRecord buffer line) (cyclesOf answers (wantedAt 0 t)))
   pub sends : m ≡ through (sent buffer line) (cyclesOf answers (wantedAt 0 t)) m₀

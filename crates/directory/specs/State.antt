@@ -11,6 +11,7 @@ abbrev pub samePair : List ℕ → List Bool → ℕ → ℕ → ℕ → Bool
 samePair tags valid set way other =
     markAt valid set way && markAt valid set other && eqb (tagIn tags set way) (tagIn tags set other)
 
+-- Of the six pairs, any.
 unfoldable pub sameTags : List ℕ → List Bool → ℕ → Bool
 sameTags tags valid set =
     samePair tags valid set 0 1
@@ -24,6 +25,7 @@ sameTags tags valid set =
 abbrev pub tagAbove : List ℕ → List Bool → ℕ → ℕ → Bool
 tagAbove tags valid set way = markAt valid set way && ltb 2097151 (tagIn tags set way)
 
+-- Of the four ways, any.
 unfoldable pub tagsAbove : List ℕ → List Bool → ℕ → Bool
 tagsAbove tags valid set =
     tagAbove tags valid set 0
@@ -35,6 +37,7 @@ tagsAbove tags valid set =
 unfoldable pub firstNumber : Bool → Bool → ℕ → ℕ
 firstNumber same above lru = cond same 21 (cond above 22 (cond (ltb 7 lru) 23 0))
 
+-- The number of a set.
 unfoldable pub stateIn : List ℕ → List Bool → List ℕ → ℕ → ℕ
 stateIn tags valid lru set =
     firstNumber (sameTags tags valid set) (tagsAbove tags valid set) (getD lru set 0)

@@ -73,6 +73,7 @@ afterControl d cd nw =
 abbrev pub controlRefused : Bool → Bool → Bool
 controlRefused cd nw = not cd && nw
 
+-- The control call, refused or not.
 unfoldable pub controlCall : Directory → Bool → Bool → Answer
 controlCall d cd nw =
     cond (controlRefused cd nw)
@@ -102,6 +103,7 @@ invalidated d s (At w) =
     }
 invalidated d s Nothing = d
 
+-- The snoop step.
 unfoldable pub afterSnoop : Directory → ℕ → Directory
 afterSnoop d address = cond (d .nw) d (invalidated d (setOf address) (lookupOf d address))
 

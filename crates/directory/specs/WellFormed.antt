@@ -26,6 +26,7 @@ pub record Sized (d : Directory) : Type 0 where
   pub valid : length (d .valid) ≡ 512
   pub lru : length (d .lru) ≡ 128
 
+-- Whole arrays, and every set good.
 pub record WellFormed (d : Directory) : Type 0 where
   pub sized : Sized d
   pub sets : (s : ℕ) → s < 128 → GoodSet d s

@@ -42,6 +42,7 @@ missCycles fills w = cond fills (fillCycles w) (ownCycles w)
 abbrev pub missKind : Bool → ℕ
 missKind fills = cond fills filling plainRead
 
+-- Its records, its bytes in the line buffer, its count and last answer.
 pub record Missed (fills : Bool) (m : Memory) (w : Doubleword) (first : ℕ) (log₀ buffer₀ : List ℕ) (r : Turn) (log buffer : List ℕ) : Type 0 where
   pub logs : log ≡ logged log₀ first (map (readRecord (missKind fills) m (w .line)) (missCycles fills w))
   pub brings : buffer ≡ through (brought (m .ram) (w .line)) (missCycles fills w) buffer₀
@@ -65,12 +66,14 @@ pub record Reads (done : Done) (place first : ℕ) (log₀ operand₀ : List ℕ
   pub made : r .records ≡ length (done .records)
   pub most : r .records ≤ group
 
+-- What the write cycles of a doubleword leave.
 pub record Sends (operand : List ℕ) (w : Doubleword) (first : ℕ) (m₀ : Memory) (log₀ : List ℕ) (r : ℕ) (m : Memory) (log : List ℕ) : Type 0 where
   pub logs : log ≡ logged log₀ first (map (writeRecord (laid operand w) (w .line)) (ownCycles w))
   pub sends : m ≡ through (sent (laid operand w) (w .line)) (ownCycles w) m₀
   pub made : r ≡ length (ownCycles w)
   pub most : r ≤ group
 
+-- The same for a write.
 pub record Writes (done : Done) (first : ℕ) (log₀ : List ℕ) (r : Moved) (m : Memory) (array log : List ℕ) : Type 0 where
   pub change : r .change ≡ done .change
   pub memories : m ≡ done .memory
