@@ -41,7 +41,7 @@ KINDS = (
     Kind("tiny", 16, 64, (16, 32), "RRRRRRWWWXSFCM", hostile=0.06, faults=0.3, planted=True),
     Kind("hot", 14, 80, (12_304, 16_400), "RRRRRRRRRRRRRRWWWWWWXS", hostile=0.01),
     Kind("masters", 14, 80, (2064, 4128), "RRRRRRRWWWWXXXXSSSFCCMMZ", faults=0.05),
-    Kind("large", 14, 80, (65_536, 20_496), "RRRRRRWWWrrwXXSFC", hostile=0.04, faults=0.002),
+    Kind("large", 10, 64, (65_536, 20_496), "RRRRRRWWWrrwXXSFC", hostile=0.04, faults=0.002),
     Kind("long", 2, 560, (2064, 16_400), "RRRRRRRRWWWWrwXXS", hostile=0.02, planted=True),
     Kind(
         "refused",

@@ -1,0 +1,51 @@
+// Lines that store to the directory's fields or to the parity array without a call, so that a script can have a directory
+// that no list of calls gives.
+use crate::script::number;
+use directory::Directory;
+
+pub fn store_tag(line: &[u8], mut d: Directory) -> Directory {
+    let place = number(line, 1);
+    let tag = number(line, place.next);
+    let line = place.value as usize;
+    if line < 512 {
+        d.tags[line] = tag.value;
+    }
+    d
+}
+
+pub fn store_mark(line: &[u8], mut d: Directory) -> Directory {
+    let place = number(line, 1);
+    let mark = number(line, place.next);
+    let line = place.value as usize;
+    if line < 512 {
+        d.valid[line] = mark.value == 1;
+    }
+    d
+}
+
+pub fn store_lru(line: &[u8], mut d: Directory) -> Directory {
+    let place = number(line, 1);
+    let lru = number(line, place.next);
+    let set = place.value as usize;
+    if set < 128 {
+        d.lru[set] = (lru.value % 256) as u8;
+    }
+    d
+}
+
+// The pair that a control call refuses is wanted too.
+pub fn store_mode(line: &[u8], d: Directory) -> Directory {
+    let cd = number(line, 1);
+    let nw = number(line, cd.next);
+    d.with_control(cd.value == 1, nw.value == 1)
+}
+
+// Turns bits of a parity byte over.
+pub fn flip_parity(line: &[u8], parity: &mut [u8]) {
+    let field = number(line, 1);
+    let mask = number(line, field.next);
+    let place = field.value as usize;
+    if place < parity.len() {
+        parity[place] = parity[place] ^ (mask.value % 256) as u8;
+    }
+}
