@@ -1,4 +1,5 @@
 // Lines on a unit: what is stored, and the calls with their rows.
+ghost use Rattle.io.specs.Counts.{Counts};
 use crate::print::board_row;
 use crate::print::call_row;
 use crate::script::bytes;
@@ -25,6 +26,7 @@ pub fn run_line(
     data: &mut [u8],
     log: &mut [u32],
 ) -> Directory {
+    refill(log);
     match letter_of(line) {
         b'T' => stores::store_tag(line, d),
         b'V' => stores::store_mark(line, d),
@@ -38,7 +40,8 @@ pub fn run_line(
             board_line(line);
             d
         }
-        b'R' | b'r' | b'W' | b'w' => access_line(line, d, ram, parity, data, log),
+        b'R' | b'r' => read_line(line, d, ram, parity, data, log),
+        b'W' | b'w' => write_line(line, d, ram, parity, data, log),
         b'X' => external_line(line, d, ram, parity, data, log),
         b'S' | b'F' | b'C' | b'Z' => directory_line(line, d, ram, parity, data, log),
         _ => d,
@@ -64,8 +67,32 @@ fn board_line(line: &[u8]) {
     board_row(&access::board_answers(address.value, width.value));
 }
 
-// A small letter is an access with the board's answers.
-fn access_line(
+fn read_line(
+    line: &[u8],
+    d: Directory,
+    ram: &[u8],
+    parity: &[u8],
+    data: &mut [u8],
+    log: &mut [u32],
+) -> Directory {
+    let a = fields_of(line);
+    let mut answers = [0u8; 64];
+    let n = answers_of(line, a, &mut answers);
+    let done = access::read(
+        d,
+        ram,
+        parity,
+        data,
+        a.address,
+        a.width,
+        a.third == 1,
+        &answers[..n],
+        log,
+    );
+    call_row(letter_of(line), done, ram, parity, data, log)
+}
+
+fn write_line(
     line: &[u8],
     d: Directory,
     ram: &mut [u8],
@@ -73,19 +100,21 @@ fn access_line(
     data: &mut [u8],
     log: &mut [u32],
 ) -> Directory {
-    refill(log);
     let a = fields_of(line);
-    let letter = letter_of(line);
-    let mut given = [0u8; 64];
-    let n = digits(line, a.next, &mut given);
-    let board = access::board_answers(a.address, a.width);
-    let done = match letter {
-        b'R' => read(d, ram, parity, data, a, &given[..n], log),
-        b'r' => read(d, ram, parity, data, a, &board, log),
-        b'W' => write(d, ram, parity, data, a, &given[..n], log),
-        _ => write(d, ram, parity, data, a, &board, log),
-    };
-    call_row(letter, done, ram, parity, data, log)
+    let mut answers = [0u8; 64];
+    let n = answers_of(line, a, &mut answers);
+    let done = access::write(
+        d,
+        ram,
+        parity,
+        data,
+        a.address,
+        a.width,
+        a.third,
+        &answers[..n],
+        log,
+    );
+    call_row(letter_of(line), done, ram, parity, data, log)
 }
 
 fn fields_of(line: &[u8]) -> Access {
@@ -100,48 +129,29 @@ fn fields_of(line: &[u8]) -> Access {
     }
 }
 
-fn read(
-    d: Directory,
-    ram: &[u8],
-    parity: &[u8],
-    data: &mut [u8],
-    a: Access,
-    answers: &[u8],
-    log: &mut [u32],
-) -> Outcome {
-    access::read(
-        d,
-        ram,
-        parity,
-        data,
-        a.address,
-        a.width,
-        a.third == 1,
-        answers,
-        log,
-    )
+// The answers that the line gives; the board's where its letter is a small one.
+fn answers_of(line: &[u8], a: Access, answers: &mut [u8]) -> usize
+    ensures { λ r. ⌜ Counts r (now (answers .exit)) ⌝ }
+{
+    if letter_of(line) < b'a' {
+        return digits(line, a.next, answers);
+    }
+    copy(&access::board_answers(a.address, a.width), answers)
 }
 
-fn write(
-    d: Directory,
-    ram: &mut [u8],
-    parity: &mut [u8],
-    data: &mut [u8],
-    a: Access,
-    answers: &[u8],
-    log: &mut [u32],
-) -> Outcome {
-    access::write(
-        d,
-        ram,
-        parity,
-        data,
-        a.address,
-        a.width,
-        a.third,
-        answers,
-        log,
-    )
+// As many bytes as both have.
+fn copy(from: &[u8], to: &mut [u8]) -> usize
+    ensures { λ r. ⌜ Counts r (now (to .exit)) ⌝ }
+{
+    let mut k = 0;
+    while k < to.len() {
+        if k >= from.len() {
+            return k;
+        }
+        to[k] = from[k];
+        k += 1;
+    }
+    k
 }
 
 fn external_line(
@@ -149,10 +159,9 @@ fn external_line(
     d: Directory,
     ram: &mut [u8],
     parity: &mut [u8],
-    data: &mut [u8],
-    log: &mut [u32],
+    data: &[u8],
+    log: &[u32],
 ) -> Directory {
-    refill(log);
     let address = number(line, 1);
     let mut values = [0u8; 64];
     let n = bytes(line, address.next, &mut values);
@@ -163,12 +172,11 @@ fn external_line(
 fn directory_line(
     line: &[u8],
     d: Directory,
-    ram: &mut [u8],
-    parity: &mut [u8],
-    data: &mut [u8],
-    log: &mut [u32],
+    ram: &[u8],
+    parity: &[u8],
+    data: &[u8],
+    log: &[u32],
 ) -> Directory {
-    refill(log);
     let letter = letter_of(line);
     let done = directory_call(letter, line, d);
     call_row(letter, done, ram, parity, data, log)

@@ -1,6 +1,7 @@
 // Script lines: a letter and fields, a blank before each field, a newline at the end.
 ghost use Prim.Native.Nat.{_<_, _≤_};
 ghost use lib.ListN.{length};
+ghost use Rattle.io.specs.Counts.{Counts};
 
 // A field's number, and the place after it.
 pub struct Field {
@@ -40,7 +41,7 @@ pub fn number(line: &[u8], at: usize) -> Field {
 
 // A field of digits that are each a value: how many there are, as far as they have room.
 pub fn digits(line: &[u8], at: usize, values: &mut [u8]) -> usize
-    ensures { λ r. ⌜ r ≤ length (now (values .entry)) ⌝ }
+    ensures { λ r. ⌜ Counts r (now (values .exit)) ⌝ }
 {
     let field = tail(line, after_blank(line, at));
     let mut k = 0;
@@ -60,7 +61,7 @@ pub fn digits(line: &[u8], at: usize, values: &mut [u8]) -> usize
 
 // Fields that are each a byte: how many there are, as far as they have room.
 pub fn bytes(line: &[u8], at: usize, values: &mut [u8]) -> usize
-    ensures { λ r. ⌜ r ≤ length (now (values .entry)) ⌝ }
+    ensures { λ r. ⌜ Counts r (now (values .exit)) ⌝ }
 {
     let mut next = at;
     let mut k = 0;
@@ -84,7 +85,12 @@ fn tail(line: &[u8], at: usize) -> &[u8] {
 }
 
 fn after_blank(line: &[u8], at: usize) -> usize {
-    if is_blank(line, at) { at + 1 } else { at }
+    if at < line.len() {
+        if line[at] == b' ' {
+            return at + 1;
+        }
+    }
+    at
 }
 
 fn is_blank(line: &[u8], at: usize) -> bool {

@@ -1,4 +1,5 @@
 // Units: the line for a new one, its contents, and the lines up to the next.
+ghost use mathlib.Core.Path.{_≡_};
 ghost use Prim.Native.Nat.{_<_, _≤_};
 ghost use lib.ListN.{length};
 use crate::calls::refill;
@@ -38,13 +39,13 @@ fn run_unit(script: &[u8], at: usize, begin: usize) -> usize
         ram: ram_seed.value,
         data: data_seed.value,
     };
-    let mut ram = [0u8; 65536];
-    let mut parity = [0u8; 16400];
-    let mut data = [0u8; 8208];
-    let mut log = [0u32; 128];
+    let mut ram = io::large_buffer();
+    let mut parity = io::large_buffer();
+    let mut data = io::large_buffer();
+    let mut log = log_buffer();
     let r = at_most(ram_field.value, 65536);
-    let p = at_most(parity_field.value, 16400);
-    let d = at_most(data_field.value, 8208);
+    let p = at_most(parity_field.value, 65536);
+    let d = at_most(data_field.value, 65536);
     let l = at_most(log_field.value, 128);
     run_calls(
         script,
@@ -55,6 +56,13 @@ fn run_unit(script: &[u8], at: usize, begin: usize) -> usize
         &mut data[..d],
         &mut log[..l],
     )
+}
+
+// The contract gives only the length, as io's buffers do: proofs would write all words out.
+fn log_buffer() -> [u32; 128]
+    ensures { λ r. ⌜ 128 ≡ length r ⌝ }
+{
+    [0u32; 128]
 }
 
 fn at_most(value: u32, limit: usize) -> usize
@@ -76,9 +84,7 @@ fn run_calls(
 ) -> usize
     ensures { λ r. ⌜ begin ≤ r ⌝ }
 {
-    fill(ram, seeds.ram);
-    fill(data, seeds.data);
-    set_parity(parity, ram);
+    set_contents(seeds, ram, parity, data);
     refill(log);
     unit_row(Directory::reset(), ram, parity, data, log);
     run_lines(script, begin, ram, parity, data, log)
@@ -104,6 +110,12 @@ fn run_lines(
         at = end;
     }
     at
+}
+
+fn set_contents(seeds: Seeds, ram: &mut [u8], parity: &mut [u8], data: &mut [u8]) {
+    fill(data, seeds.data);
+    fill(ram, seeds.ram);
+    set_parity(parity, ram);
 }
 
 // Bytes of a linear congruential generator's states.
