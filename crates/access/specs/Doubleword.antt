@@ -7,7 +7,7 @@ use lib.Seq.{sets}
 use Rattle.directory.specs.declared.steps.Directory.{Directory}
 use Rattle.directory.specs.declared.ways.Found.{Found}
 use Rattle.directory.specs.declared.ways.Found.the-variants.{At, Nothing}
-use Rattle.directory.specs.Address.{setOf, tagOf, lineOf}
+use Rattle.directory.specs.Address.{byteOf, setOf, tagOf, lineOf}
 use Rattle.directory.specs.Steps.{afterUse, afterFill}
 use Rattle.access.specs.Groups.{group}
 use Rattle.access.specs.declared.doubleword.Change.{Change}
@@ -33,7 +33,7 @@ doublewordsOf (suc g) xs address (suc n) place =
     let here = min (suc n) (4 - address % 4) in
     record {
       line = address / 16 * 16;
-      wanted = run (address % 16) here;
+      wanted = run (byteOf address) here;
       place = place;
       answers = take group xs;
     }

@@ -139,7 +139,7 @@ pub fn read(
         begin,
         pcd,
     );
-    let value = word_of(&operand);
+    let value = word_of(operand);
     let directory = done.directory;
     Outcome {
         directory,

@@ -10,11 +10,12 @@ use lib.ListN.{length, getD, drop}
 use lib.Seq.{drop-cons, sets, length-sets}
 use Rattle.bus.specs.declared.cycle.Turn.{Turn}
 use Rattle.bus.specs.Bytes.{bytesAt, wordIn}
-use Rattle.bus.specs.Parity.{Memory, wrongIn}
+use Rattle.bus.specs.Parity.{Memory, put, stored, wrongIn}
 use Rattle.bus.specs.Bus.{Run, run, sizeOf, left, none, Cycle, cyclesOf, lastAnswer, through, brought, sent}
 use Rattle.bus.specs.Record.{Record, flagsOf, readRecord, writeRecord, wordsOf, logged, writing}
 use Rattle.bus.specs.Turns.{later, wantedAt, nextTurn, cycleAt, Ready, Room, ReadCycle, ReadCycles, WriteCycle, WriteCycles}
-use Rattle.bus.proofs.Sizing.{wanted-some, wanted-none, wanted-next, last-next, next-used, next-ready}
+use Rattle.bus.proofs.Bits.{put-lengths}
+use Rattle.bus.proofs.Sizing.{size-most, wanted-some, wanted-none, wanted-next, last-next, next-used, next-ready}
 
 -- one record, then the others
 pub logged-cons : (log : List ℕ) (first : ℕ) (r : Record) (rs : List Record) → logged log first (r ∷ rs) ≡ logged (logged log first (r ∷ [])) (first + 1) rs
@@ -65,3 +66,161 @@ module _ {S : Type 0} (f : Run → S → S) (make : Cycle → Record) (start fir
     pub ends : lastAnswer (t .answer) (restAt start xs t) ≡ lastAnswer 0 (restAt start xs begin)
     pub ready : Ready t (length xs)
     pub lengths : length log ≡ length log₀
+
+  pub kept-begin : (begin : Turn) (log₀ : List ℕ) (s₀ : S) → begin .used ≡ 0 → begin .answer ≡ 0 → Ready begin (length xs) → Kept begin log₀ s₀ begin log₀ s₀
+  kept-begin begin log₀ s₀ e a r =
+      let n : first + begin .used ≡ first = omega arith in
+      record {
+        logs = rw n;
+        works = refl;
+        made = omega arith;
+        ends = rw a;
+        ready = r;
+        lengths = refl;
+      }
+
+  pub used-more : (t : Turn) → Ready t (length xs) → 0 < t .count → t .used < length xs
+  used-more t r some = omega (arith, r .enough)
+
+  pub kept-next : {begin : Turn} {log₀ : List ℕ} {s₀ : S} {t : Turn} {log : List ℕ} {s : S} (u : Turn) (log′ : List ℕ) (s′ : S) →
+      start < 4 → 0 < t .count → Kept begin log₀ s₀ t log s →
+      u ≡ nextTurn start t (getD xs (t .used) 0) →
+      log′ ≡ logged log (first + t .used) (make (cycleAt start t (getD xs (t .used) 0)) ∷ []) →
+      s′ ≡ f (cycleAt start t (getD xs (t .used) 0) .moved) s →
+      Kept begin log₀ s₀ u log′ s′
+  unfolding through lastAnswer
+  kept-next {begin} {log₀} {s₀} {t} {log} {s} u log′ s′ sl some k eu el es =
+      let x = getD xs (t .used) 0 in
+      let more = used-more t (k .ready) some in
+      let r : restAt start xs t ≡ cycleAt start t x ∷ restAt start xs u = rest-next start xs t some more ∙ rw eu in
+      let n = next-used start t x in
+      let uu : u .used ≡ t .used + 1 = rw eu (n .0) in
+      let ua : u .answer ≡ x = rw eu (n .1) in
+      let at : first + u .used ≡ first + t .used + 1 = omega arith in
+      record {
+        logs = rw (at, el, ← logged-cons log (first + t .used) (make (cycleAt start t x)) (map make (restAt start xs u))) (rw r at (k .logs));
+        works = rw es (rw r at (k .works));
+        made = let m = rw r at (k .made) in omega arith;
+        ends = ap (λ (y : ℕ). lastAnswer y (restAt start xs u)) ua ∙ (rw r at (k .ends));
+        ready = rw eu (next-ready start t x (length xs) sl some (k .ready));
+        lengths = rw el (length-sets log (3 * (first + t .used)) (wordsOf (make (cycleAt start t x) ∷ [])) ∙ k .lengths);
+      }
+
+  pub kept-end : {begin : Turn} {log₀ : List ℕ} {s₀ : S} {t : Turn} {log : List ℕ} {s : S} → t .count ≡ 0 → Kept begin log₀ s₀ t log s →
+      (log ≡ logged log₀ first (map make (restAt start xs begin)))
+      × (s ≡ through f (restAt start xs begin) s₀)
+      × (t .used ≡ length (restAt start xs begin))
+      × (t .answer ≡ lastAnswer 0 (restAt start xs begin))
+  unfolding through lastAnswer wordsOf
+  kept-end {t = t} z k =
+      let r = rest-done start xs t z in
+      (rw r at (k .logs), rw r at (k .works), (let m = rw r at (k .made) in omega arith), rw r at (k .ends))
+
+-- one read cycle of the code, from what its parts leave
+module _ (kind : ℕ) (m : Memory) (start line first : ℕ) (t : Turn) (x : ℕ) (log₀ buffer₀ : List ℕ) where
+  pub read-cycle-left : {size address flags word : ℕ} {wrong : Bool} {next : Turn} {log buffer : List ℕ} →
+      size ≡ sizeOf x (run (t .from) (t .count)) →
+      next ≡ nextTurn start t x →
+      wrong ≡ wrongIn m (line + t .from) size →
+      flags ≡ flagsOf (t .from % 4) size kind (eqb (next .count) 0) wrong →
+      address ≡ line + t .from / 4 * 4 →
+      word ≡ wordIn (t .from % 4) (bytesAt (m .ram) (line + t .from) size) →
+      log ≡ logged log₀ (first + t .used) (record { address = address; flags = flags; word = word } ∷ []) →
+      buffer ≡ sets buffer₀ (t .from) (bytesAt (m .ram) (line + t .from) size) →
+      ReadCycle kind m start line first t x log₀ buffer₀ next log buffer
+  unfolding readRecord
+  read-cycle-left es en ew ef ea ed el eb =
+      record { turn = en; logs = rw (el, ed, ef, ew, ea, en, es); brings = rw (eb, es) }
+
+-- one write cycle of the code
+module _ (buffer : List ℕ) (line first : ℕ) (t : Turn) (x : ℕ) (m₀ : Memory) (log₀ : List ℕ) where
+  pub write-cycle-left : {size address flags word : ℕ} {next : Turn} {m : Memory} {log : List ℕ} →
+      size ≡ sizeOf x (run (t .from) (t .count)) →
+      next ≡ nextTurn 0 t x →
+      flags ≡ flagsOf (t .from % 4) size 16 (eqb (next .count) 0) false →
+      address ≡ line + t .from / 4 * 4 →
+      word ≡ wordIn (t .from % 4) (bytesAt buffer (t .from) size) →
+      log ≡ logged log₀ (first + t .used) (record { address = address; flags = flags; word = word } ∷ []) →
+      m ≡ stored m₀ (line + t .from) (bytesAt buffer (t .from) size) →
+      WriteCycle buffer line first t x m₀ log₀ next m log
+  unfolding writeRecord
+  write-cycle-left es en ef ea ed el em =
+      record { turn = en; logs = rw (el, ed, ef, ea, en, es); sends = rw (em, es) }
+
+-- what a cycle touches lies within its buffers
+pub record Fits (t : Turn) (line first ram parity log size : ℕ) : Type 0 where
+  pub most : size ≤ 4
+  pub lanes : t .from % 4 + size ≤ 4
+  pub whole : t .from + size ≤ 16
+  pub inside : line + t .from + size ≤ ram
+  pub bits : line + t .from + size ≤ 4 * parity
+  pub place : 3 * (first + t .used) + 3 ≤ log
+
+pub cycle-fits : (t : Turn) (line first ram parity answers log buffer size x : ℕ) → 0 < t .count →
+    Ready t answers → Room line first ram parity answers log buffer → size ≡ sizeOf x (run (t .from) (t .count)) →
+    Fits t line first ram parity log size
+cycle-fits t line first ram parity answers log buffer size x some r z e =
+    let m = size-most x (t .from) (t .count) in
+    let s : size ≤ t .count = rw e m in
+    let l : t .from % 4 + size ≤ 4 = omega (arith, r .lanes) in
+    let w = in-line (t .from) size (r .line) l in
+    record {
+      most = omega arith;
+      lanes = l;
+      whole = w;
+      inside = omega (arith, z .inside);
+      bits = omega (arith, z .inside, z .bits);
+      place = omega (arith, r .enough, z .records);
+    }
+  where
+    in-line : (from size : ℕ) → from < 16 → from % 4 + size ≤ 4 → from + size ≤ 16
+    in-line from size h l = omega arith
+
+-- the loops' measure falls, and where nothing is wanted the loops have left what all cycles leave
+pub less-next : (start : ℕ) (t u : Turn) (x n : ℕ) → u ≡ nextTurn start t x → t .used < n → n - u .used < n - t .used
+less-next start t u x n e h = let k : u .used ≡ t .used + 1 = rw e (next-used start t x .0) in omega arith
+
+pub read-cycles-left : (kind : ℕ) (m : Memory) (xs : List ℕ) (start line first : ℕ) (begin t : Turn) (log₀ buffer₀ log buffer : List ℕ) →
+    begin .used ≡ 0 → t .count ≡ 0 →
+    Kept (brought (m .ram) line) (readRecord kind m line) start first xs begin log₀ buffer₀ t log buffer →
+    ReadCycles kind m xs start line first begin log₀ buffer₀ t log buffer
+read-cycles-left kind m xs start line first begin t log₀ buffer₀ log buffer u z k =
+    let b = rest-begin start xs begin u in
+    let e = kept-end (brought (m .ram) line) (readRecord kind m line) start first xs z k in
+    record {
+      logs = rw (← b) (e .0);
+      brings = rw (← b) (e .1);
+      made = rw (← b) (e .2);
+      ends = rw (← b) (e .3);
+      most = omega (arith, k .ready .enough);
+    }
+
+pub write-cycles-left : (buffer xs : List ℕ) (line first : ℕ) (begin t : Turn) (m₀ : Memory) (log₀ : List ℕ) (m : Memory) (log : List ℕ) →
+    begin .used ≡ 0 → t .count ≡ 0 →
+    Kept (sent buffer line) (writeRecord buffer line) 0 first xs begin log₀ m₀ t log m →
+    WriteCycles buffer xs line first begin m₀ log₀ t m log
+write-cycles-left buffer xs line first begin t m₀ log₀ m log u z k =
+    let b = rest-begin 0 xs begin u in
+    let e = kept-end (sent buffer line) (writeRecord buffer line) 0 first xs z k in
+    record {
+      logs = rw (← b) (e .0);
+      sends = rw (← b) (e .1);
+      made = rw (← b) (e .2);
+      most = omega (arith, k .ready .enough);
+    }
+
+-- a store leaves the lengths of memory
+pub stored-lengths : (bytes : List ℕ) (m : Memory) (a : ℕ) → (length (stored m a bytes .ram) ≡ length (m .ram)) × (length (stored m a bytes .parity) ≡ length (m .parity))
+unfolding stored
+stored-lengths [] m a = (refl, refl)
+stored-lengths (b ∷ bytes) m a =
+    let k = stored-lengths bytes (put m a b) (suc a) in
+    let e = put-lengths m a b in
+    (k .0 ∙ e .0, k .1 ∙ e .1)
+
+-- a read cycle leaves the length of the line buffer
+pub read-cycle-length : {kind : ℕ} {m : Memory} {start line first : ℕ} {t : Turn} {x : ℕ} {log₀ buffer₀ : List ℕ} {r : Turn} {log buffer : List ℕ} →
+    ReadCycle kind m start line first t x log₀ buffer₀ r log buffer → length buffer ≡ length buffer₀
+read-cycle-length {m = m} {start} {line} {t = t} {x} {buffer₀ = buffer₀} c =
+    ap length (c .brings)
+    ∙ length-sets buffer₀ (t .from) (bytesAt (m .ram) (line + t .from) (sizeOf x (run (t .from) (t .count))))

@@ -7,6 +7,7 @@ use native.Mathlib.Omega.{arith}
 use lib.Dec.{eqb}
 use lib.ListN.{getD}
 use borrow.Author.Tests.{eqb-true, eqb-false, eq-eqb, ne-eqb}
+use Rattle.laws.proofs.Below.{four}
 use Rattle.laws.proofs.Tests.{by-test, same-or, cond-true, cond-false}
 use Rattle.bus.specs.declared.cycle.Turn.{Turn}
 use Rattle.bus.specs.Bus.{bs8, bs16, Run, run, room, sizeOf, left, none, burst}
@@ -26,14 +27,6 @@ size-some x from count h = let r = room-some x from in omega arith
 pub size-most : (x from count : ℕ) → sizeOf x (run from count) ≤ count
 unfolding sizeOf
 size-most x from count = omega arith
-
--- the four starts and turns of the burst order
-pub four : (P : ℕ → Type 0) → P 0 → P 1 → P 2 → P 3 → (n : ℕ) → n < 4 → P n
-four P p0 p1 p2 p3 zero h = p0
-four P p0 p1 p2 p3 (suc zero) h = p1
-four P p0 p1 p2 p3 (suc (suc zero)) h = p2
-four P p0 p1 p2 p3 (suc (suc (suc zero))) h = p3
-four P p0 p1 p2 p3 (suc (suc (suc (suc n)))) h = absurd (omega arith)
 
 -- an offset of the burst order is that of a doubleword of the line
 abbrev Whole : ℕ → Type 0

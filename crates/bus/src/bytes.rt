@@ -18,8 +18,8 @@ pub fn copy_bytes(src: &[u8], s: usize, dst: &mut [u8], d: usize, count: usize)
 }
 
 // The doubleword of four lanes.
-pub fn word_of(lanes: &[u8; 4]) -> u32
-    ensures { λ r. ⌜ r ≡ valueOf (now (lanes .entry)) ⌝ }
+pub fn word_of(lanes: [u8; 4]) -> u32
+    ensures { λ r. ⌜ r ≡ valueOf lanes ⌝ }
 {
     lanes[0] as u32 + 256 * lanes[1] as u32 + 65536 * lanes[2] as u32 + 16777216 * lanes[3] as u32
 }
@@ -31,7 +31,7 @@ pub fn lane_word(src: &[u8], at: usize, lane: usize, count: usize) -> u32
 {
     let mut lanes = [0u8; 4];
     copy_bytes(src, at, &mut lanes, lane, count);
-    word_of(&lanes)
+    word_of(lanes)
 }
 
 // The four bytes of a number, the lowest first.

@@ -1,5 +1,6 @@
 // The records that cycles leave in the log.
 ghost use mathlib.Core.Path.{_≡_};
+ghost use mathlib.Core.Bool.{cond};
 ghost use mathlib.Core.List.{[], _∷_};
 ghost use Prim.Native.Nat.{_+_, _*_, _≤_, _<_};
 ghost use lib.ListN.{length};
@@ -34,7 +35,7 @@ fn lanes_of(lane: usize, count: usize) -> u32
 }
 
 fn flag_if(on: bool, flag: u32) -> u32
-    ensures { λ r. ⌜ r ≤ flag ⌝ }
+    ensures { λ r. ⌜ (r ≡ cond on flag 0) × (r ≤ flag) ⌝ }
 {
     if on { flag } else { 0 }
 }

@@ -1,5 +1,5 @@
 -- Laws of the four ways of a set: what `lowest` finds, and that a victim is one of them.
-use Prim.Native.Nat.{ℕ, zero, suc, _+_, _%_, _<_}
+use Prim.Native.Nat.{ℕ, _+_, _%_, _<_}
 use mathlib.Core.Path.{_≡_, refl, sym, _∙_}
 use mathlib.Core.Bool.{Bool, true, false, cond, not}
 use mathlib.Core.List.{List}
@@ -11,15 +11,8 @@ use Rattle.directory.specs.declared.ways.Found.the-variants.{At, Nothing
 use Rattle.directory.specs.Address.{setOf, tagOf}
 use Rattle.directory.specs.Lru.{lruAfter, lruWay}
 use Rattle.directory.specs.Ways.{markAt, holds, lowest, wayOr, lookupIn, victimIn}
-use Rattle.directory.proofs.Tests.{differ}
-
--- what holds of each way
-pub four : (P : ℕ → Type 0) → P 0 → P 1 → P 2 → P 3 → (w : ℕ) → w < 4 → P w
-four P p0 p1 p2 p3 zero h = p0
-four P p0 p1 p2 p3 (suc zero) h = p1
-four P p0 p1 p2 p3 (suc (suc zero)) h = p2
-four P p0 p1 p2 p3 (suc (suc (suc zero))) h = p3
-four P p0 p1 p2 p3 (suc (suc (suc (suc w)))) h = absurd (omega arith)
+use Rattle.laws.proofs.Tests.{differ}
+use Rattle.laws.proofs.Below.{four}
 
 -- what holds of each pair of ways
 pub six : (P : ℕ → ℕ → Type 0) → P 0 1 → P 0 2 → P 0 3 → P 1 2 → P 1 3 → P 2 3 → (w v : ℕ) → w < v → v < 4 → P w v

@@ -15,7 +15,7 @@ use Rattle.directory.specs.Lru.{lruAfter}
 use Rattle.directory.specs.Ways.{holds, lookupIn}
 use Rattle.directory.specs.Steps.{validAt, tagAt, lruAt, lookupOf, stateOf, afterUse, afterFill, afterReset, afterControl, controlRefused, controlCall, afterFlush, invalidated, afterSnoop, snoopCall}
 use Rattle.directory.specs.WellFormed.{Held, Same, GoodSet, Sized, WellFormed}
-use Rattle.directory.proofs.Tests.{both, refuted, differ, cond-true, cond-false, by-test}
+use Rattle.laws.proofs.Tests.{both, refuted, differ, cond-true, cond-false, by-test}
 use Rattle.directory.proofs.FourWays.{lowest-at, lowest-nothing, none-lowest, one-lowest}
 use Rattle.directory.proofs.Lines.{same-line, stored-line, stored-other, use-lru-here, use-lru-apart, use-lru-below, fewer-well-formed}
 use Rattle.directory.proofs.SetState.{state-good, good-state}

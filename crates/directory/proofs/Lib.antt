@@ -1,5 +1,4 @@
--- Laws that several proofs cite. A crate above works from `Laws`, and from `Tests` and `FourWays` for plain facts; the others are their proofs.
-pub mod Tests
+-- Laws that several proofs cite. A crate above works from `Laws`, and from `FourWays` for the bounds of a way; the others are their proofs.
 pub mod FourWays
 mod Lines
 mod SetState

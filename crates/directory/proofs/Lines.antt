@@ -10,7 +10,7 @@ use Rattle.directory.specs.Address.{lineOf}
 use Rattle.directory.specs.Lru.{lruAfter}
 use Rattle.directory.specs.Steps.{lruAt, afterUse}
 use Rattle.directory.specs.WellFormed.{Held, Same, Sized, WellFormed}
-use Rattle.directory.proofs.Tests.{same-or}
+use Rattle.laws.proofs.Tests.{same-or}
 use Rattle.directory.proofs.FourWays.{lru-after-below}
 
 -- a line is named by one set and one way

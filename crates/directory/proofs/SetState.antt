@@ -9,8 +9,9 @@ use Rattle.directory.specs.declared.steps.Directory.{Directory}
 use Rattle.directory.specs.State.{samePair, sameTags, tagAbove, tagsAbove, firstNumber, stateIn}
 use Rattle.directory.specs.Steps.{validAt, tagAt, lruAt, stateOf}
 use Rattle.directory.specs.WellFormed.{Held, GoodSet}
-use Rattle.directory.proofs.Tests.{both, neither, refuted, differ}
-use Rattle.directory.proofs.FourWays.{four, six}
+use Rattle.laws.proofs.Below.{four}
+use Rattle.laws.proofs.Tests.{both, neither, refuted, differ}
+use Rattle.directory.proofs.FourWays.{six}
 
 small : (n : ℕ) (b : Bool) → ltb 7 n ≡ b → firstNumber false false n ≡ 0 → n ≤ 7
 unfolding firstNumber

@@ -1,2 +1,3 @@
 -- Plain laws that the proofs of every crate cite.
 pub mod Tests
+pub mod Below

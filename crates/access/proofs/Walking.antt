@@ -1,0 +1,364 @@
+-- Laws of the loops over doublewords: what is left from here gives what the whole gives.
+use Prim.Native.Nat.{ℕ, zero, suc, _+_, _*_, _-_, _/_, _%_, _≤_, _<_, min}
+use mathlib.Core.Path.{_≡_, refl, sym, _∙_, ap}
+use mathlib.Core.Bool.{Bool}
+use mathlib.Core.List.{List, [], _∷_, _++_}
+use native.Mathlib.Omega.{arith}
+use native.Mathlib.Decide.{decLe}
+use lib.ListN.{length, set, take, drop, length-append, length-take, length-drop}
+use lib.Seq.{drop-drop, sets, length-sets}
+use Rattle.bus.specs.Parity.{Memory}
+use Rattle.bus.specs.Bus.{run}
+use Rattle.bus.specs.Record.{Record, logged, wordsOf}
+use Rattle.directory.specs.declared.steps.Directory.{Directory}
+use Rattle.access.specs.declared.doubleword.Moved.{Moved}
+use Rattle.access.specs.declared.doubleword.Wanted.{Wanted}
+use Rattle.access.specs.declared.walk.Walk.{Walk}
+use Rattle.access.specs.declared.walk.Walked.{Walked}
+use Rattle.access.specs.Groups.{group, groups}
+use Rattle.access.specs.Doubleword.{Doubleword, Done, doublewordsOf, changed}
+use Rattle.access.specs.Access.{State, state, Progress, allOf, next, readOne, writeOne}
+use Rattle.access.specs.Walks.{doublewordOf, Spot, Reads, Writes, wantedOf, nextWalk, restOf, Path, ReadsAll, WritesAll}
+use Rattle.access.proofs.Doublewords.{one-memory}
+use Rattle.access.proofs.Values.{one-length}
+
+-- lists put in one after the other
+pub sets-append : {A : Type 0} (l : List A) (i : ℕ) (a b : List A) → sets l i (a ++ b) ≡ sets (sets l i a) (i + length a) b
+sets-append l i [] b = let e : i + 0 ≡ i = omega arith in rw e
+sets-append l i (x ∷ a) b =
+    let e : i + suc (length a) ≡ suc i + length a = omega arith in
+    rw e (sets-append (set l i x) (suc i) a b)
+
+words-append : (a b : List Record) → wordsOf (a ++ b) ≡ wordsOf a ++ wordsOf b
+unfolding wordsOf
+words-append [] b = refl
+words-append (r ∷ a) b = rw (words-append a b)
+
+words-length : (a : List Record) → length (wordsOf a) ≡ 3 * length a
+unfolding wordsOf
+words-length [] = refl
+words-length (r ∷ a) = let e = words-length a in omega arith
+
+pub logged-append : (log : List ℕ) (first : ℕ) (a b : List Record) → logged log first (a ++ b) ≡ logged (logged log first a) (first + length a) b
+logged-append log first a b =
+    let e : 3 * first + length (wordsOf a) ≡ 3 * (first + length a) = omega (arith, words-length a) in
+    rw (words-append a b) (rw e at (sets-append log (3 * first) (wordsOf a) (wordsOf b)))
+
+-- the next doubleword, and those after it
+next-of : (g : ℕ) (xs : List ℕ) (address n place : ℕ) → 0 < n →
+    doublewordsOf (suc g) xs address n place
+    ≡ record {
+      line = address / 16 * 16;
+      wanted = run (address % 16) (min n (4 - address % 4));
+      place = place;
+      answers = take group xs;
+    }
+    ∷ doublewordsOf g (drop group xs) (address + min n (4 - address % 4)) (n - min n (4 - address % 4)) (place + min n (4 - address % 4))
+unfolding doublewordsOf
+next-of g xs address zero place h = absurd (omega arith)
+next-of g xs address (suc n) place h = refl
+
+none-of : (g : ℕ) (xs : List ℕ) (address place : ℕ) → doublewordsOf g xs address 0 place ≡ []
+unfolding doublewordsOf
+none-of zero xs address place = refl
+none-of (suc g) xs address place = refl
+
+-- the group of answers that serves the next doubleword
+abbrev pub groupAt : Walk → List ℕ → List ℕ
+groupAt walk xs = take group (drop (walk .group * group) xs)
+
+module _ (walk : Walk) (xs : List ℕ) (records : ℕ) (some : 0 < walk .left) (more : walk .group < groups) where
+  abbrev count : ℕ
+  count = min (walk .left) (4 - walk .address % 4)
+
+  pub rest-next : restOf walk xs ≡ doublewordOf (wantedOf walk) (groupAt walk xs) ∷ restOf (nextWalk walk count records) xs
+  unfolding restOf
+  rest-next =
+      let g : groups - walk .group ≡ suc (groups - (walk .group + 1)) = omega arith in
+      let d : walk .group * group + group ≡ (walk .group + 1) * group = omega arith in
+      let q : drop group (drop (walk .group * group) xs) ≡ drop ((walk .group + 1) * group) xs = drop-drop group (walk .group * group) xs ∙ ap (λ (i : ℕ). drop i xs) d in
+      ap (λ (i : ℕ). doublewordsOf i (drop (walk .group * group) xs) (walk .address) (walk .left) (walk .place)) g
+      ∙ next-of (groups - (walk .group + 1)) (drop (walk .group * group) xs) (walk .address) (walk .left) (walk .place) some
+      ∙ ap (λ (ys : List ℕ). doublewordOf (wantedOf walk) (groupAt walk xs) ∷ doublewordsOf (groups - (walk .group + 1)) ys (walk .address + count) (walk .left - count) (walk .place + count)) q
+
+pub rest-done : (walk : Walk) (xs : List ℕ) → walk .left ≡ 0 → restOf walk xs ≡ []
+unfolding restOf
+rest-done walk xs e =
+    ap (λ (n : ℕ). doublewordsOf (groups - walk .group) (drop (walk .group * group) xs) (walk .address) n (walk .place)) e
+    ∙ none-of (groups - walk .group) (drop (walk .group * group) xs) (walk .address) (walk .place)
+
+-- what the loops keep: the doublewords left give what all give
+module _ (one : State → Doubleword → Done) (xs : List ℕ) where
+  pub record Going (p : Progress) (log₀ : List ℕ) (walk : Walk) (s : State) (log : List ℕ) : Type 0 where
+    pub states : allOf one s (restOf walk xs) .state ≡ p .state
+    pub logs : logged log (walk .records) (allOf one s (restOf walk xs) .records) ≡ logged log₀ 0 (p .records)
+    pub made : walk .records + length (allOf one s (restOf walk xs) .records) ≡ length (p .records)
+
+  pub going-begin : (walk : Walk) (s : State) (log₀ : List ℕ) → walk .records ≡ 0 → Going (allOf one s (restOf walk xs)) log₀ walk s log₀
+  going-begin walk s log₀ e =
+      record {
+        states = refl;
+        logs = ap (λ (n : ℕ). logged log₀ n (allOf one s (restOf walk xs) .records)) e;
+        made = omega arith;
+      }
+
+  module _ (walk : Walk) (s : State) (log : List ℕ) (some : 0 < walk .left) (more : walk .group < groups) where
+    abbrev w : Doubleword
+    w = doublewordOf (wantedOf walk) (groupAt walk xs)
+
+    -- all doublewords left are the next one and those after it
+    pub all-next : (records : ℕ) → allOf one s (restOf walk xs)
+        ≡ record {
+          state = allOf one (next s w (one s w)) (restOf (nextWalk walk (min (walk .left) (4 - walk .address % 4)) records) xs) .state;
+          bytes = one s w .bytes ++ allOf one (next s w (one s w)) (restOf (nextWalk walk (min (walk .left) (4 - walk .address % 4)) records) xs) .bytes;
+          records = one s w .records ++ allOf one (next s w (one s w)) (restOf (nextWalk walk (min (walk .left) (4 - walk .address % 4)) records) xs) .records;
+        }
+    unfolding allOf
+    all-next records = rw (rest-next walk xs records some more)
+
+    pub going-next : {p : Progress} {log₀ : List ℕ} (s′ : State) (log′ : List ℕ) (n : ℕ) → Going p log₀ walk s log →
+        s′ ≡ next s w (one s w) →
+        log′ ≡ logged log (walk .records) (one s w .records) →
+        n ≡ length (one s w .records) →
+        Going p log₀ (nextWalk walk (min (walk .left) (4 - walk .address % 4)) n) s′ log′
+    going-next s′ log′ n g es el en =
+        let a = all-next n in
+        let rest = allOf one (next s w (one s w)) (restOf (nextWalk walk (min (walk .left) (4 - walk .address % 4)) n) xs) in
+        let k : walk .records + n ≡ walk .records + length (one s w .records) = omega arith in
+        let m : walk .records + length (allOf one s (restOf walk xs) .records) ≡ walk .records + (length (one s w .records) + length (rest .records)) = ap (λ (q : Progress). walk .records + length (q .records)) a ∙ ap (λ (i : ℕ). walk .records + i) (length-append (one s w .records) (rest .records)) in
+        record {
+          states = rw es (sym (ap (λ (q : Progress). q .state) a) ∙ g .states);
+          logs =
+              rw (es, el)
+              (ap (λ (i : ℕ). logged (logged log (walk .records) (one s w .records)) i (rest .records)) k
+              ∙ sym (logged-append log (walk .records) (one s w .records) (rest .records))
+              ∙ sym (ap (λ (q : Progress). logged log (walk .records) (q .records)) a)
+              ∙ g .logs);
+          made = rw es (omega (arith, g .made));
+        }
+
+    -- the bytes that a read has still to put into its operand
+    pub bytes-next : (p : Progress) (operand operand′ operand₀ : List ℕ) (s′ : State) (n : ℕ) →
+        sets operand (walk .place) (allOf one s (restOf walk xs) .bytes) ≡ sets operand₀ 0 (p .bytes) →
+        s′ ≡ next s w (one s w) →
+        operand′ ≡ sets operand (walk .place) (one s w .bytes) →
+        length (one s w .bytes) ≡ min (walk .left) (4 - walk .address % 4) →
+        sets operand′ (walk .place + min (walk .left) (4 - walk .address % 4)) (allOf one s′ (restOf (nextWalk walk (min (walk .left) (4 - walk .address % 4)) n) xs) .bytes) ≡ sets operand₀ 0 (p .bytes)
+    bytes-next p operand operand′ operand₀ s′ n g es eo el =
+        let a = all-next n in
+        let rest = allOf one (next s w (one s w)) (restOf (nextWalk walk (min (walk .left) (4 - walk .address % 4)) n) xs) in
+        rw (es, eo)
+        (ap (λ (i : ℕ). sets (sets operand (walk .place) (one s w .bytes)) (walk .place + i) (rest .bytes)) (sym el)
+        ∙ sym (sets-append operand (walk .place) (one s w .bytes) (rest .bytes))
+        ∙ sym (ap (λ (q : Progress). sets operand (walk .place) (q .bytes)) a)
+        ∙ g)
+
+  pub going-end : {p : Progress} {log₀ : List ℕ} (walk : Walk) (s : State) (log : List ℕ) → walk .left ≡ 0 → Going p log₀ walk s log →
+      (s ≡ p .state) × (log ≡ logged log₀ 0 (p .records)) × (walk .records ≡ length (p .records))
+  unfolding allOf wordsOf
+  going-end walk s log z g =
+      let r = rest-done walk xs z in
+      (rw r at (g .states), rw r at (g .logs), (let m = rw r at (g .made) in omega arith))
+
+-- the bytes left fit into the doublewords left: all go into this one, or this one ends at a boundary
+all-here : (left room c : ℕ) → c ≡ min left room → left ≤ room → left - c ≡ 0
+all-here left room c e h = omega arith
+
+none-fits : (x y : ℕ) → x ≡ 0 → x ≤ y
+none-fits x y e = omega arith
+
+some-here : (left room c : ℕ) → c ≡ min left room → room < left → c ≡ room
+some-here left room c e h = omega arith
+
+boundary : (a c : ℕ) → c ≡ 4 - a % 4 → (a + c) % 4 ≡ 0
+boundary a c e = omega arith
+
+fewer : (left b g c : ℕ) → b < 4 → c ≡ 4 - b → left ≤ 4 * (2 - g) - b → g < 2 → left - c ≤ 4 * (2 - (g + 1))
+fewer left b g c bl e l h = omega arith
+
+fits-next : (left a g c : ℕ) → c ≡ min left (4 - a % 4) → left ≤ 4 * (2 - g) - a % 4 → g < 2 → left - c ≤ 4 * (2 - (g + 1)) - (a + c) % 4
+fits-next left a g c e l h =
+    elim (decLe left (4 - a % 4)) [
+      | yes p ↦ none-fits (left - c) _ (all-here left (4 - a % 4) c e p)
+      | no p ↦
+          let k = some-here left (4 - a % 4) c e (over left (4 - a % 4) p) in
+          let f = boundary a c k in
+          ends (left - c) (4 * (2 - (g + 1))) ((a + c) % 4) f (fewer left (a % 4) g c (omega arith) k l h)
+    ]
+  where
+    over : (x y : ℕ) → (x ≤ y → ⊥) → y < x
+    over x y n = omega arith
+
+    ends : (x y z : ℕ) → z ≡ 0 → x ≤ y → x ≤ y - z
+    ends x y z e h = omega arith
+
+-- what the next doubleword needs, and what is left after it
+module _ (walk : Walk) (ram parity array answers log operand : ℕ) (z : Path walk ram parity array answers log operand) (some : 0 < walk .left) where
+  pub path-more : walk .group < groups
+  path-more = omega (arith, z .fits, z .last)
+
+  pub path-spot : (given : ℕ) → given ≡ group → Spot (wantedOf walk) (walk .records) ram parity given log
+  path-spot given e =
+      record {
+        aligned = omega arith;
+        inside = omega (arith, z .inside, z .whole);
+        small = z .small;
+        bits = omega (arith, z .bits, z .whole);
+        some = omega arith;
+        lanes = omega arith;
+        line = omega arith;
+        served = e;
+        records = omega (arith, z .made, z .room, path-more);
+        few = omega (arith, z .made, path-more);
+      }
+
+  pub path-next : (n : ℕ) → n ≤ group → Path (nextWalk walk (min (walk .left) (4 - walk .address % 4)) n) ram parity array answers log operand
+  path-next n l =
+      record {
+        inside = omega (arith, z .inside);
+        whole = z .whole;
+        small = z .small;
+        bits = z .bits;
+        lines = z .lines;
+        served = z .served;
+        room = z .room;
+        fits = fits-next (walk .left) (walk .address) (walk .group) _ refl (z .fits) path-more;
+        last = omega (arith, path-more);
+        made = omega (arith, z .made);
+        operands = omega (arith, z .operands);
+        four = z .four;
+      }
+
+-- the group of answers that the code takes is the rules'
+pub group-is : (xs : List ℕ) (from to : ℕ) → to ≡ from + 16 → take (to - from) (drop from xs) ≡ take group (drop from xs)
+group-is xs from to e = let k : to - from ≡ 16 = omega arith in ap (λ (n : ℕ). take n (drop from xs)) k
+
+pub group-length : (xs : List ℕ) (from to : ℕ) → to ≡ from + 16 → from + 16 ≤ length xs → length (take (to - from) (drop from xs)) ≡ group
+group-length xs from to e l =
+    let k : to - from ≡ 16 = omega arith in
+    length-take (to - from) (drop from xs) ∙ rw (length-drop from xs) (omega arith)
+
+-- what the loop of a read keeps
+module _ (pcd : Bool) (xs : List ℕ) where
+  pub record ReadGoing (p : Progress) (log₀ operand₀ : List ℕ) (walk : Walk) (s : State) (log operand : List ℕ) : Type 0 where
+    pub going : Going (readOne pcd) xs p log₀ walk s log
+    pub bytes : sets operand (walk .place) (allOf (readOne pcd) s (restOf walk xs) .bytes) ≡ sets operand₀ 0 (p .bytes)
+
+  pub reading-begin : (walk : Walk) (s : State) (log₀ operand₀ : List ℕ) → walk .records ≡ 0 → walk .place ≡ 0 →
+      ReadGoing (allOf (readOne pcd) s (restOf walk xs)) log₀ operand₀ walk s log₀ operand₀
+  reading-begin walk s log₀ operand₀ e f =
+      record {
+        going = going-begin (readOne pcd) xs walk s log₀ e;
+        bytes = ap (λ (i : ℕ). sets operand₀ i (allOf (readOne pcd) s (restOf walk xs) .bytes)) f;
+      }
+
+  -- one doubleword of the code, read by the rules
+  pub reading-next : {p : Progress} {log₀ operand₀ : List ℕ} (walk : Walk) (d : Directory) (m : Memory) (array log operand : List ℕ) →
+      (w : Wanted) (given : List ℕ) (r : Moved) (d′ : Directory) (array′ log′ operand′ : List ℕ) (u : Walk) →
+      0 < walk .left → walk .group < groups →
+      ReadGoing p log₀ operand₀ walk (state d m array) log operand →
+      w ≡ wantedOf walk → given ≡ groupAt walk xs →
+      Reads (readOne pcd (state d m array) (doublewordOf w given)) (w .place) (walk .records) log operand r array′ log′ operand′ →
+      d′ ≡ changed d (w .line) (r .change) →
+      u ≡ nextWalk walk (w .count) (r .records) →
+      ReadGoing p log₀ operand₀ u (state d′ m array′) log′ operand′
+  reading-next {p} {log₀} {operand₀} walk d m array log operand w given r d′ array′ log′ operand′ u some more g ew eg k ed eu =
+      let here = doublewordOf (wantedOf walk) (groupAt walk xs) in
+      let s = state d m array in
+      let k′ : Reads (readOne pcd s here) (walk .place) (walk .records) log operand r array′ log′ operand′ = rw (ew, eg) at k in
+      let c : d′ ≡ changed d (here .line) (readOne pcd s here .change) = ed ∙ ap (λ (x : Wanted). changed d (x .line) (r .change)) ew ∙ ap (changed d (here .line)) (k′ .change) in
+      let mm : readOne pcd s here .memory ≡ m = one-memory pcd s here in
+      let es : state d′ m array′ ≡ next s here (readOne pcd s here) =
+      ap (λ (x : Directory). state x m array′) c
+      ∙ ap (λ (x : Memory). state (changed d (here .line) (readOne pcd s here .change)) x array′) (sym mm)
+      ∙ ap (λ (x : List ℕ). state (changed d (here .line) (readOne pcd s here .change)) (readOne pcd s here .memory) x) (k′ .arrays) in
+      let eu′ : u ≡ nextWalk walk (min (walk .left) (4 - walk .address % 4)) (r .records) = eu ∙ ap (λ (x : Wanted). nextWalk walk (x .count) (r .records)) ew in
+      rw eu′
+      (record {
+        going = going-next (readOne pcd) xs walk s log some more (state d′ m array′) log′ (r .records) (g .going) es (k′ .logs) (k′ .made);
+        bytes = bytes-next (readOne pcd) xs walk s log some more p operand operand′ operand₀ (state d′ m array′) (r .records) (g .bytes) es (k′ .bytes) (one-length pcd s here);
+      })
+
+-- one doubleword of the code, written by the rules
+pub writing-next : (operand xs : List ℕ) {p : Progress} {log₀ : List ℕ} (walk : Walk) (d : Directory) (m : Memory) (array log : List ℕ) →
+    (w : Wanted) (given : List ℕ) (r : Moved) (d′ : Directory) (m′ : Memory) (array′ log′ : List ℕ) (u : Walk) →
+    0 < walk .left → walk .group < groups →
+    Going (writeOne operand) xs p log₀ walk (state d m array) log →
+    w ≡ wantedOf walk → given ≡ groupAt walk xs →
+    Writes (writeOne operand (state d m array) (doublewordOf w given)) (walk .records) log r m′ array′ log′ →
+    d′ ≡ changed d (w .line) (r .change) →
+    u ≡ nextWalk walk (w .count) (r .records) →
+    Going (writeOne operand) xs p log₀ u (state d′ m′ array′) log′
+writing-next operand xs walk d m array log w given r d′ m′ array′ log′ u some more g ew eg k ed eu =
+    let here = doublewordOf (wantedOf walk) (groupAt walk xs) in
+    let s = state d m array in
+    let k′ : Writes (writeOne operand s here) (walk .records) log r m′ array′ log′ = rw (ew, eg) at k in
+    let c : d′ ≡ changed d (here .line) (writeOne operand s here .change) = ed ∙ ap (λ (x : Wanted). changed d (x .line) (r .change)) ew ∙ ap (changed d (here .line)) (k′ .change) in
+    let es : state d′ m′ array′ ≡ next s here (writeOne operand s here) =
+    ap (λ (x : Directory). state x m′ array′) c
+    ∙ ap (λ (x : Memory). state (changed d (here .line) (writeOne operand s here .change)) x array′) (k′ .memories)
+    ∙ ap (λ (x : List ℕ). state (changed d (here .line) (writeOne operand s here .change)) (writeOne operand s here .memory) x) (k′ .arrays) in
+    let eu′ : u ≡ nextWalk walk (min (walk .left) (4 - walk .address % 4)) (r .records) = eu ∙ ap (λ (x : Wanted). nextWalk walk (x .count) (r .records)) ew in
+    rw eu′ (going-next (writeOne operand) xs walk s log some more (state d′ m′ array′) log′ (r .records) g es (k′ .logs) (k′ .made))
+
+-- where nothing is left the loops have left what all doublewords leave
+pub reading-end : (pcd : Bool) (xs : List ℕ) {p : Progress} {log₀ operand₀ : List ℕ} (walk : Walk) (d : Directory) (m : Memory) (array log operand : List ℕ) →
+    walk .left ≡ 0 → walk .records ≤ 32 → ReadGoing pcd xs p log₀ operand₀ walk (state d m array) log operand →
+    ReadsAll p log₀ operand₀ (record { directory = d; records = walk .records }) m array log operand
+unfolding allOf
+reading-end pcd xs walk d m array log operand z l g =
+    let e = going-end (readOne pcd) xs walk (state d m array) log z (g .going) in
+    let r = rest-done walk xs z in
+    record { states = e .0; logs = e .1; bytes = rw r at (g .bytes); made = e .2; most = l }
+
+pub writing-end : (operand xs : List ℕ) {p : Progress} {log₀ : List ℕ} (walk : Walk) (d : Directory) (m : Memory) (array log : List ℕ) →
+    walk .left ≡ 0 → walk .records ≤ 32 → Going (writeOne operand) xs p log₀ walk (state d m array) log →
+    WritesAll p log₀ (record { directory = d; records = walk .records }) m array log
+writing-end operand xs walk d m array log z l g =
+    let e = going-end (writeOne operand) xs walk (state d m array) log z g in
+    record { states = e .0; logs = e .1; made = e .2; most = l }
+
+-- the code's next walk
+module _ (walk u : Walk) (w : Wanted) (n : ℕ) (some : 0 < walk .left) (ew : w ≡ wantedOf walk) (eu : u ≡ nextWalk walk (w .count) n) where
+  walk-next : u ≡ nextWalk walk (min (walk .left) (4 - walk .address % 4)) n
+  walk-next = eu ∙ ap (λ (x : Wanted). nextWalk walk (x .count) n) ew
+
+  pub walk-less : u .left < walk .left
+  walk-less = rw walk-next (omega arith)
+
+  pub walk-path : (ram parity array answers log operand : ℕ) → n ≤ group → Path walk ram parity array answers log operand → Path u ram parity array answers log operand
+  walk-path ram parity array answers log operand l z = rw walk-next (path-next walk ram parity array answers log operand z some n l)
+
+-- what the code's next walk needs
+pub record Steps (walk : Walk) (w : Wanted) (n : ℕ) : Type 0 where
+  pub count : w .count ≤ walk .left
+  pub address : walk .address + walk .left < 4294967296
+  pub group : walk .group < 64
+  pub place : walk .place < 64
+  pub left : walk .left ≤ 64
+  pub records : walk .records ≤ 64
+  pub made : n ≤ 64
+
+pub walk-steps : (walk : Walk) (w : Wanted) (n ram parity array answers log operand : ℕ) → 0 < walk .left → w ≡ wantedOf walk → n ≤ 16 →
+    Path walk ram parity array answers log operand → Steps walk w n
+walk-steps walk w n ram parity array answers log operand some ew l z =
+    let c : w .count ≡ min (walk .left) (4 - walk .address % 4) = ap (λ (x : Wanted). x .count) ew in
+    record {
+      count = rw c (omega arith);
+      address = omega (arith, z .inside, z .small);
+      group = omega (arith, z .last);
+      place = omega (arith, z .operands, z .four);
+      left = omega (arith, z .operands, z .four);
+      records = omega (arith, z .made, z .last);
+      made = omega arith;
+    }
+
+-- what the next doubleword's code needs
+pub walk-spot : (walk : Walk) (w : Wanted) (ram parity array answers log₀ log operand₀ operand given : ℕ) → 0 < walk .left → w ≡ wantedOf walk →
+    Path walk ram parity array answers log₀ operand₀ → log ≡ log₀ → operand ≡ operand₀ → given ≡ group →
+    Spot w (walk .records) ram parity given log × (w .place + w .count ≤ operand)
+walk-spot walk w ram parity array answers log₀ log operand₀ operand given some ew z el eo eg =
+    rw (ew, el, eo) (path-spot walk ram parity array answers log₀ operand₀ z some given eg, room (walk .place) (walk .left) _ operand₀ (z .operands))
+  where
+    room : (place left r operand : ℕ) → place + left ≤ operand → place + min left r ≤ operand
+    room place left r operand h = omega arith

@@ -1,0 +1,90 @@
+use denote.Ref.{now}
+use mathlib.Core.Path.{_≡_, refl, sym, _∙_, ap}
+use Rattle.directory.specs.declared.ways.Found.the-variants.{At, Nothing}
+use Rattle.directory.specs.Ways.{lookupIn}
+use Rattle.directory.proofs.FourWays.{lookup-below}
+use Rattle.access.proofs.Doublewords.{stay-writes, hit-writes, miss-writes}
+use borrow.Author.Needs.{needs}
+use Rattle.access.proofs.doubleword.write_doubleword.Statement.{statement}
+use Rattle.access.proofs.doubleword.write_doubleword.Tie as tie
+
+lookup-requires : tie.Need-lookup-requires
+lookup-requires c κs = search needs
+
+enum-known-way : tie.Need-enum-known-way
+enum-known-way c = search needs
+
+slot-of-requires : tie.Need-slot-of-requires
+slot-of-requires c κs = let e : lookupIn (now (c .before .before .before .before .before .before .before .before .before .before .before .args .tags)) (now (c .before .before .before .before .before .before .before .before .before .before .before .args .valid)) (c .before .before .before .before .before .before .before .before .before .before .before .args .w .line) ≡ At (c .before .before .way .given .0 .0) = cc in lookup-below _ _ _ _ e
+
+add-copy-bytes : tie.Need-add-copy-bytes
+add-copy-bytes c = search needs
+
+copy-bytes-requires : tie.Need-copy-bytes-requires
+copy-bytes-requires c κs = search needs
+
+same-length : tie.Need-same-length
+same-length c = search needs
+
+returns : tie.Need-returns
+returns c = let e : lookupIn (now (c .before .before .before .before .before .before .before .before .before .before .before .before .before .before .before .before .before .args .tags)) (now (c .before .before .before .before .before .before .before .before .before .before .before .before .before .before .before .before .before .args .valid)) (c .before .before .before .before .before .before .before .before .before .before .before .before .before .before .before .before .before .args .w .line) ≡ At (c .before .before .before .before .before .before .before .before .way .given .0 .0) = cc in stay-writes _ _ _ _ _ _ _ _ _ _ _ e (c .if1 .taken) (c .before .before .before .before .before .slot-of .ensures .0) (c .before .before .before .copy-bytes .ensures)
+
+write-through-requires : tie.Need-write-through-requires
+write-through-requires c κs = search needs
+
+same-length-2 : tie.Need-same-length-2
+same-length-2 c = search needs
+
+same-length-3 : tie.Need-same-length-3
+same-length-3 c = search needs
+
+same-length-4 : tie.Need-same-length-4
+same-length-4 c = search needs
+
+same-length-5 : tie.Need-same-length-5
+same-length-5 c = search needs
+
+returns-2 : tie.Need-returns-2
+returns-2 c = let e : lookupIn (now (c .before .before .before .before .before .before .before .before .before .before .before .before .before .before .before .before .before .before .before .before .before .before .before .before .before .before .before .args .tags)) (now (c .before .before .before .before .before .before .before .before .before .before .before .before .before .before .before .before .before .before .before .before .before .before .before .before .before .before .before .args .valid)) (c .before .before .before .before .before .before .before .before .before .before .before .before .before .before .before .before .before .before .before .before .before .before .before .before .before .before .before .args .w .line) ≡ At (c .before .before .before .before .before .before .before .before .before .before .before .before .before .before .before .before .before .before .way .given .0 .0) = cc in hit-writes _ _ _ _ _ _ _ _ _ _ _ _ _ _ e (c .before .before .before .before .before .before .before .before .before .before .if1 .left) (c .before .before .before .before .before .before .before .before .before .before .before .before .before .before .before .slot-of .ensures .0) (c .before .before .before .before .before .before .before .before .before .before .before .before .before .copy-bytes .ensures) (c .before .before .before .before .before .before .write-through .ensures)
+
+enum-told : tie.Need-enum-told
+enum-told c = search needs
+
+write-through-requires-2 : tie.Need-write-through-requires-2
+write-through-requires-2 c κs = search needs
+
+same-length-6 : tie.Need-same-length-6
+same-length-6 c = search needs
+
+same-length-7 : tie.Need-same-length-7
+same-length-7 c = search needs
+
+same-length-8 : tie.Need-same-length-8
+same-length-8 c = search needs
+
+returns-3 : tie.Need-returns-3
+returns-3 c = let e : lookupIn (now (c .before .before .before .before .before .before .before .before .before .before .before .before .before .before .before .before .before .before .before .args .tags)) (now (c .before .before .before .before .before .before .before .before .before .before .before .before .before .before .before .before .before .before .before .args .valid)) (c .before .before .before .before .before .before .before .before .before .before .before .before .before .before .before .before .before .before .before .args .w .line) ≡ Nothing = cc in miss-writes _ _ _ _ _ _ _ _ _ _ _ e (c .before .before .before .before .before .before .write-through2 .ensures)
+
+pub write-doubleword-spec : {M : Type 1} → statement M
+write-doubleword-spec =
+    tie.close
+    (tie.spec
+    lookup-requires
+    enum-known-way
+    slot-of-requires
+    add-copy-bytes
+    copy-bytes-requires
+    same-length
+    returns
+    write-through-requires
+    same-length-2
+    same-length-3
+    same-length-4
+    same-length-5
+    returns-2
+    enum-told
+    write-through-requires-2
+    same-length-6
+    same-length-7
+    same-length-8
+    returns-3)

@@ -1,0 +1,45 @@
+use Rattle.access.proofs.Doublewords.{own-sends}
+use borrow.Author.Needs.{needs}
+use Rattle.access.proofs.doubleword.write_through.Statement.{statement}
+use Rattle.access.proofs.doubleword.write_through.Tie as tie
+
+slice-aggregate-copy-bytes : tie.Need-slice-aggregate-copy-bytes
+slice-aggregate-copy-bytes c = search needs
+
+copy-bytes-requires : tie.Need-copy-bytes-requires
+copy-bytes-requires c κs = search needs
+
+slice-aggregate-write-cycles : tie.Need-slice-aggregate-write-cycles
+slice-aggregate-write-cycles c = search needs
+
+cast-write-cycles : tie.Need-cast-write-cycles
+cast-write-cycles c = search needs
+
+write-cycles-requires : tie.Need-write-cycles-requires
+write-cycles-requires c κs = search needs
+
+same-length : tie.Need-same-length
+same-length c = search needs
+
+same-length-2 : tie.Need-same-length-2
+same-length-2 c = search needs
+
+same-length-3 : tie.Need-same-length-3
+same-length-3 c = search needs
+
+returns : tie.Need-returns
+returns c = own-sends _ _ _ _ _ _ _ _ _ _ (c .before .before .before .before .before .before .before .before .before .before .before .before .before .before .before .before .before .before .before .before .pre .0 .some) (c .before .before .before .before .before .before .before .before .before .before .before .before .before .before .before .before .before .before .before .before .pre .0 .served) (c .before .before .before .before .before .before .before .before .before .before .before .before .before .copy-bytes .ensures) (c .before .before .before .before .before .before .write-cycles .ensures)
+
+pub write-through-spec : {M : Type 1} → statement M
+write-through-spec =
+    tie.close
+    (tie.spec
+    slice-aggregate-copy-bytes
+    copy-bytes-requires
+    slice-aggregate-write-cycles
+    cast-write-cycles
+    write-cycles-requires
+    same-length
+    same-length-2
+    same-length-3
+    returns)

@@ -1,0 +1,64 @@
+use denote.Ref.{now}
+use Rattle.bus.specs.Parity.{memory}
+use Rattle.access.proofs.Calls.{input-refused, input-good, state-refused, external-made}
+use native.Mathlib.Omega.{arith}
+use mathlib.Core.Path.{_≡_, refl, sym, _∙_, ap}
+use Prim.Native.Nat.{_+_, _*_, _≤_}
+use Rattle.access.proofs.Accepted.{or-zero, zero-or, first-or, memory-accepted, external-accepted}
+use Rattle.access.proofs.Calls.{bytes-all, master-grouped, external-refused, external-done}
+use borrow.Author.Needs.{needs}
+use Rattle.access.proofs.master.external_write.Statement.{statement}
+use Rattle.access.proofs.master.external_write.Tie as tie
+
+memory-number-requires : tie.Need-memory-number-requires
+memory-number-requires c κs = search needs
+
+external-number-requires : tie.Need-external-number-requires
+external-number-requires c κs = search needs
+
+or-else-requires : tie.Need-or-else-requires
+or-else-requires c κs = search needs
+
+returns : tie.Need-returns
+returns c = input-refused _ _ _ _ _ _ (c .before .before .before .memory-number .ensures) (c .before .before .external-number .ensures) _ (c .before .or-else .ensures) (c .if1 .taken)
+
+cast-states-number : tie.Need-cast-states-number
+cast-states-number c = let g = input-good (c .before .before .before .before .before .before .before .before .before .before .before .args .t1) (memory (now (c .before .before .before .before .before .before .before .before .before .before .before .args .ram)) (now (c .before .before .before .before .before .before .before .before .before .before .before .args .parity))) (c .before .before .before .before .before .before .before .before .before .before .before .args .address) (now (c .before .before .before .before .before .before .before .before .before .before .before .args .bytes)) _ _ (c .before .before .before .before .before .before .before .memory-number .ensures) (c .before .before .before .before .before .before .external-number .ensures) _ (c .before .before .before .before .before .or-else .ensures) (c .before .before .before .before .if1 .left) .1 in omega (arith, g .most)
+
+states-number-requires : tie.Need-states-number-requires
+states-number-requires c κs = search needs
+
+returns-2 : tie.Need-returns-2
+returns-2 c = state-refused _ _ _ _ _ _ (c .before .before .before .before .before .before .before .before .before .memory-number .ensures) (c .before .before .before .before .before .before .before .before .external-number .ensures) _ (c .before .before .before .before .before .before .before .or-else .ensures) (c .before .before .before .before .before .before .if1 .left) _ (c .before .states-number .ensures) (c .if2 .taken)
+
+store-bytes-requires : tie.Need-store-bytes-requires
+store-bytes-requires c κs = let g = input-good (c .before .before .before .before .before .before .before .before .before .before .before .before .before .before .before .args .t1) (memory (now (c .before .before .before .before .before .before .before .before .before .before .before .before .before .before .before .args .ram)) (now (c .before .before .before .before .before .before .before .before .before .before .before .before .before .before .before .args .parity))) (c .before .before .before .before .before .before .before .before .before .before .before .before .before .before .before .args .address) (now (c .before .before .before .before .before .before .before .before .before .before .before .before .before .before .before .args .bytes)) _ _ (c .before .before .before .before .before .before .before .before .before .before .before .memory-number .ensures) (c .before .before .before .before .before .before .before .before .before .before .external-number .ensures) _ (c .before .before .before .before .before .before .before .before .before .or-else .ensures) (c .before .before .before .before .before .before .before .before .if1 .left) in (omega arith, g .1 .inside, omega (arith, g .0 .bits, g .0 .whole, g .1 .inside))
+
+snooped-requires : tie.Need-snooped-requires
+snooped-requires c κs = search needs
+
+same-length : tie.Need-same-length
+same-length c = search needs
+
+same-length-2 : tie.Need-same-length-2
+same-length-2 c = search needs
+
+returns-3 : tie.Need-returns-3
+returns-3 c = external-made _ _ _ _ _ _ (c .before .before .before .before .before .before .before .before .before .before .before .before .before .before .before .before .before .memory-number .ensures) (c .before .before .before .before .before .before .before .before .before .before .before .before .before .before .before .before .external-number .ensures) _ (c .before .before .before .before .before .before .before .before .before .before .before .before .before .before .before .or-else .ensures) (c .before .before .before .before .before .before .before .before .before .before .before .before .before .before .if1 .left) _ (c .before .before .before .before .before .before .before .before .before .states-number .ensures) (c .before .before .before .before .before .before .before .before .if2 .left) _ _ (c .snooped .ensures) (c .before .before .before .before .before .store-bytes .ensures)
+
+pub external-write-spec : {M : Type 1} → statement M
+external-write-spec =
+    tie.close
+    (tie.spec
+    memory-number-requires
+    external-number-requires
+    or-else-requires
+    returns
+    cast-states-number
+    states-number-requires
+    returns-2
+    store-bytes-requires
+    snooped-requires
+    same-length
+    same-length-2
+    returns-3)
