@@ -6,9 +6,9 @@ use directory::Directory;
 pub fn store_tag(line: &[u8], mut d: Directory) -> Directory {
     let place = number(line, 1);
     let tag = number(line, place.next);
-    let line = place.value as usize;
-    if line < 512 {
-        d.tags[line] = tag.value;
+    let index = place.value as usize;
+    if index < 512 {
+        d.tags[index] = tag.value;
     }
     d
 }
@@ -16,9 +16,9 @@ pub fn store_tag(line: &[u8], mut d: Directory) -> Directory {
 pub fn store_mark(line: &[u8], mut d: Directory) -> Directory {
     let place = number(line, 1);
     let mark = number(line, place.next);
-    let line = place.value as usize;
-    if line < 512 {
-        d.valid[line] = mark.value == 1;
+    let index = place.value as usize;
+    if index < 512 {
+        d.valid[index] = mark.value == 1;
     }
     d
 }
@@ -33,11 +33,13 @@ pub fn store_lru(line: &[u8], mut d: Directory) -> Directory {
     d
 }
 
-// The pair that a control call refuses is wanted too.
-pub fn store_mode(line: &[u8], d: Directory) -> Directory {
+// CD and NW, the pair that a control call refuses too.
+pub fn store_mode(line: &[u8], mut d: Directory) -> Directory {
     let cd = number(line, 1);
     let nw = number(line, cd.next);
-    d.with_control(cd.value == 1, nw.value == 1)
+    d.cd = cd.value == 1;
+    d.nw = nw.value == 1;
+    d
 }
 
 // Turns bits of a parity byte over.

@@ -1,4 +1,4 @@
-// Units: the line for a new one, its contents, and the lines up to the next.
+// Units: the line for a new one, which a script begins with, its contents, and the lines up to the next.
 ghost use mathlib.Core.Path.{_≡_};
 ghost use Prim.Native.Nat.{_<_, _≤_};
 ghost use lib.ListN.{length};
@@ -142,6 +142,7 @@ fn set_parity(parity: &mut [u8], ram: &[u8]) {
     }
 }
 
+// The DP bit of a byte with an odd number of ones.
 fn set_bit(parity: &mut [u8], address: usize, byte: u8) {
     let place = address / 4;
     if place < parity.len() && u8::count_ones(byte) % 2 == 1 {
