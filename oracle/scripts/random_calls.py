@@ -64,6 +64,8 @@ class RandomCalls:
         self.kind = kind
         self.source = Source(f"replay {kind.name}")
         self.script = Script(f"{kind.name}.txt")
+        # The set that most accesses of the unit go to, with its neighbour.
+        self.hot = 0
         self.calls: dict[str, Callable[[], object]] = {
             "R": self._read,
             "W": self._write,
@@ -101,7 +103,6 @@ class RandomCalls:
             cd, nw = self.source.chance(0.5), self.source.chance(0.5)
         self.script.new(*lengths, cd=cd, nw=nw)
         self._spread_faults()
-        # The sets that most accesses go to: the first two, or one and its neighbour.
         self.hot = 0 if ram < WAY_BYTES else self.source.choice((0, 0, SETS - 1, 77))
         if self.kind.planted:
             for set_index in (self.hot, (self.hot + 1) % SETS):

@@ -1,11 +1,12 @@
-// Lines on a unit: what is stored, and the calls with their rows.
+// Lines on a unit: calls, each with its row, and the board's answers.
 ghost use Rattle.io.specs.Counts.{Counts};
 use crate::print::board_row;
 use crate::print::call_row;
 use crate::script::bytes;
 use crate::script::digits;
+use crate::script::letter_of;
 use crate::script::number;
-use crate::stores;
+use crate::stores::store_line;
 use access::Outcome;
 use directory::Directory;
 
@@ -17,7 +18,7 @@ struct Access {
     next: usize,
 }
 
-// A line of another letter is passed over.
+// Any letter but a call's and the board's is a store's.
 pub fn run_line(
     line: &[u8],
     d: Directory,
@@ -28,28 +29,16 @@ pub fn run_line(
 ) -> Directory {
     refill(log);
     match letter_of(line) {
-        b'T' => stores::store_tag(line, d),
-        b'V' => stores::store_mark(line, d),
-        b'L' => stores::store_lru(line, d),
-        b'M' => stores::store_mode(line, d),
-        b'P' => {
-            stores::flip_parity(line, parity);
-            d
-        }
-        b'B' => {
-            board_line(line);
-            d
-        }
         b'R' | b'r' => read_line(line, d, ram, parity, data, log),
         b'W' | b'w' => write_line(line, d, ram, parity, data, log),
         b'X' => external_line(line, d, ram, parity, data, log),
         b'S' | b'F' | b'C' | b'Z' => directory_line(line, d, ram, parity, data, log),
-        _ => d,
+        b'B' => {
+            board_line(line);
+            d
+        }
+        _ => store_line(line, d, parity),
     }
-}
-
-fn letter_of(line: &[u8]) -> u8 {
-    if 0 < line.len() { line[0] } else { 0 }
 }
 
 // The log before each call, so that words which the call leaves alone show.

@@ -24,6 +24,11 @@ pub fn line_end(script: &[u8], at: usize) -> usize
     k
 }
 
+// A line's letter, 0 where there is none.
+pub fn letter_of(line: &[u8]) -> u8 {
+    if 0 < line.len() { line[0] } else { 0 }
+}
+
 // The number of the field at a place, modulo 2^32; 0 where there is none.
 pub fn number(line: &[u8], at: usize) -> Field {
     let mut value = 0u32;

@@ -1,9 +1,25 @@
 // Lines that store to the directory's fields or to the parity array without a call, so that a script can have a directory
 // that no list of calls gives.
+use crate::script::letter_of;
 use crate::script::number;
 use directory::Directory;
 
-pub fn store_tag(line: &[u8], mut d: Directory) -> Directory {
+// A line of another letter is passed over.
+pub fn store_line(line: &[u8], d: Directory, parity: &mut [u8]) -> Directory {
+    match letter_of(line) {
+        b'T' => store_tag(line, d),
+        b'V' => store_mark(line, d),
+        b'L' => store_lru(line, d),
+        b'M' => store_mode(line, d),
+        b'P' => {
+            flip_parity(line, parity);
+            d
+        }
+        _ => d,
+    }
+}
+
+fn store_tag(line: &[u8], mut d: Directory) -> Directory {
     let place = number(line, 1);
     let tag = number(line, place.next);
     let index = place.value as usize;
@@ -13,7 +29,7 @@ pub fn store_tag(line: &[u8], mut d: Directory) -> Directory {
     d
 }
 
-pub fn store_mark(line: &[u8], mut d: Directory) -> Directory {
+fn store_mark(line: &[u8], mut d: Directory) -> Directory {
     let place = number(line, 1);
     let mark = number(line, place.next);
     let index = place.value as usize;
@@ -23,7 +39,7 @@ pub fn store_mark(line: &[u8], mut d: Directory) -> Directory {
     d
 }
 
-pub fn store_lru(line: &[u8], mut d: Directory) -> Directory {
+fn store_lru(line: &[u8], mut d: Directory) -> Directory {
     let place = number(line, 1);
     let lru = number(line, place.next);
     let set = place.value as usize;
@@ -34,7 +50,7 @@ pub fn store_lru(line: &[u8], mut d: Directory) -> Directory {
 }
 
 // CD and NW, the pair that a control call refuses too.
-pub fn store_mode(line: &[u8], mut d: Directory) -> Directory {
+fn store_mode(line: &[u8], mut d: Directory) -> Directory {
     let cd = number(line, 1);
     let nw = number(line, cd.next);
     d.cd = cd.value == 1;
@@ -43,7 +59,7 @@ pub fn store_mode(line: &[u8], mut d: Directory) -> Directory {
 }
 
 // Turns bits of a parity byte over.
-pub fn flip_parity(line: &[u8], parity: &mut [u8]) {
+fn flip_parity(line: &[u8], parity: &mut [u8]) {
     let field = number(line, 1);
     let mask = number(line, field.next);
     let place = field.value as usize;
