@@ -8,10 +8,12 @@ import sys
 from collections.abc import Callable
 from pathlib import Path
 
+import replay
 import tables
 
 EXPECTATIONS: list[tuple[str, Callable[[], str]]] = [
     ("crates/directory_tables/stdout", tables.directory_tables),
+    *replay.expectations(),
 ]
 
 ROOT = Path(__file__).resolve().parent.parent

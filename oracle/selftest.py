@@ -1,4 +1,4 @@
-"""The papers' tables and examples, run against the model; then random lists of calls.
+"""The papers' tables and examples, run against the model; random lists of calls; call scripts.
 
 Prints one line per group and `ok` at the end; stops with exit 1 at the first mismatch.
 """
@@ -6,7 +6,7 @@ Prints one line per group and `ok` at the end; stops with exit 1 at the first mi
 import sys
 from collections.abc import Callable
 
-from checks import random_lists, readings, vectors
+from checks import random_lists, readings, replays, vectors
 from checks.bench import Mismatch, done
 
 GROUPS: list[tuple[str, Callable[[], None]]] = [
@@ -23,6 +23,7 @@ GROUPS: list[tuple[str, Callable[[], None]]] = [
     ("readings of document 01", readings.readings),
     ("random lists against the plain memory", random_lists.random_lists),
     ("refused calls", random_lists.refused_calls),
+    ("call scripts", replays.replays),
 ]
 
 

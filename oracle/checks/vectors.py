@@ -211,10 +211,13 @@ def sizing_examples() -> None:
 # --- fills
 
 
+# Table 3-9: the order of a line's doublewords by the first one.
+BURST_TABLE = ("0 4 8 C", "4 0 C 8", "8 C 0 4", "C 8 4 0")
+
+
 def burst_order() -> None:
     """Table 3-9, and its rule: each place is the start exclusive-or 0, 4, 8, 12."""
-    table = ("0 4 8 C", "4 0 C 8", "8 C 0 4", "C 8 4 0")
-    for line in table:
+    for line in BURST_TABLE:
         order = tuple(int(offset, 16) for offset in line.split())
         check(f"order from {order[0]}", bus.BURST_ORDER[order[0]], order)
         check("exclusive or", order, tuple(order[0] ^ offset for offset in (0, 4, 8, 12)))

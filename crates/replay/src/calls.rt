@@ -1,0 +1,184 @@
+// Lines on a unit: calls, each with its row, and the board's answers.
+ghost use Rattle.io.specs.Counts.{Counts};
+use crate::print::board_row;
+use crate::print::call_row;
+use crate::script::bytes;
+use crate::script::digits;
+use crate::script::letter_of;
+use crate::script::number;
+use crate::stores::store_line;
+use access::Outcome;
+use directory::Directory;
+
+// Address and width of an access, then PCD or the value; and the place after them.
+struct Access {
+    address: u32,
+    width: u32,
+    third: u32,
+    next: usize,
+}
+
+// Any letter but a call's and the board's is a store's.
+pub fn run_line(
+    line: &[u8],
+    d: Directory,
+    ram: &mut [u8],
+    parity: &mut [u8],
+    data: &mut [u8],
+    log: &mut [u32],
+) -> Directory {
+    refill(log);
+    match letter_of(line) {
+        b'R' | b'r' => read_line(line, d, ram, parity, data, log),
+        b'W' | b'w' => write_line(line, d, ram, parity, data, log),
+        b'X' => external_line(line, d, ram, parity, data, log),
+        b'S' | b'F' | b'C' | b'Z' => directory_line(line, d, ram, parity, data, log),
+        b'B' => {
+            board_line(line);
+            d
+        }
+        _ => store_line(line, d, parity),
+    }
+}
+
+// The log before each call, so that words which the call leaves alone show.
+pub fn refill(log: &mut [u32]) {
+    let mut word = 3235774464u32;
+    for k in 0..log.len() {
+        log[k] = word;
+        word = std::num::wrapping_add_u32(word, 1);
+    }
+}
+
+fn board_line(line: &[u8]) {
+    let address = number(line, 1);
+    let width = number(line, address.next);
+    board_row(&access::board_answers(address.value, width.value));
+}
+
+fn read_line(
+    line: &[u8],
+    d: Directory,
+    ram: &[u8],
+    parity: &[u8],
+    data: &mut [u8],
+    log: &mut [u32],
+) -> Directory {
+    let a = fields_of(line);
+    let mut answers = [0u8; 64];
+    let n = answers_of(line, a, &mut answers);
+    let done = access::read(
+        d,
+        ram,
+        parity,
+        data,
+        a.address,
+        a.width,
+        a.third == 1,
+        &answers[..n],
+        log,
+    );
+    call_row(letter_of(line), done, ram, parity, data, log)
+}
+
+fn write_line(
+    line: &[u8],
+    d: Directory,
+    ram: &mut [u8],
+    parity: &mut [u8],
+    data: &mut [u8],
+    log: &mut [u32],
+) -> Directory {
+    let a = fields_of(line);
+    let mut answers = [0u8; 64];
+    let n = answers_of(line, a, &mut answers);
+    let done = access::write(
+        d,
+        ram,
+        parity,
+        data,
+        a.address,
+        a.width,
+        a.third,
+        &answers[..n],
+        log,
+    );
+    call_row(letter_of(line), done, ram, parity, data, log)
+}
+
+fn fields_of(line: &[u8]) -> Access {
+    let address = number(line, 1);
+    let width = number(line, address.next);
+    let third = number(line, width.next);
+    Access {
+        address: address.value,
+        width: width.value,
+        third: third.value,
+        next: third.next,
+    }
+}
+
+// The answers that the line gives; the board's where its letter is a small one.
+fn answers_of(line: &[u8], a: Access, answers: &mut [u8]) -> usize
+    ensures { λ r. ⌜ Counts r (now (answers .exit)) ⌝ }
+{
+    if letter_of(line) < b'a' {
+        return digits(line, a.next, answers);
+    }
+    copy(&access::board_answers(a.address, a.width), answers)
+}
+
+// As many bytes as both have.
+fn copy(from: &[u8], to: &mut [u8]) -> usize
+    ensures { λ r. ⌜ Counts r (now (to .exit)) ⌝ }
+{
+    let mut k = 0;
+    while k < to.len() {
+        if k >= from.len() {
+            return k;
+        }
+        to[k] = from[k];
+        k += 1;
+    }
+    k
+}
+
+fn external_line(
+    line: &[u8],
+    d: Directory,
+    ram: &mut [u8],
+    parity: &mut [u8],
+    data: &[u8],
+    log: &[u32],
+) -> Directory {
+    let address = number(line, 1);
+    let mut values = [0u8; 64];
+    let n = bytes(line, address.next, &mut values);
+    let done = access::external_write(d, ram, parity, address.value, &values[..n]);
+    call_row(b'X', done, ram, parity, data, log)
+}
+
+fn directory_line(
+    line: &[u8],
+    d: Directory,
+    ram: &[u8],
+    parity: &[u8],
+    data: &[u8],
+    log: &[u32],
+) -> Directory {
+    let letter = letter_of(line);
+    let done = directory_call(letter, line, d);
+    call_row(letter, done, ram, parity, data, log)
+}
+
+// The last of the letters is Z.
+fn directory_call(letter: u8, line: &[u8], d: Directory) -> Outcome {
+    let first = number(line, 1);
+    let second = number(line, first.next);
+    match letter {
+        b'S' => access::snoop(d, first.value),
+        b'F' => access::flush(d),
+        b'C' => access::control(d, first.value == 1, second.value == 1),
+        _ => access::reset(),
+    }
+}

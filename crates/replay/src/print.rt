@@ -1,0 +1,90 @@
+// Rows on standard output. A row is a label, fields with a tab before each, and a newline.
+use crate::digest::Adler;
+use access::Outcome;
+use directory::Directory;
+use libc::STDOUT_FILENO;
+
+pub fn label(text: &[u8]) {
+    io::write_all(STDOUT_FILENO, text);
+}
+
+pub fn end_row() {
+    label(b"\n");
+}
+
+fn number(n: u64) {
+    label(b"\t");
+    io::print_decimal(STDOUT_FILENO, n);
+}
+
+// A digest has eight hexadecimal digits.
+fn digest(sum: Adler) {
+    label(b"\t");
+    io::print_hex(STDOUT_FILENO, sum.value(), 8);
+}
+
+// Number, value, cycle count, the words of the records, and the digests.
+pub fn call_row(
+    letter: u8,
+    done: Outcome,
+    ram: &[u8],
+    parity: &[u8],
+    data: &[u8],
+    log: &[u32],
+) -> Directory {
+    label(&[letter]);
+    number(done.number as u64);
+    number(done.value as u64);
+    number(done.cycles as u64);
+    words(log, done.cycles as usize * 3);
+    let d = done.directory;
+    digests(d, ram, parity, data, log);
+    end_row();
+    d
+}
+
+pub fn unit_row(d: Directory, ram: &[u8], parity: &[u8], data: &[u8], log: &[u32]) {
+    label(b"N");
+    digests(d, ram, parity, data, log);
+    end_row();
+}
+
+// The answers are one field, a digit for each.
+pub fn board_row(answers: &[u8; 32]) {
+    label(b"B\t");
+    for k in 0..32usize {
+        digit(answers[k]);
+    }
+    end_row();
+}
+
+fn digit(value: u8) {
+    io::print_decimal(STDOUT_FILENO, value as u64);
+}
+
+// The first words of a log, or all where it has fewer.
+fn words(log: &[u32], count: usize) {
+    for k in 0..log.len() {
+        if k < count {
+            word(log[k]);
+        }
+    }
+}
+
+fn word(value: u32) {
+    number(value as u64);
+}
+
+fn digests(d: Directory, ram: &[u8], parity: &[u8], data: &[u8], log: &[u32]) {
+    digest(directory_sum(d));
+    digest(Adler::start().bytes(ram));
+    digest(Adler::start().bytes(parity));
+    digest(Adler::start().bytes(data));
+    digest(Adler::start().words(log));
+}
+
+fn directory_sum(d: Directory) -> Adler {
+    let tags = Adler::start().words(&d.tags);
+    let marks = tags.marks(&d.valid);
+    marks.bytes(&d.lru).mark(d.cd).mark(d.nw)
+}

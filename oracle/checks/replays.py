@@ -1,0 +1,57 @@
+"""The call scripts: they fit the program, and meet what they are there for.
+
+Writing a script holds its tables to the printed ones, line by line.
+"""
+
+from collections import Counter
+
+import replay
+
+from .bench import check
+
+FILE_LIMIT = 60_000
+TOTAL_LIMIT = 1_500_000
+RANDOM = ("tiny.txt", "hot.txt", "masters.txt", "large.txt", "long.txt", "refused.txt")
+RANDOM_CALLS = 5000
+
+# The numbers of each call, by what it receives.
+NUMBERS = {
+    "R": (0, 1, 2, 3, 4, 5, 6, 7, 21, 22, 23),
+    "W": (0, 1, 2, 3, 4, 5, 6, 7, 8, 21, 22, 23),
+    "X": (0, 1, 2, 10, 21, 22, 23),
+    "S": (0, 21, 22, 23),
+    "F": (0,),
+    "C": (0, 9),
+    "Z": (0,),
+}
+EVENTS = (
+    "read hits",
+    "writes inside",
+    "fills kept",
+    "fills dropped",
+    "lines replaced",
+    "lines snooped",
+    "wrong parity",
+)
+LENGTHS = (15, 16, 17, 24, 32, 2064, 65_536)
+
+
+def replays() -> None:
+    scripts = {script.name: script for script in replay.scripts()}
+    total, at_random = Counter[str](), Counter[str]()
+    for name, script in scripts.items():
+        check(f"{name} fits", len(script.text()) < FILE_LIMIT, True)
+        total += script.met
+        at_random += script.met if name in RANDOM else Counter()
+    size = sum(len(generate()) for _, generate in replay.expectations())
+    check("all files", size < TOTAL_LIMIT, True)
+    check("random calls", at_random["calls"] >= RANDOM_CALLS, True)
+    for letter, numbers in NUMBERS.items():
+        for number in numbers:
+            check(f"{letter} {number} met", at_random[f"{letter} {number}"] > 0, True)
+        met = {number for number in range(30) if total[f"{letter} {number}"]}
+        check(f"numbers of {letter}", met, set(numbers))
+    for event in EVENTS:
+        check(f"{event} met", at_random[event] > 20, True)
+    lengths = {int(line.split()[1]) for s in scripts.values() for line in s.lines if line[0] == "N"}
+    check("RAM lengths", lengths >= set(LENGTHS), True)

@@ -1,0 +1,73 @@
+"""Table 3-9, the order of a fill's doublewords, and the fills that the sources print."""
+
+from unit486_model import directory as steps
+from unit486_model.bus import BS8, BS16, GROUP, KEN
+
+from checks.bench import answers_of, check, marks
+from checks.vectors import BURST_TABLE, FILL_VECTORS
+
+from .printed import fill_marks
+from .source import Source
+from .writer import Script
+
+
+def burst() -> Script:
+    script = Script("burst.txt")
+    _table(script)
+    _vectors(script)
+    _mixed_sizes(script)
+    _wanted_bytes(script)
+    return script
+
+
+def _filled(script: Script, address: int, width: int, group: list[int]) -> None:
+    """A kept fill of a line that is not held, its records as the printed tables have them."""
+    result = script.read(address, width, answers_of(group))
+    check(f"fill from {address:x} {group}", marks(result), fill_marks(address, answers_of(group)))
+    line, way = steps.line_of(address), script.held(address)
+    check("held", way is not None, True)
+    start = steps.data_start(steps.set_of(address), way or 0)
+    check("line", script.unit.data[start : start + 16], script.unit.ram[line : line + 16])
+    held = script.unit.ram[address : address + width]
+    check("value", result.value, int.from_bytes(held, "little"))
+
+
+def _table(script: Script) -> None:
+    """Each start in a line of its own, by whole doublewords, halves and bytes."""
+    script.new(cd=False)
+    line = 0
+    for size in (0, BS16, BS8, BS8 + BS16):
+        for row in BURST_TABLE:
+            order = [int(offset, 16) for offset in row.split()]
+            result = script.read(line + order[0], 4, [KEN + size] * (2 * GROUP))
+            moved = [record.address - line for record in result.records]
+            check(f"order from {order[0]}", list(dict.fromkeys(moved)), order)
+            expected = fill_marks(line + order[0], [KEN + size] * GROUP)
+            check(f"records from {order[0]}", marks(result), expected)
+            line += 16
+
+
+def _vectors(script: Script) -> None:
+    for address, group, expected in FILL_VECTORS:
+        script.new(cd=False)
+        _filled(script, address, 4, group)
+        check("printed", fill_marks(address, answers_of(group)), expected)
+
+
+def _mixed_sizes(script: Script) -> None:
+    """Sizes that change within the fill, KEN# active all the time: from 4 to 16 cycles."""
+    source = Source("replay burst")
+    script.new(ram=2048, cd=False)
+    for line in range(0, 2048, 16):
+        group = [KEN + source.choice((0, BS16, BS8, BS8 + BS16)) for _ in range(GROUP)]
+        _filled(script, line + source.choice((0, 4, 8, 12)), 4, group)
+
+
+def _wanted_bytes(script: Script) -> None:
+    """The first doubleword moves all four bytes too, whichever byte is wanted."""
+    script.new(cd=False)
+    line = 0
+    for width, byte in [(1, byte) for byte in range(16)] + [(2, 1), (2, 6), (2, 10), (2, 13)]:
+        for size in (0, BS16, BS8):
+            _filled(script, line + byte, width, [KEN + size])
+            line += 16

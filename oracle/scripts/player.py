@@ -1,0 +1,163 @@
+"""What the program `replay` does with a script line and prints for it, done on the model.
+
+A line is a letter and its fields, a blank before each. Numbers are decimal.
+
+    N ram parity data log seed seed   a new unit: four lengths, the seeds of RAM and data array
+    T place tag                       the directory's fields, stored without a call
+    V place mark
+    L set number
+    M cd nw
+    P place mask                      the parity byte, exclusive-or the mask
+    R address width pcd answers       calls; answers are digits, one for each answer
+    W address width value answers
+    r address width pcd               a read and a write with the board's answers
+    w address width value
+    X address byte ..
+    S address
+    F
+    C cd nw
+    Z
+    B address width                   the board's answers
+
+A row has the letter and fields with a tab before each. A call's fields are number, value, cycle
+count, three words for each record, and the digests of directory, RAM, parity array, data array
+and log. A new unit's are the digests, those of B the answers as a run of digits. The other lines
+print nothing.
+"""
+
+import struct
+import zlib
+from dataclasses import dataclass
+
+from unit486_model import access, board, memory
+from unit486_model import directory as steps
+from unit486_model.access import Result
+from unit486_model.bus import RECORD_WORDS
+from unit486_model.directory import Directory
+from unit486_model.events import Unit
+
+# The log's words before a call, so that words which the call leaves alone show.
+LOG_PATTERN = 0xC0DE0000
+
+# The most that the program has room for.
+RAM_ROOM = 65_536
+PARITY_ROOM = 65_536
+DATA_ROOM = 65_536
+LOG_ROOM = 128
+FIELD_ROOM = 64
+
+
+def contents(seed: int, length: int) -> bytearray:
+    """Bytes that look random: the upper eight bits of a linear congruential generator's states."""
+    state, made = seed, bytearray()
+    for _ in range(length):
+        state = (state * 1_664_525 + 1_013_904_223) % 2**32
+        made.append(state >> 24)
+    return made
+
+
+def agreeing_parity(ram: bytearray, length: int) -> bytearray:
+    """Parity that agrees with RAM, as far as either goes: the lengths need not match."""
+    parity = bytearray(length)
+    for address, byte in enumerate(ram[: 4 * length]):
+        parity[address // 4] |= memory.dp_of(byte) << address % 4
+    return parity
+
+
+def fresh_log(words: int) -> list[int]:
+    return [LOG_PATTERN + place for place in range(words)]
+
+
+def directory_bytes(directory: Directory) -> bytes:
+    """Tags as four bytes each, valid marks, LRU numbers, CD and NW as one each."""
+    tags = struct.pack(f"<{len(directory.tags)}I", *directory.tags)
+    marks = bytes((directory.cd, directory.nw))
+    return tags + bytes(directory.valid) + bytes(directory.lru) + marks
+
+
+@dataclass
+class Player:
+    """A unit with its log, on which lines are run."""
+
+    unit: Unit
+    log: list[int]
+
+    def digests(self) -> list[str]:
+        """Adler-32 of all that calls are lent."""
+        log = struct.pack(f"<{len(self.log)}I", *self.log)
+        parts = (self.unit.ram, self.unit.parity, self.unit.data, log)
+        seen = (directory_bytes(self.unit.directory), *parts)
+        return [f"{zlib.adler32(part):08x}" for part in seen]
+
+    def play(self, line: str) -> tuple[Result | None, str]:
+        """Run one line: a call's result, and the row that it prints."""
+        letter, *fields = line.split(" ")
+        if letter == "B":
+            address, width = (int(field) for field in fields)
+            return None, _row(letter, "".join(str(a) for a in board.answers(address, width)))
+        if letter in "TVLMP":
+            self._store(letter, *(int(field) for field in fields))
+            return None, ""
+        self.log = fresh_log(len(self.log))
+        result = self._call(letter, fields)
+        words = self.log[: RECORD_WORDS * result.cycles]
+        row = _row(letter, result.number, result.value, result.cycles, *words, *self.digests())
+        return result, row
+
+    def _store(self, letter: str, place: int, value: int) -> None:
+        directory = self.unit.directory
+        if letter == "T":
+            directory.tags[place] = value
+        elif letter == "V":
+            directory.valid[place] = bool(value)
+        elif letter == "L":
+            directory.lru[place] = value
+        elif letter == "M":
+            directory.cd, directory.nw = bool(place), bool(value)
+        else:
+            self.unit.parity[place] ^= value
+
+    def _call(self, letter: str, fields: list[str]) -> Result:
+        if letter in "RrWw":
+            return self._access(letter, *(int(field) for field in fields[:3]), fields[3:])
+        numbers = [int(field) for field in fields]
+        if letter == "X":
+            lent = (self.unit.directory, self.unit.ram, self.unit.parity)
+            return access.external_write(*lent, numbers[0], bytes(numbers[1:]))
+        if letter == "S":
+            return access.snoop(self.unit.directory, numbers[0])
+        if letter == "F":
+            return access.flush(self.unit.directory)
+        if letter == "C":
+            return access.control(self.unit.directory, bool(numbers[0]), bool(numbers[1]))
+        assert letter == "Z", letter
+        result, self.unit.directory = access.reset()
+        return result
+
+    def _access(
+        self, letter: str, address: int, width: int, third: int, given: list[str]
+    ) -> Result:
+        """A read or a write; the third field is PCD or the value."""
+        unit = self.unit
+        lent = (unit.directory, unit.ram, unit.parity, unit.data, address, width)
+        answers = [int(digit) for digit in "".join(given)]
+        if letter in "rw":
+            answers = board.answers(address, width)
+        if letter in "Rr":
+            return access.read(*lent, bool(third), answers, self.log)
+        return access.write(*lent, third, answers, self.log)
+
+
+def new_player(line: str) -> tuple[Player, str]:
+    """A new unit after reset, by its line, and the row that it prints."""
+    letter, *fields = line.split(" ")
+    ram_length, parity_length, data_length, log_length, *seeds = (int(field) for field in fields)
+    ram = contents(seeds[0], ram_length)
+    parity = agreeing_parity(ram, parity_length)
+    unit = Unit(steps.reset(), ram, parity, contents(seeds[1], data_length))
+    player = Player(unit, fresh_log(log_length))
+    return player, _row(letter, *player.digests())
+
+
+def _row(*fields: str | int) -> str:
+    return "\t".join(str(field) for field in fields) + "\n"

@@ -1,0 +1,231 @@
+"""Random calls on random units, a script for each kind of use."""
+
+from collections.abc import Callable, Sequence
+from dataclasses import dataclass
+
+from unit486_model.bus import ANSWERS, KEN, LOG_WORDS, WIDTHS
+from unit486_model.directory import LINE_BYTES, LRU_LIMIT, SETS, TAG_LIMIT, WAYS
+from unit486_model.memory import parity_length
+from unit486_model.refusal import DATA_BYTES
+
+from .source import Source
+from .writer import Script
+
+BAD_WIDTHS = (0, 3, 5, 8, 4294967295)
+PAIRS = ((False, False), (True, False), (True, True))
+WAY_BYTES = SETS * LINE_BYTES
+
+
+@dataclass(frozen=True)
+class Kind:
+    """What the units of a script are like, and which calls they get."""
+
+    name: str
+    units: int
+    calls: int
+    ram: tuple[int, ...]
+    # Letters, each as often as it is to be drawn.
+    letters: str
+    # The share of arguments that are wrong, or anything.
+    hostile: float = 0.0
+    # The share of parity bytes that are changed at the start.
+    faults: float = 0.0
+    # Whether lines are planted at the start, and whether they may break a set's state.
+    planted: bool = False
+    ill_formed: bool = False
+    # Whether lengths may be wrong.
+    wrong_lengths: bool = False
+
+
+KINDS = (
+    Kind("tiny", 16, 64, (16, 32), "RRRRRRWWWXSFCM", hostile=0.06, faults=0.3, planted=True),
+    Kind("hot", 14, 80, (12_304, 16_400), "RRRRRRRRRRRRRRWWWWWWXS", hostile=0.01),
+    Kind("masters", 14, 80, (2064, 4128), "RRRRRRRWWWWXXXXSSSFCCMMZ", faults=0.05),
+    Kind("large", 10, 64, (65_536, 20_496), "RRRRRRWWWrrwXXSFC", hostile=0.04, faults=0.002),
+    Kind("long", 2, 560, (2064, 16_400), "RRRRRRRRWWWWrwXXS", hostile=0.02, planted=True),
+    Kind(
+        "refused",
+        110,
+        11,
+        (16, 32, 2064),
+        "RRRRRWWWWWXXXSSSCFr",
+        hostile=0.08,
+        planted=True,
+        ill_formed=True,
+        wrong_lengths=True,
+    ),
+)
+
+
+class RandomCalls:
+    """One script of a kind."""
+
+    def __init__(self, kind: Kind) -> None:
+        self.kind = kind
+        self.source = Source(f"replay {kind.name}")
+        self.script = Script(f"{kind.name}.txt")
+        # The set that most accesses of the unit go to, with its neighbour.
+        self.hot = 0
+        self.calls: dict[str, Callable[[], object]] = {
+            "R": self._read,
+            "W": self._write,
+            "r": self._board_read,
+            "w": self._board_write,
+            "X": self._external,
+            "S": lambda: self.script.snoop(self._address()),
+            "F": self.script.flush,
+            "C": self._control,
+            "M": self._mode,
+            "Z": self._reset,
+        }
+
+    def made(self) -> Script:
+        for _ in range(self.kind.units):
+            self._unit()
+            for _ in range(self.kind.calls):
+                self.calls[self.source.choice(self.kind.letters)]()
+        return self.script
+
+    def _odd(self) -> bool:
+        return self.source.chance(self.kind.hostile)
+
+    # --- units
+
+    def _unit(self) -> None:
+        ram = self.source.choice(self.kind.ram)
+        log = LOG_WORDS + self.source.choice((0, 1, 12))
+        lengths = [ram, parity_length(ram), DATA_BYTES, log]
+        if self.kind.wrong_lengths and self.source.chance(0.4):
+            lengths = self._wrong_lengths(lengths)
+        # Mostly in the mode that fills, else in any, that which no control call sets too.
+        cd, nw = (False, False)
+        if self.source.chance(0.3):
+            cd, nw = self.source.chance(0.5), self.source.chance(0.5)
+        self.script.new(*lengths, cd=cd, nw=nw)
+        self._spread_faults()
+        self.hot = 0 if ram < WAY_BYTES else self.source.choice((0, 0, SETS - 1, 77))
+        if self.kind.planted:
+            for set_index in (self.hot, (self.hot + 1) % SETS):
+                self._plant(set_index)
+
+    def _wrong_lengths(self, lengths: Sequence[int]) -> list[int]:
+        ram, parity, data, log = lengths
+        wrong = [
+            [self.source.choice((0, 4, 8, 15, 17, 24, 40)), parity, data, log],
+            [ram, self.source.choice((0, parity - 1, parity + 1, 4 * parity)), data, log],
+            [ram, parity, self.source.choice((0, 16, data - 1, data + 1, data + 16)), log],
+            [ram, parity, data, self.source.choice((0, 3, 48, LOG_WORDS - 1))],
+        ]
+        chosen = self.source.choice(wrong)
+        # Two wrong lengths at times: the lower number wins.
+        if self.source.chance(0.2):
+            chosen[2], chosen[3] = data - 1, LOG_WORDS - 1
+        return chosen
+
+    def _spread_faults(self) -> None:
+        """Wrong DP bits, and ones in the upper four."""
+        for place in range(len(self.script.unit.parity)):
+            if self.source.chance(self.kind.faults):
+                self.script.flip(place, self.source.choice((0xF0, 0x10, 1, 2, 4, 8, 0xFF)))
+
+    def _plant(self, set_index: int) -> None:
+        """Lines that fills did not bring in, and an LRU number; at times a broken state."""
+        broken = self.kind.ill_formed and self.source.chance(0.5)
+        tags = self.source.sample((0, 1, 2, 5, 1000, TAG_LIMIT - 1, TAG_LIMIT), WAYS)
+        if broken and self.source.chance(0.6):
+            choices = (0, 1, 6, 900, TAG_LIMIT, TAG_LIMIT + 1, 2**31, 2**32 - 1)
+            tags = [self.source.choice(choices) for _ in range(WAYS)]
+        for way, tag in enumerate(tags):
+            if self.source.chance(0.6):
+                self.script.plant(set_index, way, tag)
+            elif self.source.chance(0.3):
+                self.script.tag(set_index, way, tag)
+        if broken and self.source.chance(0.6):
+            self.script.lru(set_index, self.source.choice((8, 11, 128, 255)))
+        elif self.source.chance(0.5):
+            self.script.lru(set_index, self.source.below(LRU_LIMIT + 1))
+
+    # --- arguments
+
+    def _address(self) -> int:
+        """Mostly in the hot sets, often at the end of a line, sometimes anywhere."""
+        length = max(len(self.script.unit.ram), LINE_BYTES)
+        if self._odd():
+            choices = (length - 1, length - 3, length, 4294967295, self.source.below(2**32))
+            return self.source.choice(choices)
+        if self.source.chance(0.25):
+            return self.source.below(length)
+        line = WAY_BYTES * self.source.below(8) + LINE_BYTES * self.hot
+        return (line + self.source.between(-4, 2 * LINE_BYTES - 1)) % length
+
+    def _width(self) -> int:
+        return self.source.choice(BAD_WIDTHS if self._odd() else WIDTHS)
+
+    def _answers(self) -> list[int]:
+        """Often such that fills are kept, else anything."""
+        if self._odd():
+            count = self.source.choice((0, 1, ANSWERS - 1, ANSWERS, ANSWERS + 1, 64))
+            return [self.source.choice((0, 1, 7, 8, 9)) for _ in range(count)]
+        chance = self.source.below(100)
+        if chance < 35:
+            return [KEN] * ANSWERS
+        if chance < 50:
+            return [self.source.choice((1, 1, 1, 5, 3))] * ANSWERS
+        ken = KEN if chance < 75 else 0
+        return [self.source.below(8) | ken for _ in range(ANSWERS)]
+
+    def _value(self, width: int) -> int:
+        bits = self.source.choice((8, 9, 16, 17, 32)) if self._odd() else min(8 * width, 32)
+        return self.source.below(2**bits)
+
+    # --- calls
+
+    def _read(self) -> None:
+        pcd = self.source.chance(0.12)
+        self.script.read(self._address(), self._width(), self._answers(), pcd)
+
+    def _write(self) -> None:
+        width = self._width()
+        self.script.write(self._address(), width, self._value(width), self._answers())
+
+    def _board_read(self) -> None:
+        self.script.board_read(self._address(), self._width(), self.source.chance(0.12))
+
+    def _board_write(self) -> None:
+        width = self._width()
+        self.script.board_write(self._address(), width, self._value(width))
+
+    def _external(self) -> None:
+        address = self._address()
+        room = LINE_BYTES - address % LINE_BYTES
+        count = self.source.between(1, self.source.choice((room, min(room, 3))))
+        if self._odd():
+            count = self.source.choice((0, room, room + 1, LINE_BYTES, LINE_BYTES + 1, 30))
+        self.script.external(address, self.source.bytes_of(count))
+
+    def _control(self) -> None:
+        """Mostly back to the mode that fills."""
+        pair = self.source.choice(PAIRS) if self.source.chance(0.4) else (False, False)
+        self.script.control(*((False, True) if self.source.chance(0.15) else pair))
+
+    def _mode(self) -> None:
+        """A line filled, then any pair stored and the line used; last a control call, so that
+        the mode does not stay for long."""
+        address, width = self._address(), self.source.choice(WIDTHS)
+        self.script.read(address, width)
+        self.script.mode(self.source.chance(0.6), self.source.chance(0.6))
+        self.script.write(address, width, self._value(width), self._answers())
+        if self.source.chance(0.5):
+            self._external()
+        else:
+            self.script.snoop(address)
+        self.script.read(address, width, self._answers())
+        self.script.control(False, False)
+
+    def _reset(self) -> None:
+        self.script.reset()
+        self._control()
+
+
+def random_scripts() -> list[Script]:
+    return [RandomCalls(kind).made() for kind in KINDS]

@@ -1,0 +1,187 @@
+"""A script under way: each line is run on the model as it is written."""
+
+from collections import Counter
+from collections.abc import Sequence
+
+from unit486_model import directory as steps
+from unit486_model.access import Result
+from unit486_model.bus import FILL, LAST, LOG_WORDS, WRONG
+from unit486_model.directory import Directory, place_of
+from unit486_model.events import Unit
+from unit486_model.memory import parity_length
+from unit486_model.refusal import DATA_BYTES
+
+from checks.bench import KEPT
+
+from .player import DATA_ROOM, FIELD_ROOM, LOG_ROOM, PARITY_ROOM, RAM_ROOM, Player, new_player
+
+RAM_BYTES = 4096
+
+
+class Script:
+    """Lines, the rows that they print, and a count of what the calls met."""
+
+    def __init__(self, name: str) -> None:
+        self.name = name
+        self.lines: list[str] = []
+        self.rows: list[str] = []
+        self.met: Counter[str] = Counter()
+        self._player: Player | None = None
+
+    @property
+    def player(self) -> Player:
+        assert self._player is not None, "a script begins with a new unit"
+        return self._player
+
+    @property
+    def unit(self) -> Unit:
+        return self.player.unit
+
+    @property
+    def directory(self) -> Directory:
+        return self.player.unit.directory
+
+    def held(self, address: int) -> int | None:
+        return steps.find(self.directory, address)
+
+    def text(self) -> str:
+        return "".join(line + "\n" for line in self.lines)
+
+    def printed(self) -> str:
+        return "".join(self.rows)
+
+    # --- units, and what is stored without a call
+
+    def new(
+        self,
+        ram: int = RAM_BYTES,
+        parity: int | None = None,
+        data: int = DATA_BYTES,
+        log: int = LOG_WORDS,
+        cd: bool | None = None,
+        nw: bool = False,
+    ) -> None:
+        """A new unit, in the modes of a reset unless others are given."""
+        parity = parity_length(ram) if parity is None else parity
+        rooms = (RAM_ROOM, PARITY_ROOM, DATA_ROOM, LOG_ROOM)
+        assert all(length <= room for length, room in zip((ram, parity, data, log), rooms))
+        seed = 2 * len(self.lines) + 1
+        line = f"N {ram} {parity} {data} {log} {seed} {seed + 1}"
+        self._player, row = new_player(line)
+        self.lines.append(line)
+        self.rows.append(row)
+        if cd is not None:
+            self.mode(cd, nw)
+
+    def store(self, letter: str, place: int, value: int) -> None:
+        line = f"{letter} {place} {value}"
+        self.player.play(line)
+        self.lines.append(line)
+
+    def tag(self, set_index: int, way: int, tag: int) -> None:
+        self.store("T", place_of(set_index, way), tag)
+
+    def mark(self, set_index: int, way: int, valid: bool) -> None:
+        self.store("V", place_of(set_index, way), int(valid))
+
+    def plant(self, set_index: int, way: int, tag: int) -> None:
+        """Make one line valid; its bytes in the data array stay what they are."""
+        self.tag(set_index, way, tag)
+        self.mark(set_index, way, True)
+
+    def lru(self, set_index: int, number: int) -> None:
+        self.store("L", set_index, number)
+
+    def mode(self, cd: bool, nw: bool) -> None:
+        """CD and NW, the pair that a control call refuses among them."""
+        self.store("M", int(cd), int(nw))
+
+    def flip(self, place: int, mask: int) -> None:
+        """Turn bits of a parity byte over: wrong DP bits, or ones in its upper four."""
+        self.store("P", place, mask)
+
+    # --- calls
+
+    def read(
+        self, address: int, width: int, answers: Sequence[int] = KEPT, pcd: bool = False
+    ) -> Result:
+        return self._call(_fields("R", address, width, int(pcd), _digits(answers)))
+
+    def write(
+        self, address: int, width: int, value: int, answers: Sequence[int] = KEPT
+    ) -> Result:
+        return self._call(_fields("W", address, width, value, _digits(answers)))
+
+    def board_read(self, address: int, width: int, pcd: bool = False) -> Result:
+        return self._call(_fields("r", address, width, int(pcd)))
+
+    def board_write(self, address: int, width: int, value: int) -> Result:
+        return self._call(_fields("w", address, width, value))
+
+    def external(self, address: int, data: bytes) -> Result:
+        assert len(data) <= FIELD_ROOM
+        return self._call(_fields("X", address, *data))
+
+    def snoop(self, address: int) -> Result:
+        return self._call(_fields("S", address))
+
+    def flush(self) -> Result:
+        return self._call("F")
+
+    def control(self, cd: bool, nw: bool) -> Result:
+        return self._call(_fields("C", int(cd), int(nw)))
+
+    def reset(self) -> Result:
+        return self._call("Z")
+
+    def board(self, address: int, width: int) -> str:
+        """Ask for the board's answers; the field that is printed."""
+        line = _fields("B", address, width)
+        _, row = self.player.play(line)
+        self.lines.append(line)
+        self.rows.append(row)
+        return row.rstrip("\n").split("\t")[1]
+
+    def _call(self, line: str) -> Result:
+        before = _lines_of(self.directory)
+        result, row = self.player.play(line)
+        assert result is not None, line
+        self.lines.append(line)
+        self.rows.append(row)
+        self._count(line[0], result, before, _lines_of(self.directory))
+        return result
+
+    def _count(
+        self,
+        letter: str,
+        result: Result,
+        before: list[tuple[bool, int]],
+        after: list[tuple[bool, int]],
+    ) -> None:
+        met, flags = self.met, [record.flags for record in result.records]
+        met["calls"] += 1
+        met[f"{letter.upper()} {result.number}"] += 1
+        if result.number == 0 and result.cycles == 0 and letter in "RrWw":
+            met["read hits" if letter in "Rr" else "writes inside"] += 1
+        fills = sum(1 for flag in flags if flag & FILL and flag & LAST)
+        kept = sum(old != new for old, new in zip(before, after)) if letter in "Rr" else 0
+        met["fills kept"] += kept
+        met["fills dropped"] += fills - kept
+        met["lines replaced"] += sum(
+            old != new and old[0] and new[0] for old, new in zip(before, after)
+        )
+        met["lines snooped"] += letter in "SX" and before != after
+        met["wrong parity"] += any(flag & WRONG for flag in flags)
+
+
+def _fields(letter: str, *fields: str | int) -> str:
+    return " ".join([letter, *(str(field) for field in fields if field != "")])
+
+
+def _digits(answers: Sequence[int]) -> str:
+    assert len(answers) <= FIELD_ROOM and all(0 <= answer <= 9 for answer in answers)
+    return "".join(str(answer) for answer in answers)
+
+
+def _lines_of(directory: Directory) -> list[tuple[bool, int]]:
+    return list(zip(directory.valid, directory.tags))
