@@ -13,14 +13,14 @@ use Rattle.bus.specs.Bytes.{bytesAt, valueOf}
 use Rattle.bus.specs.Parity.{Memory, stored}
 use Rattle.bus.specs.Record.{logged}
 use Rattle.access.specs.declared.walk.Walk.{Walk}
-use Rattle.access.specs.declared.walk.Walked.{Walked}
 use Rattle.bus.specs.Groups.{group, groups}
-use Rattle.doubleword.specs.Doubleword.{doublewordsOf}
+use Rattle.doubleword.specs.Doubleword.{Doubleword, Done, doublewordsOf}
 use Rattle.access.specs.Refusal.{orElse, memoryNumber, externalNumber, statesOf, lentNumber, argumentNumber, valueNumber}
 use Rattle.access.specs.Access.{State, state, Progress, allOf, readOne, writeOne, After, after, outcome, refused, accepted, readNumber, writeNumber, readAll, writeAll, operandOf, readCall, writeCall}
 use Rattle.access.specs.Masters.{Written, written, masterNumber, externalCall}
-use Rattle.access.specs.Walks.{startWalk, restOf, Path, ReadsAll, WritesAll, readNumberIn, writeNumberIn}
+use Rattle.access.specs.Walks.{startWalk, restOf, Path}
 use Rattle.access.proofs.Accepted.{or-zero, zero-or, first-or, or-grouped, GoodMemory, GoodArguments, GoodExternal, memory-accepted, lent-accepted, arguments-accepted, external-accepted}
+use Rattle.access.proofs.Walking.{Going, going-end, ReadGoing, reading-end}
 use Rattle.access.proofs.Values.{all-length, value-padded}
 
 -- all bytes of a list
@@ -75,42 +75,39 @@ module _ (d : Directory) (m : Memory) (address : ℕ) (bytes : List ℕ) where
           ∙ ap (λ (x : Memory). written (outcome (afterSnoop d address) 0 0 0) x) (em ∙ ap (stored m address) (bytes-all bytes))
           ∙ sym (external-done (whole-number ∙ b))
 
--- reads and writes
-module _ (d : Directory) (m : Memory) (array : List ℕ) (address width : ℕ) (answers log : List ℕ) where
+-- what the loops leave is what an accepted call leaves
+whole : (one : State → Doubleword → Done) (xs : List ℕ) (p : Progress) (walk : Walk) (d : Directory) (m : Memory) (array log log₀ : List ℕ) (value v : ℕ) →
+    walk .left ≡ 0 → Going one xs p log₀ walk (state d m array) log → value ≡ v →
+    after (outcome d 0 value (walk .records)) m array log ≡ accepted v p log₀
+whole one xs p walk d m array log log₀ value v z g ev =
+    let e = going-end one xs walk (state d m array) log z g in
+    ap (λ (s : State). after (outcome (s .directory) 0 value (walk .records)) (s .memory) (s .array) log) (e .0)
+    ∙ ap (λ (x : ℕ). after (outcome (p .state .directory) 0 x (walk .records)) (p .state .memory) (p .state .array) log) ev
+    ∙ ap (λ (n : ℕ). after (outcome (p .state .directory) 0 v n) (p .state .memory) (p .state .array) log) (e .2)
+    ∙ ap (λ (l : List ℕ). after (outcome (p .state .directory) 0 v (length (p .records))) (p .state .memory) (p .state .array) l) (e .1)
+
+-- reads and writes: the input's number n, then the later one
+module _ (d : Directory) (m : Memory) (array : List ℕ) (address width : ℕ) (answers log : List ℕ) (n : ℕ)
+    (en : n ≡ orElse (lentNumber (length (m .ram)) (length (m .parity)) (length array)) (argumentNumber (length (m .ram)) address width answers (length log))) where
   abbrev s : State
   s = state d m array
 
-  abbrev number : ℕ
-  number = readNumberIn (d .tags) (d .valid) (d .lru) m array address width answers log
-
-  pub read-refused : (pcd : Bool) (n : ℕ) → n ≡ number → (n ≡ 0 → ⊥) → readCall s address width pcd answers log ≡ refused n s log
-  unfolding readCall readNumber readNumberIn
-  read-refused pcd n e h = rw (← e) (cond-false _ _ _ (ne-eqb n 0 h))
-
-  pub read-done : (pcd : Bool) → number ≡ 0 → readCall s address width pcd answers log ≡ accepted (valueOf (readAll s address width pcd answers .bytes)) (readAll s address width pcd answers) log
-  unfolding readCall readNumber readNumberIn
-  read-done pcd e = cond-true _ _ _ (eq-eqb _ 0 e)
-
-  pub write-refused : (value n : ℕ) → n ≡ writeNumberIn (d .tags) (d .valid) (d .lru) m array address width value answers log → (n ≡ 0 → ⊥) →
-      writeCall s address width value answers log ≡ refused n s log
-  unfolding writeCall writeNumber writeNumberIn
-  write-refused value n e h = rw (← e) (cond-false _ _ _ (ne-eqb n 0 h))
-
-  pub write-done : (value : ℕ) → writeNumberIn (d .tags) (d .valid) (d .lru) m array address width value answers log ≡ 0 →
-      writeCall s address width value answers log ≡ accepted 0 (writeAll s address width value answers) log
-  unfolding writeCall writeNumber writeNumberIn
-  write-done value e = cond-true _ _ _ (eq-eqb _ 0 e)
+  -- a call whose number is the input's, or else a later one
+  numbered : (later : ℕ) → orElse (lentNumber (length (m .ram)) (length (m .parity)) (length array)) (orElse (argumentNumber (length (m .ram)) address width answers (length log)) later) ≡ orElse n later
+  numbered later = sym (or-grouped (lentNumber (length (m .ram)) (length (m .parity)) (length array)) (argumentNumber (length (m .ram)) address width answers (length log)) later) ∙ ap (λ (x : ℕ). orElse x later) (sym en)
 
   -- what the loops start with
-  path-begin : GoodMemory (length (m .ram)) (length (m .parity)) → length array ≡ 8192 → GoodArguments (length (m .ram)) address width (length answers) (length log) →
-      Path (startWalk address width) (length (m .ram)) (length (m .parity)) (length array) (length answers) (length log) 4
-  path-begin g a r =
+  pub path-begin : n ≡ 0 → Path (startWalk address width) (length (m .ram)) (length (m .parity)) (length array) (length answers) (length log) 4
+  path-begin z =
+      let p = or-zero (lentNumber (length (m .ram)) (length (m .parity)) (length array)) _ (sym en ∙ z) in
+      let l = lent-accepted _ _ _ (p .0) in
+      let r = arguments-accepted _ _ _ answers _ (p .1) in
       record {
         inside = r .inside;
-        whole = g .whole;
-        small = g .most;
-        bits = g .bits;
-        lines = a;
+        whole = l .0 .whole;
+        small = l .0 .most;
+        bits = l .0 .bits;
+        lines = l .1;
         served = r .served;
         room = r .room;
         fits = omega (arith, r .four);
@@ -120,46 +117,58 @@ module _ (d : Directory) (m : Memory) (array : List ℕ) (address width : ℕ) (
         four = refl;
       }
 
-  pub read-begin : number ≡ 0 → Path (startWalk address width) (length (m .ram)) (length (m .parity)) (length array) (length answers) (length log) 4
-  unfolding readNumberIn
-  read-begin e =
-      let p = or-zero (lentNumber (length (m .ram)) (length (m .parity)) (length array)) _ e in
-      let q = or-zero (argumentNumber (length (m .ram)) address width answers (length log)) _ (p .1) in
-      let l = lent-accepted _ _ _ (p .0) in
-      path-begin (l .0) (l .1) (arguments-accepted _ _ _ _ _ (q .0))
+  module _ (pcd : Bool) where
+    read-number : readNumber s address width answers log ≡ orElse n (statesOf d address width)
+    unfolding readNumber
+    read-number = numbered (statesOf d address width)
 
-  pub write-begin : (value : ℕ) → writeNumberIn (d .tags) (d .valid) (d .lru) m array address width value answers log ≡ 0 →
-      Path (startWalk address width) (length (m .ram)) (length (m .parity)) (length array) (length answers) (length log) 4
-  unfolding writeNumberIn
-  write-begin value e =
-      let p = or-zero (lentNumber (length (m .ram)) (length (m .parity)) (length array)) _ e in
-      let q = or-zero (argumentNumber (length (m .ram)) address width answers (length log)) _ (p .1) in
-      let l = lent-accepted _ _ _ (p .0) in
-      path-begin (l .0) (l .1) (arguments-accepted _ _ _ _ _ (q .0))
+    read-refused : (k : ℕ) → readNumber s address width answers log ≡ k → (k ≡ 0 → ⊥) → refused k s log ≡ readCall s address width pcd answers log
+    unfolding readCall
+    read-refused k e h = sym (rw e (cond-false _ _ _ (ne-eqb k 0 h)))
 
--- what the loops leave is what an accepted call leaves
-whole : (p : Progress) (r : Walked) (m : Memory) (array log log₀ : List ℕ) (value v : ℕ) →
-    state (r .directory) m array ≡ p .state → log ≡ logged log₀ 0 (p .records) → r .records ≡ length (p .records) → value ≡ v →
-    after (outcome (r .directory) 0 value (r .records)) m array log ≡ accepted v p log₀
-whole p r m array log log₀ value v es el er ev =
-    ap (λ (s : State). after (outcome (s .directory) 0 value (r .records)) (s .memory) (s .array) log) es
-    ∙ ap (λ (x : ℕ). after (outcome (p .state .directory) 0 x (r .records)) (p .state .memory) (p .state .array) log) ev
-    ∙ ap (λ (n : ℕ). after (outcome (p .state .directory) 0 v n) (p .state .memory) (p .state .array) log) er
-    ∙ ap (λ (l : List ℕ). after (outcome (p .state .directory) 0 v (length (p .records))) (p .state .memory) (p .state .array) l) el
+    pub read-input-refused : (n ≡ 0 → ⊥) → refused n s log ≡ readCall s address width pcd answers log
+    read-input-refused h = read-refused n (read-number ∙ first-or n _ h) h
 
-pub read-whole : (s : State) (address width : ℕ) (pcd : Bool) (answers log₀ : List ℕ) (r : Walked) (m : Memory) (array log operand : List ℕ) (value : ℕ) →
-    width ≤ 4 → ReadsAll (allOf (readOne pcd) s (restOf (startWalk address width) answers)) log₀ (replicate 4 0) r m array log operand → value ≡ valueOf operand →
-    after (outcome (r .directory) 0 value (r .records)) m array log ≡ accepted (valueOf (readAll s address width pcd answers .bytes)) (readAll s address width pcd answers) log₀
-unfolding readAll restOf
-read-whole s address width pcd answers log₀ r m array log operand value h k e =
-    let p = allOf (readOne pcd) s (doublewordsOf groups answers address width 0) in
-    let l = all-length pcd groups answers address width 0 s in
-    whole p r m array log log₀ value (valueOf (p .bytes)) (k .states) (k .logs) (k .made)
-    (e ∙ ap valueOf (k .bytes) ∙ value-padded (p .bytes) (omega arith))
+    module _ (z : n ≡ 0) (bad : ℕ) (eb : bad ≡ statesOf d address width) where
+      pub read-state-refused : (bad ≡ 0 → ⊥) → refused bad s log ≡ readCall s address width pcd answers log
+      read-state-refused h = read-refused bad (read-number ∙ zero-or n _ z ∙ sym eb) h
 
-pub write-whole : (s : State) (address width value : ℕ) (answers log₀ : List ℕ) (r : Walked) (m : Memory) (array log : List ℕ) →
-    WritesAll (allOf (writeOne (operandOf value)) s (restOf (startWalk address width) answers)) log₀ r m array log →
-    after (outcome (r .directory) 0 0 (r .records)) m array log ≡ accepted 0 (writeAll s address width value answers) log₀
-unfolding writeAll restOf
-write-whole s address width value answers log₀ r m array log k =
-    whole (allOf (writeOne (operandOf value)) s (doublewordsOf groups answers address width 0)) r m array log log₀ 0 0 (k .states) (k .logs) (k .made) refl
+      pub read-done : bad ≡ 0 → (walk : Walk) (d′ : Directory) (array′ log′ operand : List ℕ) (value : ℕ) → walk .left ≡ 0 →
+          ReadGoing pcd answers (allOf (readOne pcd) s (restOf (startWalk address width) answers)) log (replicate 4 0) walk (state d′ m array′) log′ operand →
+          value ≡ valueOf operand →
+          after (outcome d′ 0 value (walk .records)) m array′ log′ ≡ readCall s address width pcd answers log
+      unfolding readCall readAll restOf
+      read-done b walk d′ array′ log′ operand value e g ev =
+          let p = allOf (readOne pcd) s (doublewordsOf groups answers address width 0) in
+          let l = all-length pcd groups answers address width 0 s in
+          let four = path-begin z .operands in
+          let o = reading-end pcd answers walk (state d′ m array′) log′ operand e g in
+          whole (readOne pcd) answers p walk d′ m array′ log′ log value (valueOf (p .bytes)) e (g .going) (ev ∙ ap valueOf o ∙ value-padded (p .bytes) (omega arith))
+          ∙ sym (cond-true _ _ _ (eq-eqb _ 0 (read-number ∙ zero-or n _ z ∙ sym eb ∙ b)))
+
+  module _ (value : ℕ) where
+    write-number : writeNumber s address width value answers log ≡ orElse n (orElse (valueNumber width value) (statesOf d address width))
+    unfolding writeNumber
+    write-number = numbered (orElse (valueNumber width value) (statesOf d address width))
+
+    write-refused : (k : ℕ) → writeNumber s address width value answers log ≡ k → (k ≡ 0 → ⊥) → refused k s log ≡ writeCall s address width value answers log
+    unfolding writeCall
+    write-refused k e h = sym (rw e (cond-false _ _ _ (ne-eqb k 0 h)))
+
+    pub write-input-refused : (n ≡ 0 → ⊥) → refused n s log ≡ writeCall s address width value answers log
+    write-input-refused h = write-refused n (write-number ∙ first-or n _ h) h
+
+    module _ (z : n ≡ 0) (bad large states : ℕ) (el : large ≡ valueNumber width value) (es : states ≡ statesOf d address width) (eb : bad ≡ orElse large states) where
+      later : bad ≡ orElse (valueNumber width value) (statesOf d address width)
+      later = eb ∙ rw (el, es)
+
+      pub write-later-refused : (bad ≡ 0 → ⊥) → refused bad s log ≡ writeCall s address width value answers log
+      write-later-refused h = write-refused bad (write-number ∙ zero-or n _ z ∙ sym later) h
+
+      pub write-done : bad ≡ 0 → (walk : Walk) (d′ : Directory) (m′ : Memory) (array′ log′ : List ℕ) → walk .left ≡ 0 →
+          Going (writeOne (operandOf value)) answers (allOf (writeOne (operandOf value)) s (restOf (startWalk address width) answers)) log walk (state d′ m′ array′) log′ →
+          after (outcome d′ 0 0 (walk .records)) m′ array′ log′ ≡ writeCall s address width value answers log
+      unfolding writeCall writeAll restOf
+      write-done b walk d′ m′ array′ log′ e g =
+          whole (writeOne (operandOf value)) answers (allOf (writeOne (operandOf value)) s (doublewordsOf groups answers address width 0)) walk d′ m′ array′ log′ log 0 0 e g refl
+          ∙ sym (cond-true _ _ _ (eq-eqb _ 0 (write-number ∙ zero-or n _ z ∙ sym later ∙ b)))

@@ -14,12 +14,12 @@ use Rattle.directory.specs.declared.steps.Directory.{Directory}
 use Rattle.doubleword.specs.declared.change.Moved.{Moved}
 use Rattle.doubleword.specs.declared.change.Wanted.{Wanted}
 use Rattle.access.specs.declared.walk.Walk.{Walk}
-use Rattle.access.specs.declared.walk.Walked.{Walked}
+use Rattle.access.specs.declared.walk.Stepped.{Stepped}
 use Rattle.bus.specs.Groups.{group, groups}
 use Rattle.doubleword.specs.Doubleword.{Doubleword, Done, doublewordsOf, changed}
 use Rattle.access.specs.Access.{State, state, Progress, allOf, next, readOne, writeOne}
-use Rattle.doubleword.specs.Moves.{doublewordOf, Spot, Reads, Writes}
-use Rattle.access.specs.Walks.{wantedOf, nextWalk, restOf, Path, ReadsAll, WritesAll}
+use Rattle.doubleword.specs.Moves.{doublewordOf, BelowFour, Spot, Reads, Writes}
+use Rattle.access.specs.Walks.{wantedOf, nextWalk, restOf, Path, nextDoubleword, ReadStep, WriteStep}
 use Rattle.access.proofs.Values.{one-length, one-memory}
 
 -- lists put in one after the other
@@ -252,82 +252,59 @@ module _ (pcd : Bool) (xs : List ℕ) where
         bytes = ap (λ (i : ℕ). sets operand₀ i (allOf (readOne pcd) s (restOf walk xs) .bytes)) f;
       }
 
-  -- one doubleword of the code, read by the rules
-  pub reading-next : {p : Progress} {log₀ operand₀ : List ℕ} (walk : Walk) (d : Directory) (m : Memory) (array log operand : List ℕ) →
-      (w : Wanted) (given : List ℕ) (r : Moved) (d′ : Directory) (array′ log′ operand′ : List ℕ) (u : Walk) →
+  -- the next doubleword of the code, read by the rules
+  pub reading-next : {p : Progress} {log₀ operand₀ : List ℕ} (walk : Walk) (d : Directory) (m : Memory) (array log operand : List ℕ) (r : Stepped) (d′ : Directory) (array′ log′ operand′ : List ℕ) →
       0 < walk .left → walk .group < groups →
       ReadGoing p log₀ operand₀ walk (state d m array) log operand →
-      w ≡ wantedOf walk → given ≡ groupAt walk xs →
-      Reads (readOne pcd (state d m array) (doublewordOf w given)) (w .place) (walk .records) log operand r array′ log′ operand′ →
-      d′ ≡ changed d (w .line) (r .change) →
-      u ≡ nextWalk walk (w .count) (r .records) →
-      ReadGoing p log₀ operand₀ u (state d′ m array′) log′ operand′
-  reading-next {p} {log₀} {operand₀} walk d m array log operand w given r d′ array′ log′ operand′ u some more g ew eg k ed eu =
-      let here = doublewordOf (wantedOf walk) (groupAt walk xs) in
+      ReadStep (readOne pcd (state d m array) (nextDoubleword walk xs)) walk log operand r array′ log′ operand′ →
+      d′ ≡ changed d (r .line) (r .change) →
+      ReadGoing p log₀ operand₀ (r .walk) (state d′ m array′) log′ operand′
+  reading-next {p} {log₀} {operand₀} walk d m array log operand r d′ array′ log′ operand′ some more g k ed =
+      let here = nextDoubleword walk xs in
       let s = state d m array in
-      let k′ : Reads (readOne pcd s here) (walk .place) (walk .records) log operand r array′ log′ operand′ = rw (ew, eg) at k in
-      let c : d′ ≡ changed d (here .line) (readOne pcd s here .change) = ed ∙ ap (λ (x : Wanted). changed d (x .line) (r .change)) ew ∙ ap (changed d (here .line)) (k′ .change) in
-      let mm : readOne pcd s here .memory ≡ m = one-memory pcd s here in
-      let es : state d′ m array′ ≡ next s here (readOne pcd s here) =
+      let done = readOne pcd s here in
+      let c : d′ ≡ changed d (here .line) (done .change) = ed ∙ ap (λ (x : ℕ). changed d x (r .change)) (k .line) ∙ ap (changed d (here .line)) (k .change) in
+      let es : state d′ m array′ ≡ next s here done =
       ap (λ (x : Directory). state x m array′) c
-      ∙ ap (λ (x : Memory). state (changed d (here .line) (readOne pcd s here .change)) x array′) (sym mm)
-      ∙ ap (λ (x : List ℕ). state (changed d (here .line) (readOne pcd s here .change)) (readOne pcd s here .memory) x) (k′ .arrays) in
-      let eu′ : u ≡ nextWalk walk (min (walk .left) (4 - walk .address % 4)) (r .records) = eu ∙ ap (λ (x : Wanted). nextWalk walk (x .count) (r .records)) ew in
-      rw eu′
+      ∙ ap (λ (x : Memory). state (changed d (here .line) (done .change)) x array′) (sym (one-memory pcd s here))
+      ∙ ap (λ (x : List ℕ). state (changed d (here .line) (done .change)) (done .memory) x) (k .arrays) in
+      rw (k .moves)
       (record {
-        going = going-next (readOne pcd) xs walk s log some more (state d′ m array′) log′ (r .records) (g .going) es (k′ .logs) (k′ .made);
-        bytes = bytes-next (readOne pcd) xs walk s log some more p operand operand′ operand₀ (state d′ m array′) (r .records) (g .bytes) es (k′ .bytes) (one-length pcd s here);
+        going = going-next (readOne pcd) xs walk s log some more (state d′ m array′) log′ (length (done .records)) (g .going) es (k .logs) refl;
+        bytes = bytes-next (readOne pcd) xs walk s log some more p operand operand′ operand₀ (state d′ m array′) (length (done .records)) (g .bytes) es (k .bytes) (one-length pcd s here);
       })
 
--- one doubleword of the code, written by the rules
-pub writing-next : (operand xs : List ℕ) {p : Progress} {log₀ : List ℕ} (walk : Walk) (d : Directory) (m : Memory) (array log : List ℕ) →
-    (w : Wanted) (given : List ℕ) (r : Moved) (d′ : Directory) (m′ : Memory) (array′ log′ : List ℕ) (u : Walk) →
+-- the next doubleword of the code, written by the rules
+pub writing-next : (operand xs : List ℕ) {p : Progress} {log₀ : List ℕ} (walk : Walk) (d : Directory) (m : Memory) (array log : List ℕ) (r : Stepped) (d′ : Directory) (m′ : Memory) (array′ log′ : List ℕ) →
     0 < walk .left → walk .group < groups →
     Going (writeOne operand) xs p log₀ walk (state d m array) log →
-    w ≡ wantedOf walk → given ≡ groupAt walk xs →
-    Writes (writeOne operand (state d m array) (doublewordOf w given)) (walk .records) log r m′ array′ log′ →
-    d′ ≡ changed d (w .line) (r .change) →
-    u ≡ nextWalk walk (w .count) (r .records) →
-    Going (writeOne operand) xs p log₀ u (state d′ m′ array′) log′
-writing-next operand xs walk d m array log w given r d′ m′ array′ log′ u some more g ew eg k ed eu =
-    let here = doublewordOf (wantedOf walk) (groupAt walk xs) in
+    WriteStep (writeOne operand (state d m array) (nextDoubleword walk xs)) walk log r m′ array′ log′ →
+    d′ ≡ changed d (r .line) (r .change) →
+    Going (writeOne operand) xs p log₀ (r .walk) (state d′ m′ array′) log′
+writing-next operand xs walk d m array log r d′ m′ array′ log′ some more g k ed =
+    let here = nextDoubleword walk xs in
     let s = state d m array in
-    let k′ : Writes (writeOne operand s here) (walk .records) log r m′ array′ log′ = rw (ew, eg) at k in
-    let c : d′ ≡ changed d (here .line) (writeOne operand s here .change) = ed ∙ ap (λ (x : Wanted). changed d (x .line) (r .change)) ew ∙ ap (changed d (here .line)) (k′ .change) in
-    let es : state d′ m′ array′ ≡ next s here (writeOne operand s here) =
+    let done = writeOne operand s here in
+    let c : d′ ≡ changed d (here .line) (done .change) = ed ∙ ap (λ (x : ℕ). changed d x (r .change)) (k .line) ∙ ap (changed d (here .line)) (k .change) in
+    let es : state d′ m′ array′ ≡ next s here done =
     ap (λ (x : Directory). state x m′ array′) c
-    ∙ ap (λ (x : Memory). state (changed d (here .line) (writeOne operand s here .change)) x array′) (k′ .memories)
-    ∙ ap (λ (x : List ℕ). state (changed d (here .line) (writeOne operand s here .change)) (writeOne operand s here .memory) x) (k′ .arrays) in
-    let eu′ : u ≡ nextWalk walk (min (walk .left) (4 - walk .address % 4)) (r .records) = eu ∙ ap (λ (x : Wanted). nextWalk walk (x .count) (r .records)) ew in
-    rw eu′ (going-next (writeOne operand) xs walk s log some more (state d′ m′ array′) log′ (r .records) g es (k′ .logs) (k′ .made))
+    ∙ ap (λ (x : Memory). state (changed d (here .line) (done .change)) x array′) (k .memories)
+    ∙ ap (λ (x : List ℕ). state (changed d (here .line) (done .change)) (done .memory) x) (k .arrays) in
+    rw (k .moves) (going-next (writeOne operand) xs walk s log some more (state d′ m′ array′) log′ (length (done .records)) g es (k .logs) refl)
 
 -- where nothing is left the loops have left what all doublewords leave
-pub reading-end : (pcd : Bool) (xs : List ℕ) {p : Progress} {log₀ operand₀ : List ℕ} (walk : Walk) (d : Directory) (m : Memory) (array log operand : List ℕ) →
-    walk .left ≡ 0 → walk .records ≤ 32 → ReadGoing pcd xs p log₀ operand₀ walk (state d m array) log operand →
-    ReadsAll p log₀ operand₀ (record { directory = d; records = walk .records }) m array log operand
+pub reading-end : (pcd : Bool) (xs : List ℕ) {p : Progress} {log₀ operand₀ : List ℕ} (walk : Walk) (s : State) (log operand : List ℕ) →
+    walk .left ≡ 0 → ReadGoing pcd xs p log₀ operand₀ walk s log operand → operand ≡ sets operand₀ 0 (p .bytes)
 unfolding allOf
-reading-end pcd xs walk d m array log operand z l g =
-    let e = going-end (readOne pcd) xs walk (state d m array) log z (g .going) in
-    let r = rest-done walk xs z in
-    record { states = e .0; logs = e .1; bytes = rw r at (g .bytes); made = e .2; most = l }
+reading-end pcd xs walk s log operand z g = let r = rest-done walk xs z in rw r at (g .bytes)
 
-pub writing-end : (operand xs : List ℕ) {p : Progress} {log₀ : List ℕ} (walk : Walk) (d : Directory) (m : Memory) (array log : List ℕ) →
-    walk .left ≡ 0 → walk .records ≤ 32 → Going (writeOne operand) xs p log₀ walk (state d m array) log →
-    WritesAll p log₀ (record { directory = d; records = walk .records }) m array log
-writing-end operand xs walk d m array log z l g =
-    let e = going-end (writeOne operand) xs walk (state d m array) log z g in
-    record { states = e .0; logs = e .1; made = e .2; most = l }
-
--- the code's next walk
-module _ (walk u : Walk) (w : Wanted) (n : ℕ) (some : 0 < walk .left) (ew : w ≡ wantedOf walk) (eu : u ≡ nextWalk walk (w .count) n) where
-  walk-next : u ≡ nextWalk walk (min (walk .left) (4 - walk .address % 4)) n
-  walk-next = eu ∙ ap (λ (x : Wanted). nextWalk walk (x .count) n) ew
-
+-- the walk after a doubleword
+module _ (walk u : Walk) (n : ℕ) (some : 0 < walk .left) (eu : u ≡ nextWalk walk (min (walk .left) (4 - walk .address % 4)) n) where
   pub walk-less : u .left < walk .left
-  walk-less = rw walk-next (omega arith)
+  walk-less = rw eu (omega arith)
 
   pub walk-path : (ram parity array answers log operand : ℕ) → n ≤ group → Path walk ram parity array answers log operand → Path u ram parity array answers log operand
-  walk-path ram parity array answers log operand l z = rw walk-next (path-next walk ram parity array answers log operand z some n l)
+  walk-path ram parity array answers log operand l z = rw eu (path-next walk ram parity array answers log operand z some n l)
 
 -- what the code's next walk needs
 pub record Steps (walk : Walk) (w : Wanted) (n : ℕ) : Type 0 where
@@ -362,3 +339,40 @@ walk-spot walk w ram parity array answers log₀ log operand₀ operand given so
   where
     room : (place left r operand : ℕ) → place + left ≤ operand → place + min left r ≤ operand
     room place left r operand h = omega arith
+
+-- a step of the code, from what its parts leave
+module _ (walk : Walk) (xs : List ℕ) (w : Wanted) (given : List ℕ) (ew : w ≡ wantedOf walk) (eg : given ≡ groupAt walk xs) (moved : Moved) (u : Walk) (eu : u ≡ nextWalk walk (w .count) (moved .records)) (b : BelowFour (moved .change)) where
+  walk-moves : (n : ℕ) → moved .records ≡ n → u ≡ nextWalk walk (min (walk .left) (4 - walk .address % 4)) n
+  walk-moves n e = eu ∙ ap (λ (x : Wanted). nextWalk walk (x .count) (moved .records)) ew ∙ ap (nextWalk walk (min (walk .left) (4 - walk .address % 4))) e
+
+  pub read-step-left : (one : Wanted → List ℕ → Done) (log₀ operand₀ array log operand : List ℕ) →
+      Reads (one w given) (w .place) (walk .records) log₀ operand₀ moved array log operand →
+      ReadStep (one (wantedOf walk) (groupAt walk xs)) walk log₀ operand₀ (record { line = w .line; change = moved .change; walk = u }) array log operand
+  read-step-left one log₀ operand₀ array log operand k =
+      let k′ : Reads (one (wantedOf walk) (groupAt walk xs)) (walk .place) (walk .records) log₀ operand₀ moved array log operand = rw (ew, eg) at k in
+      record {
+        line = ap (λ (x : Wanted). x .line) ew;
+        change = k′ .change;
+        below = b;
+        moves = walk-moves _ (k′ .made);
+        arrays = k′ .arrays;
+        logs = k′ .logs;
+        bytes = k′ .bytes;
+        most = rw (← k′ .made) (k′ .most);
+      }
+
+  pub write-step-left : (one : Wanted → List ℕ → Done) (log₀ : List ℕ) (m : Memory) (array log : List ℕ) →
+      Writes (one w given) (walk .records) log₀ moved m array log →
+      WriteStep (one (wantedOf walk) (groupAt walk xs)) walk log₀ (record { line = w .line; change = moved .change; walk = u }) m array log
+  write-step-left one log₀ m array log k =
+      let k′ : Writes (one (wantedOf walk) (groupAt walk xs)) (walk .records) log₀ moved m array log = rw (ew, eg) at k in
+      record {
+        line = ap (λ (x : Wanted). x .line) ew;
+        change = k′ .change;
+        below = b;
+        moves = walk-moves _ (k′ .made);
+        memories = k′ .memories;
+        arrays = k′ .arrays;
+        logs = k′ .logs;
+        most = rw (← k′ .made) (k′ .most);
+      }

@@ -1,19 +1,18 @@
--- What the code's own state between two doublewords of an access stands for, and what the loops over doublewords leave.
+-- What the code's own state between two doublewords of an access stands for, and what the next doubleword leaves.
 use Prim.Native.Nat.{ℕ, _+_, _*_, _-_, _/_, _%_, _≤_, _<_, min}
 use mathlib.Core.Path.{_≡_}
-use mathlib.Core.Bool.{Bool}
 use mathlib.Core.List.{List}
-use lib.ListN.{length, drop}
+use lib.ListN.{length, take, drop}
 use lib.Seq.{sets}
 use Rattle.bus.specs.Groups.{group, groups}
 use Rattle.bus.specs.Parity.{Memory}
 use Rattle.bus.specs.Record.{logged}
+use Rattle.doubleword.specs.declared.change.Change.{Change}
 use Rattle.doubleword.specs.declared.change.Wanted.{Wanted}
-use Rattle.doubleword.specs.Doubleword.{Doubleword, doublewordsOf}
+use Rattle.doubleword.specs.Doubleword.{Doubleword, Done, doublewordsOf}
+use Rattle.doubleword.specs.Moves.{BelowFour, doublewordOf}
 use Rattle.access.specs.declared.walk.Walk.{Walk}
-use Rattle.access.specs.declared.walk.Walked.{Walked}
-use Rattle.access.specs.Refusal.{orElse, lentNumber, argumentNumber, valueNumber, statesIn}
-use Rattle.access.specs.Access.{Progress, state}
+use Rattle.access.specs.declared.walk.Stepped.{Stepped}
 
 -- The start of an access, its next doubleword, and what is left after it.
 abbrev pub startWalk : ℕ → ℕ → Walk
@@ -58,30 +57,31 @@ pub record Path (walk : Walk) (ram parity array answers log operand : ℕ) : Typ
   pub operands : walk .place + walk .left ≤ operand
   pub four : operand ≡ 4
 
--- What all doublewords of a read, or of a write, leave.
-pub record ReadsAll (p : Progress) (log₀ operand₀ : List ℕ) (r : Walked) (m : Memory) (array log operand : List ℕ) : Type 0 where
-  pub states : state (r .directory) m array ≡ p .state
-  pub logs : log ≡ logged log₀ 0 (p .records)
-  pub bytes : operand ≡ sets operand₀ 0 (p .bytes)
-  pub made : r .records ≡ length (p .records)
-  pub most : r .records ≤ 32
+-- The line of the next doubleword, and the doubleword with its own group of answers.
+abbrev pub lineAt : Walk → ℕ
+lineAt walk = walk .address / 16 * 16
 
--- The same for a write, which reads no bytes and changes memory.
-pub record WritesAll (p : Progress) (log₀ : List ℕ) (r : Walked) (m : Memory) (array log : List ℕ) : Type 0 where
-  pub states : state (r .directory) m array ≡ p .state
-  pub logs : log ≡ logged log₀ 0 (p .records)
-  pub made : r .records ≡ length (p .records)
-  pub most : r .records ≤ 32
+abbrev pub nextDoubleword : Walk → List ℕ → Doubleword
+nextDoubleword walk answers = doublewordOf (wantedOf walk) (take group (drop (walk .group * group) answers))
 
--- The numbers of a read and of a write, by lent fields of the directory.
-unfoldable pub readNumberIn : List ℕ → List Bool → List ℕ → Memory → List ℕ → ℕ → ℕ → List ℕ → List ℕ → ℕ
-readNumberIn tags valid lru m array address width answers log =
-    orElse (lentNumber (length (m .ram)) (length (m .parity)) (length array))
-    (orElse (argumentNumber (length (m .ram)) address width answers (length log)) (statesIn tags valid lru address width))
+-- What the code hands back and leaves in the buffers for what the next doubleword of a read, or of a write, does.
+pub record ReadStep (done : Done) (walk : Walk) (log₀ operand₀ : List ℕ) (r : Stepped) (array log operand : List ℕ) : Type 0 where
+  pub line : r .line ≡ lineAt walk
+  pub change : r .change ≡ done .change
+  pub below : BelowFour (r .change)
+  pub moves : r .walk ≡ nextWalk walk (min (walk .left) (4 - walk .address % 4)) (length (done .records))
+  pub arrays : array ≡ done .array
+  pub logs : log ≡ logged log₀ (walk .records) (done .records)
+  pub bytes : operand ≡ sets operand₀ (walk .place) (done .bytes)
+  pub most : length (done .records) ≤ group
 
 -- The same for a write.
-unfoldable pub writeNumberIn : List ℕ → List Bool → List ℕ → Memory → List ℕ → ℕ → ℕ → ℕ → List ℕ → List ℕ → ℕ
-writeNumberIn tags valid lru m array address width value answers log =
-    orElse (lentNumber (length (m .ram)) (length (m .parity)) (length array))
-    (orElse (argumentNumber (length (m .ram)) address width answers (length log))
-    (orElse (valueNumber width value) (statesIn tags valid lru address width)))
+pub record WriteStep (done : Done) (walk : Walk) (log₀ : List ℕ) (r : Stepped) (m : Memory) (array log : List ℕ) : Type 0 where
+  pub line : r .line ≡ lineAt walk
+  pub change : r .change ≡ done .change
+  pub below : BelowFour (r .change)
+  pub moves : r .walk ≡ nextWalk walk (min (walk .left) (4 - walk .address % 4)) (length (done .records))
+  pub memories : m ≡ done .memory
+  pub arrays : array ≡ done .array
+  pub logs : log ≡ logged log₀ (walk .records) (done .records)
+  pub most : length (done .records) ≤ group

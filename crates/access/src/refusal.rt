@@ -3,6 +3,7 @@ ghost use mathlib.Core.Path.{_≡_};
 ghost use mathlib.Core.Bool.{not};
 ghost use Prim.Native.Nat.{_+_, _-_, _^_, _<_};
 ghost use lib.Dec.{ltb};
+ghost use lib.ListN.{length};
 ghost use Rattle.directory.specs.Address.{setOf};
 ghost use Rattle.access.specs.Refusal.{anyAbove, argumentNumber, badAnswers, badRam, badWidth, externalNumber, lentNumber, memoryNumber, orElse, statesIn, valueNumber, when};
 
@@ -74,6 +75,26 @@ pub fn argument_number(ram: usize, address: u32, width: u32, answers: &[u8], log
             number_if(beyond, 5),
             or_else(number_if(bad_answers(answers), 6), number_if(log < 96, 7)),
         ),
+    )
+}
+
+// Numbers 1 to 7 of a read or a write.
+pub fn input_number(
+    ram: &[u8],
+    parity: &[u8],
+    data: &[u8],
+    answers: &[u8],
+    log: &[u32],
+    address: u32,
+    width: u32,
+) -> u32
+    ensures { λ r. ⌜ r ≡ orElse (lentNumber (length (now (ram .entry))) (length (now (parity .entry))) (length (now («data» .entry))))
+        (argumentNumber (length (now (ram .entry))) address width (now (answers .entry)) (length (now (log .entry)))) ⌝ }
+{
+    let n = ram.len();
+    or_else(
+        lent_number(n, parity.len(), data.len()),
+        argument_number(n, address, width, answers, log.len()),
     )
 }
 

@@ -2,7 +2,7 @@
 ghost use mathlib.Core.Path.{_≡_};
 ghost use Prim.Native.Nat.{_+_, _≤_, _<_};
 ghost use Rattle.access.specs.Walks.{nextWalk, startWalk, wantedOf};
-use directory::Directory;
+use doubleword::Change;
 use doubleword::Wanted;
 
 // What is left between two doublewords: the address of the next wanted byte, the bytes left, the group of answers that
@@ -15,10 +15,11 @@ pub struct Walk {
     pub records: usize,
 }
 
-// The directory after the doublewords of an access, and the records made.
-pub struct Walked {
-    pub directory: Directory,
-    pub records: usize,
+// What a doubleword did: the directory's change with its line, and what is left after it.
+pub struct Stepped {
+    pub line: u32,
+    pub change: Change,
+    pub walk: Walk,
 }
 
 impl Walk {

@@ -1,65 +1,114 @@
 use denote.Ref.{now}
 use native.Mathlib.Omega.{arith}
 use mathlib.Core.Path.{_≡_, refl, sym, _∙_, ap}
-use Rattle.bus.specs.Parity.{memory}
-use Rattle.access.proofs.Calls.{read-refused, read-begin, read-done, read-whole}
 use borrow.Author.Needs.{needs}
+use Rattle.bus.specs.Parity.{memory}
+use lib.ListN.{length, replicate}
+use Rattle.access.specs.Access.{state, allOf, readOne}
+use Rattle.access.specs.Walks.{startWalk, restOf, Path}
+use Rattle.access.proofs.Walking.{ReadGoing, reading-begin, reading-next, path-more, walk-less, walk-path}
+use Rattle.access.proofs.Calls.{path-begin, read-input-refused, read-state-refused, read-done}
 use Rattle.access.proofs.reading.read.Statement.{statement}
 use Rattle.access.proofs.reading.read.Tie as tie
 
-read-number-requires : tie.Need-read-number-requires
-read-number-requires c κs = search needs
+abbrev Inv-loop : tie.InvT-loop
+Inv-loop ram parity data₀ address width pcd answers log₀ given₀ number bad operand₀ walk₀ «data» log given operand walk = ReadGoing pcd answers (allOf (readOne pcd) (state given₀ (memory ram parity) data₀) (restOf (startWalk address width) answers)) log₀ (replicate 4 0) walk (state given (memory ram parity) «data») log operand × Path walk (length ram) (length parity) (length data₀) (length answers) (length log₀) 4 × (length «data» ≡ length data₀) × (length log ≡ length log₀) × (length operand ≡ 4)
 
-refused-requires : tie.Need-refused-requires
+abbrev μ-loop : tie.MeasureT-loop
+μ-loop ram parity data₀ address width pcd answers log₀ given₀ number bad operand₀ walk₀ «data» log given operand walk = walk .left
+
+input-number-requires : tie.Need-input-number-requires Inv-loop μ-loop
+input-number-requires c κs = search needs
+
+refused-requires : tie.Need-refused-requires Inv-loop μ-loop
 refused-requires c κs = search needs
 
-same-length : tie.Need-same-length
+same-length : tie.Need-same-length Inv-loop μ-loop
 same-length c = search needs
 
-same-length-2 : tie.Need-same-length-2
+same-length-2 : tie.Need-same-length-2 Inv-loop μ-loop
 same-length-2 c = search needs
 
-returns : tie.Need-returns
-returns c = rw (c .refused .ensures) (sym (read-refused (c .before .before .before .before .before .before .before .before .before .before .before .before .before .before .args .t1) (memory (now (c .before .before .before .before .before .before .before .before .before .before .before .before .before .before .args .ram)) (now (c .before .before .before .before .before .before .before .before .before .before .before .before .before .before .args .parity))) (now (c .before .before .before .before .before .before .before .before .before .before .before .before .before .before .args .«data»)) (c .before .before .before .before .before .before .before .before .before .before .before .before .before .before .args .address) (c .before .before .before .before .before .before .before .before .before .before .before .before .before .before .args .width) (now (c .before .before .before .before .before .before .before .before .before .before .before .before .before .before .args .answers)) (now (c .before .before .before .before .before .before .before .before .before .before .before .before .before .before .args .log)) _ _ (c .before .before .read-number .ensures) (c .before .if1 .taken)))
+returns : tie.Need-returns Inv-loop μ-loop
+returns c = rw (c .refused .ensures) (read-input-refused (c .before .before .before .before .before .before .before .before .before .before .args .t1) (memory (now (c .before .before .before .before .before .before .before .before .before .before .args .ram)) (now (c .before .before .before .before .before .before .before .before .before .before .args .parity))) (now (c .before .before .before .before .before .before .before .before .before .before .args .«data»)) (c .before .before .before .before .before .before .before .before .before .before .args .address) (c .before .before .before .before .before .before .before .before .before .before .args .width) (now (c .before .before .before .before .before .before .before .before .before .before .args .answers)) (now (c .before .before .before .before .before .before .before .before .before .before .args .log)) _ (c .before .before .input-number .ensures) (c .before .before .before .before .before .before .before .before .before .before .args .pcd) (c .before .if1 .taken))
 
-start-requires : tie.Need-start-requires
-start-requires c κs = search needs
+states-number-requires : tie.Need-states-number-requires Inv-loop μ-loop
+states-number-requires c κs = search needs
 
-slice-aggregate-read-all : tie.Need-slice-aggregate-read-all
-slice-aggregate-read-all c = search needs
+refused-requires-2 : tie.Need-refused-requires-2 Inv-loop μ-loop
+refused-requires-2 c κs = search needs
 
-read-all-requires : tie.Need-read-all-requires
-read-all-requires c κs = rw (c .before .before .before .start .ensures) (refl, refl, refl, read-begin (c .before .before .before .before .before .before .before .before .before .before .before .before .before .before .before .before .before .args .t1) (memory (now (c .before .before .before .before .before .before .before .before .before .before .before .before .before .before .before .before .before .args .ram)) (now (c .before .before .before .before .before .before .before .before .before .before .before .before .before .before .before .before .before .args .parity))) (now (c .before .before .before .before .before .before .before .before .before .before .before .before .before .before .before .before .before .args .«data»)) (c .before .before .before .before .before .before .before .before .before .before .before .before .before .before .before .before .before .args .address) (c .before .before .before .before .before .before .before .before .before .before .before .before .before .before .before .before .before .args .width) (now (c .before .before .before .before .before .before .before .before .before .before .before .before .before .before .before .before .before .args .answers)) (now (c .before .before .before .before .before .before .before .before .before .before .before .before .before .before .before .before .before .args .log)) (sym (c .before .before .before .before .before .read-number .ensures) ∙ c .before .before .before .before .if1 .left))
-
-word-of-requires : tie.Need-word-of-requires
-word-of-requires c κs = search needs
-
-cast-t34 : tie.Need-cast-t34
-cast-t34 c = search needs
-
-same-length-3 : tie.Need-same-length-3
+same-length-3 : tie.Need-same-length-3 Inv-loop μ-loop
 same-length-3 c = search needs
 
-same-length-4 : tie.Need-same-length-4
+same-length-4 : tie.Need-same-length-4 Inv-loop μ-loop
 same-length-4 c = search needs
 
-returns-2 : tie.Need-returns-2
-returns-2 c = let z = sym (c .before .before .before .before .before .before .before .before .before .before .before .before .before .before .read-number .ensures) ∙ c .before .before .before .before .before .before .before .before .before .before .before .before .before .if1 .left in let b = read-begin (c .before .before .before .before .before .before .before .before .before .before .before .before .before .before .before .before .before .before .before .before .before .before .before .before .before .before .args .t1) (memory (now (c .before .before .before .before .before .before .before .before .before .before .before .before .before .before .before .before .before .before .before .before .before .before .before .before .before .before .args .ram)) (now (c .before .before .before .before .before .before .before .before .before .before .before .before .before .before .before .before .before .before .before .before .before .before .before .before .before .before .args .parity))) (now (c .before .before .before .before .before .before .before .before .before .before .before .before .before .before .before .before .before .before .before .before .before .before .before .before .before .before .args .«data»)) (c .before .before .before .before .before .before .before .before .before .before .before .before .before .before .before .before .before .before .before .before .before .before .before .before .before .before .args .address) (c .before .before .before .before .before .before .before .before .before .before .before .before .before .before .before .before .before .before .before .before .before .before .before .before .before .before .args .width) (now (c .before .before .before .before .before .before .before .before .before .before .before .before .before .before .before .before .before .before .before .before .before .before .before .before .before .before .args .answers)) (now (c .before .before .before .before .before .before .before .before .before .before .before .before .before .before .before .before .before .before .before .before .before .before .before .before .before .before .args .log)) z in read-whole _ _ _ _ _ _ _ _ _ _ _ _ (omega (arith, b .operands)) (rw (c .before .before .before .before .before .before .before .before .before .before .before .before .start .ensures) at (c .before .before .before .before .before .before .before .before .read-all .ensures)) (c .before .before .word-of .ensures) ∙ sym (read-done (c .before .before .before .before .before .before .before .before .before .before .before .before .before .before .before .before .before .before .before .before .before .before .before .before .before .before .args .t1) (memory (now (c .before .before .before .before .before .before .before .before .before .before .before .before .before .before .before .before .before .before .before .before .before .before .before .before .before .before .args .ram)) (now (c .before .before .before .before .before .before .before .before .before .before .before .before .before .before .before .before .before .before .before .before .before .before .before .before .before .before .args .parity))) (now (c .before .before .before .before .before .before .before .before .before .before .before .before .before .before .before .before .before .before .before .before .before .before .before .before .before .before .args .«data»)) (c .before .before .before .before .before .before .before .before .before .before .before .before .before .before .before .before .before .before .before .before .before .before .before .before .before .before .args .address) (c .before .before .before .before .before .before .before .before .before .before .before .before .before .before .before .before .before .before .before .before .before .before .before .before .before .before .args .width) (now (c .before .before .before .before .before .before .before .before .before .before .before .before .before .before .before .before .before .before .before .before .before .before .before .before .before .before .args .answers)) (now (c .before .before .before .before .before .before .before .before .before .before .before .before .before .before .before .before .before .before .before .before .before .before .before .before .before .before .args .log)) (c .before .before .before .before .before .before .before .before .before .before .before .before .before .before .before .before .before .before .before .before .before .before .before .before .before .before .args .pcd) z)
+returns-2 : tie.Need-returns-2 Inv-loop μ-loop
+returns-2 c = rw (c .refused2 .ensures) (read-state-refused (c .before .before .before .before .before .before .before .before .before .before .before .before .before .before .before .before .args .t1) (memory (now (c .before .before .before .before .before .before .before .before .before .before .before .before .before .before .before .before .args .ram)) (now (c .before .before .before .before .before .before .before .before .before .before .before .before .before .before .before .before .args .parity))) (now (c .before .before .before .before .before .before .before .before .before .before .before .before .before .before .before .before .args .«data»)) (c .before .before .before .before .before .before .before .before .before .before .before .before .before .before .before .before .args .address) (c .before .before .before .before .before .before .before .before .before .before .before .before .before .before .before .before .args .width) (now (c .before .before .before .before .before .before .before .before .before .before .before .before .before .before .before .before .args .answers)) (now (c .before .before .before .before .before .before .before .before .before .before .before .before .before .before .before .before .args .log)) _ (c .before .before .before .before .before .before .before .before .input-number .ensures) (c .before .before .before .before .before .before .before .before .before .before .before .before .before .before .before .before .args .pcd) (c .before .before .before .before .before .before .before .if1 .left) _ (c .before .before .states-number .ensures) (c .before .if2 .taken))
+
+start-requires : tie.Need-start-requires Inv-loop μ-loop
+start-requires c κs = search needs
+
+loop-holds : tie.Need-loop-holds Inv-loop μ-loop
+loop-holds c = rw (c .start .ensures) (reading-begin _ _ _ _ _ _ refl refl, path-begin (c .before .before .before .before .before .before .before .before .before .before .before .before .before .before .before .before .args .t1) (memory (now (c .before .before .before .before .before .before .before .before .before .before .before .before .before .before .before .before .args .ram)) (now (c .before .before .before .before .before .before .before .before .before .before .before .before .before .before .before .before .args .parity))) (now (c .before .before .before .before .before .before .before .before .before .before .before .before .before .before .before .before .args .«data»)) (c .before .before .before .before .before .before .before .before .before .before .before .before .before .before .before .before .args .address) (c .before .before .before .before .before .before .before .before .before .before .before .before .before .before .before .before .args .width) (now (c .before .before .before .before .before .before .before .before .before .before .before .before .before .before .before .before .args .answers)) (now (c .before .before .before .before .before .before .before .before .before .before .before .before .before .before .before .before .args .log)) _ (c .before .before .before .before .before .before .before .before .input-number .ensures) (c .before .before .before .before .before .before .before .if1 .left), refl, refl, refl)
+
+slice-aggregate-read-step : tie.Need-slice-aggregate-read-step Inv-loop μ-loop
+slice-aggregate-read-step c = search needs
+
+read-step-requires : tie.Need-read-step-requires Inv-loop μ-loop
+read-step-requires c κs = (c .before .before .before .before .before .before .before .if3 .taken, rw (c .before .before .before .before .before .before .before .before .before .loop .inv .2, c .before .before .before .before .before .before .before .before .before .loop .inv .3, c .before .before .before .before .before .before .before .before .before .loop .inv .4) (c .before .before .before .before .before .before .before .before .before .loop .inv .1))
+
+changed-by-requires : tie.Need-changed-by-requires Inv-loop μ-loop
+changed-by-requires c κs = c .before .before .before .before .before .before .read-step .ensures .below
+
+loop-less : tie.Need-loop-less Inv-loop μ-loop
+loop-less c = walk-less _ _ _ (c .before .before .before .before .before .before .before .before .before .before .before .before .before .before .before .if3 .taken) (c .before .before .before .before .before .before .before .read-step .ensures .moves)
+
+loop-again : tie.Need-loop-again Inv-loop μ-loop
+unfolding readOne
+loop-again c = (reading-next _ _ _ _ _ _ _ _ _ _ _ _ _ (c .before .before .before .before .before .before .before .before .before .before .before .before .before .before .before .if3 .taken) (path-more _ _ _ _ _ _ _ (c .before .before .before .before .before .before .before .before .before .before .before .before .before .before .before .before .before .loop .inv .1) (c .before .before .before .before .before .before .before .before .before .before .before .before .before .before .before .if3 .taken)) (c .before .before .before .before .before .before .before .before .before .before .before .before .before .before .before .before .before .loop .inv .0) (c .before .before .before .before .before .before .before .read-step .ensures) (c .changed-by .ensures), walk-path _ _ _ (c .before .before .before .before .before .before .before .before .before .before .before .before .before .before .before .if3 .taken) (c .before .before .before .before .before .before .before .read-step .ensures .moves) _ _ _ _ _ _ (c .before .before .before .before .before .before .before .read-step .ensures .most) (c .before .before .before .before .before .before .before .before .before .before .before .before .before .before .before .before .before .loop .inv .1), c .before .before .before .before .before .before .before .read-step .kept .1 .1 .1 .1 .1 .1 .0 ∙ c .before .before .before .before .before .before .before .before .before .before .before .before .before .before .before .before .before .loop .inv .2, c .before .before .before .before .before .before .before .read-step .kept .1 .1 .1 .1 .1 .1 .1 .1 .0 ∙ c .before .before .before .before .before .before .before .before .before .before .before .before .before .before .before .before .before .loop .inv .3, c .before .before .before .before .before .before .before .read-step .kept .1 .1 .1 .1 .1 .1 .1 .1 .1 .0 ∙ c .before .before .before .before .before .before .before .before .before .before .before .before .before .before .before .before .before .loop .inv .4)
+
+word-of-requires : tie.Need-word-of-requires Inv-loop μ-loop
+word-of-requires c κs = search needs
+
+cast-t46 : tie.Need-cast-t46 Inv-loop μ-loop
+cast-t46 c = omega (arith, c .before .before .before .before .loop .inv .1 .made, c .before .before .before .before .loop .inv .1 .last)
+
+same-length-5 : tie.Need-same-length-5 Inv-loop μ-loop
+same-length-5 c = c .before .before .before .before .loop .inv .2
+
+same-length-6 : tie.Need-same-length-6 Inv-loop μ-loop
+same-length-6 c = c .before .before .before .before .loop .inv .3
+
+returns-3 : tie.Need-returns-3 Inv-loop μ-loop
+returns-3 c = read-done (c .before .before .before .before .before .before .before .before .before .before .before .before .before .before .before .before .before .before .before .before .before .args .t1) (memory (now (c .before .before .before .before .before .before .before .before .before .before .before .before .before .before .before .before .before .before .before .before .before .args .ram)) (now (c .before .before .before .before .before .before .before .before .before .before .before .before .before .before .before .before .before .before .before .before .before .args .parity))) (now (c .before .before .before .before .before .before .before .before .before .before .before .before .before .before .before .before .before .before .before .before .before .args .«data»)) (c .before .before .before .before .before .before .before .before .before .before .before .before .before .before .before .before .before .before .before .before .before .args .address) (c .before .before .before .before .before .before .before .before .before .before .before .before .before .before .before .before .before .before .before .before .before .args .width) (now (c .before .before .before .before .before .before .before .before .before .before .before .before .before .before .before .before .before .before .before .before .before .args .answers)) (now (c .before .before .before .before .before .before .before .before .before .before .before .before .before .before .before .before .before .before .before .before .before .args .log)) _ (c .before .before .before .before .before .before .before .before .before .before .before .before .before .input-number .ensures) (c .before .before .before .before .before .before .before .before .before .before .before .before .before .before .before .before .before .before .before .before .before .args .pcd) (c .before .before .before .before .before .before .before .before .before .before .before .before .if1 .left) _ (c .before .before .before .before .before .before .before .states-number .ensures) (c .before .before .before .before .before .before .if2 .left) _ _ _ _ _ _ (omega arith) (c .before .before .before .before .loop .inv .0) (c .before .word-of .ensures)
 
 pub read-spec : {M : Type 1} → statement M
 read-spec =
     tie.close
     (tie.spec
-    read-number-requires
+    Inv-loop
+    μ-loop
+    input-number-requires
     refused-requires
     same-length
     same-length-2
     returns
-    start-requires
-    slice-aggregate-read-all
-    read-all-requires
-    word-of-requires
-    cast-t34
+    states-number-requires
+    refused-requires-2
     same-length-3
     same-length-4
-    returns-2)
+    returns-2
+    start-requires
+    loop-holds
+    slice-aggregate-read-step
+    read-step-requires
+    changed-by-requires
+    loop-less
+    loop-again
+    word-of-requires
+    cast-t46
+    same-length-5
+    same-length-6
+    returns-3)

@@ -1,0 +1,74 @@
+use denote.Ref.{now}
+use native.Mathlib.Omega.{arith}
+use mathlib.Core.Path.{_≡_, refl, sym, _∙_, ap}
+use Prim.Native.Nat.{_+_, _*_}
+use mathlib.Core.List.{List}
+use Rattle.bus.specs.Parity.{memory}
+use Rattle.directory.specs.Ways.{lookupIn, victimIn}
+use Rattle.directory.specs.Address.{setOf}
+use Rattle.doubleword.specs.declared.change.Wanted.{Wanted}
+use Rattle.doubleword.specs.Doubleword.{writeDone}
+use Rattle.doubleword.specs.Moves.{doublewordOf}
+use Prim.Native.Nat.{ℕ}
+use Rattle.doubleword.proofs.Doublewords.{writes-below}
+use Rattle.access.proofs.Walking.{path-more, group-is, group-length, walk-spot, walk-steps, write-step-left}
+use borrow.Author.Needs.{needs}
+use Rattle.access.proofs.writing.write_step.Statement.{statement}
+use Rattle.access.proofs.writing.write_step.Tie as tie
+
+wanted-requires : tie.Need-wanted-requires
+wanted-requires c κs = search needs
+
+mul-from : tie.Need-mul-from
+mul-from c = search needs
+
+add-to : tie.Need-add-to
+add-to c = search needs
+
+sub-group : tie.Need-sub-group
+sub-group c = search needs
+
+part-group-start : tie.Need-part-group-start
+part-group-start c = search needs
+
+part-group-end : tie.Need-part-group-end
+part-group-end c = search needs
+
+write-doubleword-requires : tie.Need-write-doubleword-requires
+write-doubleword-requires c κs = let s = walk-spot _ _ _ _ _ _ _ _ _ _ _ (c .before .before .before .before .before .before .before .before .before .before .before .before .before .pre .0) (c .before .before .before .before .before .before .wanted .ensures) (c .before .before .before .before .before .before .before .before .before .before .before .before .before .pre .1) refl refl (group-length (now (c .before .before .before .before .before .before .before .before .before .before .before .before .before .args .answers)) (c .before .before .before .before .before .before .before .before .before .before .before .before .before .args .walk .group * 16) (c .before .before .before .before .before .before .before .before .before .before .before .before .before .args .walk .group * 16 + 16) refl (omega (arith, path-more _ _ _ _ _ _ _ (c .before .before .before .before .before .before .before .before .before .before .before .before .before .pre .1) (c .before .before .before .before .before .before .before .before .before .before .before .before .before .pre .0), c .before .before .before .before .before .before .before .before .before .before .before .before .before .pre .1 .served))) in (s .0, c .before .before .before .before .before .before .before .before .before .before .before .before .before .pre .1 .lines, s .1)
+
+next-requires : tie.Need-next-requires
+next-requires c κs = let s = walk-steps _ _ _ _ _ _ _ _ _ (c .before .before .before .before .before .before .before .before .before .before .before .before .before .before .before .before .before .before .before .before .before .before .pre .0) (c .before .before .before .before .before .before .before .before .before .before .before .before .before .before .before .wanted .ensures) (c .before .before .before .before .before .before .before .before .write-doubleword .ensures .most) (c .before .before .before .before .before .before .before .before .before .before .before .before .before .before .before .before .before .before .before .before .before .before .pre .1) in (s .count, s .address, s .group, s .place, s .left, s .records, s .made)
+
+same-length : tie.Need-same-length
+same-length c = search needs
+
+same-length-2 : tie.Need-same-length-2
+same-length-2 c = search needs
+
+same-length-3 : tie.Need-same-length-3
+same-length-3 c = search needs
+
+same-length-4 : tie.Need-same-length-4
+same-length-4 c = search needs
+
+returns : tie.Need-returns
+returns c = write-step-left _ _ _ _ (c .before .before .before .before .before .before .before .before .before .before .before .before .before .before .before .before .wanted .ensures) (group-is (now (c .before .before .before .before .before .before .before .before .before .before .before .before .before .before .before .before .before .before .before .before .before .before .before .args .answers)) (c .before .before .before .before .before .before .before .before .before .before .before .before .before .before .before .before .before .before .before .before .before .before .before .args .walk .group * 16) (c .before .before .before .before .before .before .before .before .before .before .before .before .before .before .before .before .before .before .before .before .before .before .before .args .walk .group * 16 + 16) refl) _ _ (c .next .ensures) (writes-below _ _ _ _ _ _ _ (c .before .before .before .before .before .before .before .before .before .write-doubleword .ensures)) (λ (w : Wanted) (xs : List ℕ). writeDone (lookupIn (now (c .before .before .before .before .before .before .before .before .before .before .before .before .before .before .before .before .before .before .before .before .before .before .before .args .tags)) (now (c .before .before .before .before .before .before .before .before .before .before .before .before .before .before .before .before .before .before .before .before .before .before .before .args .valid)) (w .line)) (c .before .before .before .before .before .before .before .before .before .before .before .before .before .before .before .before .before .before .before .before .before .before .before .args .stays) (memory (now (c .before .before .before .before .before .before .before .before .before .before .before .before .before .before .before .before .before .before .before .before .before .before .before .args .ram)) (now (c .before .before .before .before .before .before .before .before .before .before .before .before .before .before .before .before .before .before .before .before .before .before .before .args .parity))) (now (c .before .before .before .before .before .before .before .before .before .before .before .before .before .before .before .before .before .before .before .before .before .before .before .args .«data»)) (now (c .before .before .before .before .before .before .before .before .before .before .before .before .before .before .before .before .before .before .before .before .before .before .before .args .operand)) (doublewordOf w xs)) _ _ _ _ (c .before .before .before .before .before .before .before .before .before .write-doubleword .ensures)
+
+pub write-step-spec : {M : Type 1} → statement M
+write-step-spec =
+    tie.close
+    (tie.spec
+    wanted-requires
+    mul-from
+    add-to
+    sub-group
+    part-group-start
+    part-group-end
+    write-doubleword-requires
+    next-requires
+    same-length
+    same-length-2
+    same-length-3
+    same-length-4
+    returns)
