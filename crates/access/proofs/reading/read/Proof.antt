@@ -30,7 +30,7 @@ same-length-2 : tie.Need-same-length-2 Inv-loop μ-loop
 same-length-2 c = search needs
 
 returns : tie.Need-returns Inv-loop μ-loop
-returns c = rw (c .refused .ensures) (read-input-refused (c .before .before .before .before .before .before .before .before .before .before .args .t1) (memory (now (c .before .before .before .before .before .before .before .before .before .before .args .ram)) (now (c .before .before .before .before .before .before .before .before .before .before .args .parity))) (now (c .before .before .before .before .before .before .before .before .before .before .args .«data»)) (c .before .before .before .before .before .before .before .before .before .before .args .address) (c .before .before .before .before .before .before .before .before .before .before .args .width) (now (c .before .before .before .before .before .before .before .before .before .before .args .answers)) (now (c .before .before .before .before .before .before .before .before .before .before .args .log)) _ (c .before .before .input-number .ensures) (c .before .before .before .before .before .before .before .before .before .before .args .pcd) (c .before .if1 .taken))
+returns c = let a = c .before .before .before .before .before .before .before .before .before .before .args in rw (c .refused .ensures) (read-input-refused (a .t1) (memory (now (a .ram)) (now (a .parity))) (now (a .«data»)) (a .address) (a .width) (now (a .answers)) (now (a .log)) _ (c .before .before .input-number .ensures) (a .pcd) (c .before .if1 .taken))
 
 states-number-requires : tie.Need-states-number-requires Inv-loop μ-loop
 states-number-requires c κs = search needs
@@ -45,13 +45,13 @@ same-length-4 : tie.Need-same-length-4 Inv-loop μ-loop
 same-length-4 c = search needs
 
 returns-2 : tie.Need-returns-2 Inv-loop μ-loop
-returns-2 c = rw (c .refused2 .ensures) (read-state-refused (c .before .before .before .before .before .before .before .before .before .before .before .before .before .before .before .before .args .t1) (memory (now (c .before .before .before .before .before .before .before .before .before .before .before .before .before .before .before .before .args .ram)) (now (c .before .before .before .before .before .before .before .before .before .before .before .before .before .before .before .before .args .parity))) (now (c .before .before .before .before .before .before .before .before .before .before .before .before .before .before .before .before .args .«data»)) (c .before .before .before .before .before .before .before .before .before .before .before .before .before .before .before .before .args .address) (c .before .before .before .before .before .before .before .before .before .before .before .before .before .before .before .before .args .width) (now (c .before .before .before .before .before .before .before .before .before .before .before .before .before .before .before .before .args .answers)) (now (c .before .before .before .before .before .before .before .before .before .before .before .before .before .before .before .before .args .log)) _ (c .before .before .before .before .before .before .before .before .input-number .ensures) (c .before .before .before .before .before .before .before .before .before .before .before .before .before .before .before .before .args .pcd) (c .before .before .before .before .before .before .before .if1 .left) _ (c .before .before .states-number .ensures) (c .before .if2 .taken))
+returns-2 c = let a = c .before .before .before .before .before .before .before .before .before .before .before .before .before .before .before .before .args in rw (c .refused2 .ensures) (read-state-refused (a .t1) (memory (now (a .ram)) (now (a .parity))) (now (a .«data»)) (a .address) (a .width) (now (a .answers)) (now (a .log)) _ (c .before .before .before .before .before .before .before .before .input-number .ensures) (a .pcd) (c .before .before .before .before .before .before .before .if1 .left) _ (c .before .before .states-number .ensures) (c .before .if2 .taken))
 
 start-requires : tie.Need-start-requires Inv-loop μ-loop
 start-requires c κs = search needs
 
 loop-holds : tie.Need-loop-holds Inv-loop μ-loop
-loop-holds c = rw (c .start .ensures) (reading-begin _ _ _ _ _ _ refl refl, path-begin (c .before .before .before .before .before .before .before .before .before .before .before .before .before .before .before .before .args .t1) (memory (now (c .before .before .before .before .before .before .before .before .before .before .before .before .before .before .before .before .args .ram)) (now (c .before .before .before .before .before .before .before .before .before .before .before .before .before .before .before .before .args .parity))) (now (c .before .before .before .before .before .before .before .before .before .before .before .before .before .before .before .before .args .«data»)) (c .before .before .before .before .before .before .before .before .before .before .before .before .before .before .before .before .args .address) (c .before .before .before .before .before .before .before .before .before .before .before .before .before .before .before .before .args .width) (now (c .before .before .before .before .before .before .before .before .before .before .before .before .before .before .before .before .args .answers)) (now (c .before .before .before .before .before .before .before .before .before .before .before .before .before .before .before .before .args .log)) _ (c .before .before .before .before .before .before .before .before .input-number .ensures) (c .before .before .before .before .before .before .before .if1 .left), refl, refl, refl)
+loop-holds c = let a = c .before .before .before .before .before .before .before .before .before .before .before .before .before .before .before .before .args in rw (c .start .ensures) (reading-begin _ _ _ _ _ _ refl refl, path-begin (a .t1) (memory (now (a .ram)) (now (a .parity))) (now (a .«data»)) (a .address) (a .width) (now (a .answers)) (now (a .log)) _ (c .before .before .before .before .before .before .before .before .input-number .ensures) (c .before .before .before .before .before .before .before .if1 .left), refl, refl, refl)
 
 slice-aggregate-read-step : tie.Need-slice-aggregate-read-step Inv-loop μ-loop
 slice-aggregate-read-step c = search needs
@@ -82,7 +82,7 @@ same-length-6 : tie.Need-same-length-6 Inv-loop μ-loop
 same-length-6 c = c .before .before .before .before .loop .inv .3
 
 returns-3 : tie.Need-returns-3 Inv-loop μ-loop
-returns-3 c = read-done (c .before .before .before .before .before .before .before .before .before .before .before .before .before .before .before .before .before .before .before .before .before .args .t1) (memory (now (c .before .before .before .before .before .before .before .before .before .before .before .before .before .before .before .before .before .before .before .before .before .args .ram)) (now (c .before .before .before .before .before .before .before .before .before .before .before .before .before .before .before .before .before .before .before .before .before .args .parity))) (now (c .before .before .before .before .before .before .before .before .before .before .before .before .before .before .before .before .before .before .before .before .before .args .«data»)) (c .before .before .before .before .before .before .before .before .before .before .before .before .before .before .before .before .before .before .before .before .before .args .address) (c .before .before .before .before .before .before .before .before .before .before .before .before .before .before .before .before .before .before .before .before .before .args .width) (now (c .before .before .before .before .before .before .before .before .before .before .before .before .before .before .before .before .before .before .before .before .before .args .answers)) (now (c .before .before .before .before .before .before .before .before .before .before .before .before .before .before .before .before .before .before .before .before .before .args .log)) _ (c .before .before .before .before .before .before .before .before .before .before .before .before .before .input-number .ensures) (c .before .before .before .before .before .before .before .before .before .before .before .before .before .before .before .before .before .before .before .before .before .args .pcd) (c .before .before .before .before .before .before .before .before .before .before .before .before .if1 .left) _ (c .before .before .before .before .before .before .before .states-number .ensures) (c .before .before .before .before .before .before .if2 .left) _ _ _ _ _ _ (omega arith) (c .before .before .before .before .loop .inv .0) (c .before .word-of .ensures)
+returns-3 c = let a = c .before .before .before .before .before .before .before .before .before .before .before .before .before .before .before .before .before .before .before .before .before .args in read-done (a .t1) (memory (now (a .ram)) (now (a .parity))) (now (a .«data»)) (a .address) (a .width) (now (a .answers)) (now (a .log)) _ (c .before .before .before .before .before .before .before .before .before .before .before .before .before .input-number .ensures) (a .pcd) (c .before .before .before .before .before .before .before .before .before .before .before .before .if1 .left) _ (c .before .before .before .before .before .before .before .states-number .ensures) (c .before .before .before .before .before .before .if2 .left) _ _ _ _ _ _ (omega arith) (c .before .before .before .before .loop .inv .0) (c .before .word-of .ensures)
 
 pub read-spec : {M : Type 1} → statement M
 read-spec =

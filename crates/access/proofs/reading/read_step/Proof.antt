@@ -35,7 +35,7 @@ part-group-end : tie.Need-part-group-end
 part-group-end c = search needs
 
 read-doubleword-requires : tie.Need-read-doubleword-requires
-read-doubleword-requires c κs = let s = walk-spot _ _ _ _ _ _ _ _ _ _ _ (c .before .before .before .before .before .before .before .before .before .before .before .before .pre .0) (c .before .before .before .before .before .wanted .ensures) (c .before .before .before .before .before .before .before .before .before .before .before .before .pre .1) refl refl (group-length (now (c .before .before .before .before .before .before .before .before .before .before .before .before .args .answers)) (c .before .before .before .before .before .before .before .before .before .before .before .before .args .walk .group * 16) (c .before .before .before .before .before .before .before .before .before .before .before .before .args .walk .group * 16 + 16) refl (omega (arith, path-more _ _ _ _ _ _ _ (c .before .before .before .before .before .before .before .before .before .before .before .before .pre .1) (c .before .before .before .before .before .before .before .before .before .before .before .before .pre .0), c .before .before .before .before .before .before .before .before .before .before .before .before .pre .1 .served))) in (s .0, c .before .before .before .before .before .before .before .before .before .before .before .before .pre .1 .lines, s .1)
+read-doubleword-requires c κs = let a = c .before .before .before .before .before .before .before .before .before .before .before .before .args in let s = walk-spot _ _ _ _ _ _ _ _ _ _ _ (c .before .before .before .before .before .before .before .before .before .before .before .before .pre .0) (c .before .before .before .before .before .wanted .ensures) (c .before .before .before .before .before .before .before .before .before .before .before .before .pre .1) refl refl (group-length (now (a .answers)) (a .walk .group * 16) (a .walk .group * 16 + 16) refl (omega (arith, path-more _ _ _ _ _ _ _ (c .before .before .before .before .before .before .before .before .before .before .before .before .pre .1) (c .before .before .before .before .before .before .before .before .before .before .before .before .pre .0), c .before .before .before .before .before .before .before .before .before .before .before .before .pre .1 .served))) in (s .0, c .before .before .before .before .before .before .before .before .before .before .before .before .pre .1 .lines, s .1)
 
 next-requires : tie.Need-next-requires
 next-requires c κs = let s = walk-steps _ _ _ _ _ _ _ _ _ (c .before .before .before .before .before .before .before .before .before .before .before .before .before .before .before .before .before .before .before .pre .0) (c .before .before .before .before .before .before .before .before .before .before .before .before .wanted .ensures) (c .before .before .before .before .before .before .read-doubleword .ensures .most) (c .before .before .before .before .before .before .before .before .before .before .before .before .before .before .before .before .before .before .before .pre .1) in (s .count, s .address, s .group, s .place, s .left, s .records, s .made)
@@ -50,7 +50,7 @@ same-length-3 : tie.Need-same-length-3
 same-length-3 c = search needs
 
 returns : tie.Need-returns
-returns c = read-step-left _ _ _ _ (c .before .before .before .before .before .before .before .before .before .before .before .before .before .wanted .ensures) (group-is (now (c .before .before .before .before .before .before .before .before .before .before .before .before .before .before .before .before .before .before .before .before .args .answers)) (c .before .before .before .before .before .before .before .before .before .before .before .before .before .before .before .before .before .before .before .before .args .walk .group * 16) (c .before .before .before .before .before .before .before .before .before .before .before .before .before .before .before .before .before .before .before .before .args .walk .group * 16 + 16) refl) _ _ (c .next .ensures) (reads-below _ _ _ _ _ _ _ (c .before .before .before .before .before .before .before .read-doubleword .ensures)) (λ (w : Wanted) (xs : List ℕ). readDone (lookupIn (now (c .before .before .before .before .before .before .before .before .before .before .before .before .before .before .before .before .before .before .before .before .args .tags)) (now (c .before .before .before .before .before .before .before .before .before .before .before .before .before .before .before .before .before .before .before .before .args .valid)) (w .line)) (victimIn (now (c .before .before .before .before .before .before .before .before .before .before .before .before .before .before .before .before .before .before .before .before .args .valid)) (now (c .before .before .before .before .before .before .before .before .before .before .before .before .before .before .before .before .before .before .before .before .args .lru)) (setOf (w .line))) (c .before .before .before .before .before .before .before .before .before .before .before .before .before .before .before .before .before .before .before .before .args .may-fill) (memory (now (c .before .before .before .before .before .before .before .before .before .before .before .before .before .before .before .before .before .before .before .before .args .ram)) (now (c .before .before .before .before .before .before .before .before .before .before .before .before .before .before .before .before .before .before .before .before .args .parity))) (now (c .before .before .before .before .before .before .before .before .before .before .before .before .before .before .before .before .before .before .before .before .args .«data»)) (doublewordOf w xs)) _ _ _ _ _ (c .before .before .before .before .before .before .before .read-doubleword .ensures)
+returns c = let a = c .before .before .before .before .before .before .before .before .before .before .before .before .before .before .before .before .before .before .before .before .args in read-step-left _ _ _ _ (c .before .before .before .before .before .before .before .before .before .before .before .before .before .wanted .ensures) (group-is (now (a .answers)) (a .walk .group * 16) (a .walk .group * 16 + 16) refl) _ _ (c .next .ensures) (reads-below _ _ _ _ _ _ _ (c .before .before .before .before .before .before .before .read-doubleword .ensures)) (λ (w : Wanted) (xs : List ℕ). readDone (lookupIn (now (a .tags)) (now (a .valid)) (w .line)) (victimIn (now (a .valid)) (now (a .lru)) (setOf (w .line))) (a .may-fill) (memory (now (a .ram)) (now (a .parity))) (now (a .«data»)) (doublewordOf w xs)) _ _ _ _ _ (c .before .before .before .before .before .before .before .read-doubleword .ensures)
 
 pub read-step-spec : {M : Type 1} → statement M
 read-step-spec =

@@ -35,7 +35,7 @@ part-group-end : tie.Need-part-group-end
 part-group-end c = search needs
 
 write-doubleword-requires : tie.Need-write-doubleword-requires
-write-doubleword-requires c κs = let s = walk-spot _ _ _ _ _ _ _ _ _ _ _ (c .before .before .before .before .before .before .before .before .before .before .before .before .before .pre .0) (c .before .before .before .before .before .before .wanted .ensures) (c .before .before .before .before .before .before .before .before .before .before .before .before .before .pre .1) refl refl (group-length (now (c .before .before .before .before .before .before .before .before .before .before .before .before .before .args .answers)) (c .before .before .before .before .before .before .before .before .before .before .before .before .before .args .walk .group * 16) (c .before .before .before .before .before .before .before .before .before .before .before .before .before .args .walk .group * 16 + 16) refl (omega (arith, path-more _ _ _ _ _ _ _ (c .before .before .before .before .before .before .before .before .before .before .before .before .before .pre .1) (c .before .before .before .before .before .before .before .before .before .before .before .before .before .pre .0), c .before .before .before .before .before .before .before .before .before .before .before .before .before .pre .1 .served))) in (s .0, c .before .before .before .before .before .before .before .before .before .before .before .before .before .pre .1 .lines, s .1)
+write-doubleword-requires c κs = let a = c .before .before .before .before .before .before .before .before .before .before .before .before .before .args in let s = walk-spot _ _ _ _ _ _ _ _ _ _ _ (c .before .before .before .before .before .before .before .before .before .before .before .before .before .pre .0) (c .before .before .before .before .before .before .wanted .ensures) (c .before .before .before .before .before .before .before .before .before .before .before .before .before .pre .1) refl refl (group-length (now (a .answers)) (a .walk .group * 16) (a .walk .group * 16 + 16) refl (omega (arith, path-more _ _ _ _ _ _ _ (c .before .before .before .before .before .before .before .before .before .before .before .before .before .pre .1) (c .before .before .before .before .before .before .before .before .before .before .before .before .before .pre .0), c .before .before .before .before .before .before .before .before .before .before .before .before .before .pre .1 .served))) in (s .0, c .before .before .before .before .before .before .before .before .before .before .before .before .before .pre .1 .lines, s .1)
 
 next-requires : tie.Need-next-requires
 next-requires c κs = let s = walk-steps _ _ _ _ _ _ _ _ _ (c .before .before .before .before .before .before .before .before .before .before .before .before .before .before .before .before .before .before .before .before .before .before .pre .0) (c .before .before .before .before .before .before .before .before .before .before .before .before .before .before .before .wanted .ensures) (c .before .before .before .before .before .before .before .before .write-doubleword .ensures .most) (c .before .before .before .before .before .before .before .before .before .before .before .before .before .before .before .before .before .before .before .before .before .before .pre .1) in (s .count, s .address, s .group, s .place, s .left, s .records, s .made)
@@ -53,7 +53,7 @@ same-length-4 : tie.Need-same-length-4
 same-length-4 c = search needs
 
 returns : tie.Need-returns
-returns c = write-step-left _ _ _ _ (c .before .before .before .before .before .before .before .before .before .before .before .before .before .before .before .before .wanted .ensures) (group-is (now (c .before .before .before .before .before .before .before .before .before .before .before .before .before .before .before .before .before .before .before .before .before .before .before .args .answers)) (c .before .before .before .before .before .before .before .before .before .before .before .before .before .before .before .before .before .before .before .before .before .before .before .args .walk .group * 16) (c .before .before .before .before .before .before .before .before .before .before .before .before .before .before .before .before .before .before .before .before .before .before .before .args .walk .group * 16 + 16) refl) _ _ (c .next .ensures) (writes-below _ _ _ _ _ _ _ (c .before .before .before .before .before .before .before .before .before .write-doubleword .ensures)) (λ (w : Wanted) (xs : List ℕ). writeDone (lookupIn (now (c .before .before .before .before .before .before .before .before .before .before .before .before .before .before .before .before .before .before .before .before .before .before .before .args .tags)) (now (c .before .before .before .before .before .before .before .before .before .before .before .before .before .before .before .before .before .before .before .before .before .before .before .args .valid)) (w .line)) (c .before .before .before .before .before .before .before .before .before .before .before .before .before .before .before .before .before .before .before .before .before .before .before .args .stays) (memory (now (c .before .before .before .before .before .before .before .before .before .before .before .before .before .before .before .before .before .before .before .before .before .before .before .args .ram)) (now (c .before .before .before .before .before .before .before .before .before .before .before .before .before .before .before .before .before .before .before .before .before .before .before .args .parity))) (now (c .before .before .before .before .before .before .before .before .before .before .before .before .before .before .before .before .before .before .before .before .before .before .before .args .«data»)) (now (c .before .before .before .before .before .before .before .before .before .before .before .before .before .before .before .before .before .before .before .before .before .before .before .args .operand)) (doublewordOf w xs)) _ _ _ _ (c .before .before .before .before .before .before .before .before .before .write-doubleword .ensures)
+returns c = let a = c .before .before .before .before .before .before .before .before .before .before .before .before .before .before .before .before .before .before .before .before .before .before .before .args in write-step-left _ _ _ _ (c .before .before .before .before .before .before .before .before .before .before .before .before .before .before .before .before .wanted .ensures) (group-is (now (a .answers)) (a .walk .group * 16) (a .walk .group * 16 + 16) refl) _ _ (c .next .ensures) (writes-below _ _ _ _ _ _ _ (c .before .before .before .before .before .before .before .before .before .write-doubleword .ensures)) (λ (w : Wanted) (xs : List ℕ). writeDone (lookupIn (now (a .tags)) (now (a .valid)) (w .line)) (a .stays) (memory (now (a .ram)) (now (a .parity))) (now (a .«data»)) (now (a .operand)) (doublewordOf w xs)) _ _ _ _ (c .before .before .before .before .before .before .before .before .before .write-doubleword .ensures)
 
 pub write-step-spec : {M : Type 1} → statement M
 write-step-spec =
