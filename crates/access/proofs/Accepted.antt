@@ -1,5 +1,5 @@
 -- What the accepted case of a call knows: number 0 turned into facts.
-use Prim.Native.Nat.{ℕ, _+_, _*_, _/_, _%_, _^_, _≤_, _<_}
+use Prim.Native.Nat.{ℕ, _+_, _*_, _/_, _%_, _≤_, _<_}
 use mathlib.Core.Path.{_≡_, refl, sym, _∙_}
 use mathlib.Core.Bool.{Bool, true, false, not, _&&_, _||_}
 use mathlib.Core.List.{List}
@@ -9,7 +9,7 @@ use lib.ListN.{length}
 use borrow.Author.Tests.{eq-eqb, ne-eqb, eqb-true, eqb-false, ltb-false, not-false}
 use Rattle.laws.proofs.Tests.{neither, cond-true, cond-false, same-or, by-test}
 use Rattle.bus.specs.Groups.{group, groups}
-use Rattle.access.specs.Refusal.{when, orElse, badRam, memoryNumber, lentNumber, badWidth, badAnswers, anyAbove, argumentNumber, externalNumber}
+use Rattle.access.specs.Refusal.{when, orElse, badRam, memoryNumber, lentNumber, badWidth, badAnswers, argumentNumber, externalNumber}
 
 -- neither of two numbers is met
 pub or-zero : (a b : ℕ) → orElse a b ≡ 0 → (a ≡ 0) × (b ≡ 0)

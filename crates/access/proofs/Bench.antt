@@ -12,7 +12,7 @@ use Rattle.directory.specs.Ways.{lowest, lookupIn, victimIn}
 use Rattle.directory.specs.State.{sameTags, tagsAbove, firstNumber, stateIn}
 use Rattle.directory.specs.Steps.{lookupOf, afterUse, afterFill, afterReset, afterControl}
 use Rattle.bus.specs.Bytes.{bytesAt, valueOf, bytesOf}
-use Rattle.bus.specs.Parity.{Memory, memory, onesOf, dpOf, laneBit, dpAt, withDp, put, stored, wrongAt, wrongIn}
+use Rattle.bus.specs.Parity.{memory, onesOf, dpOf, laneBit, dpAt, withDp, put, stored, wrongAt, wrongIn}
 use Rattle.bus.specs.Bus.{room, sizeOf, left, cyclesOf, burst, lastAnswer, through}
 use Rattle.bus.specs.Record.{lanesOf, flagsOf, readRecord, writeRecord, wordsOf}
 use Rattle.doubleword.specs.Doubleword.{doublewordsOf, changed, readHit, readPlain, readFill, readDone, writeThrough, hitArray, writeDone}

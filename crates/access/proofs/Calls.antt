@@ -1,5 +1,5 @@
 -- The calls as wholes: refused or done, by their number.
-use Prim.Native.Nat.{ℕ, zero, suc, _+_, _*_, _-_, _%_, _≤_, _<_}
+use Prim.Native.Nat.{ℕ, zero, suc, _-_}
 use mathlib.Core.Path.{_≡_, refl, sym, _∙_, ap}
 use mathlib.Core.Bool.{Bool}
 use mathlib.Core.List.{List, [], _∷_}
@@ -11,15 +11,14 @@ use Rattle.directory.specs.declared.steps.Directory.{Directory}
 use Rattle.directory.specs.Steps.{afterSnoop}
 use Rattle.bus.specs.Bytes.{bytesAt, valueOf}
 use Rattle.bus.specs.Parity.{Memory, stored}
-use Rattle.bus.specs.Record.{logged}
 use Rattle.access.specs.declared.walk.Walk.{Walk}
-use Rattle.bus.specs.Groups.{group, groups}
+use Rattle.bus.specs.Groups.{groups}
 use Rattle.doubleword.specs.Doubleword.{Doubleword, Done, doublewordsOf}
 use Rattle.access.specs.Refusal.{orElse, memoryNumber, externalNumber, statesOf, lentNumber, argumentNumber, valueNumber}
-use Rattle.access.specs.Access.{State, state, Progress, allOf, readOne, writeOne, After, after, outcome, refused, accepted, readNumber, writeNumber, readAll, writeAll, operandOf, readCall, writeCall}
-use Rattle.access.specs.Masters.{Written, written, masterNumber, externalCall}
+use Rattle.access.specs.Access.{State, state, Progress, allOf, readOne, writeOne, after, outcome, refused, accepted, readNumber, writeNumber, readAll, writeAll, operandOf, readCall, writeCall}
+use Rattle.access.specs.Masters.{written, masterNumber, externalCall}
 use Rattle.access.specs.Walks.{startWalk, restOf, Path}
-use Rattle.access.proofs.Accepted.{or-zero, zero-or, first-or, or-grouped, GoodMemory, GoodArguments, GoodExternal, memory-accepted, lent-accepted, arguments-accepted, external-accepted}
+use Rattle.access.proofs.Accepted.{or-zero, zero-or, first-or, or-grouped, GoodMemory, GoodExternal, memory-accepted, lent-accepted, arguments-accepted, external-accepted}
 use Rattle.access.proofs.Walking.{Going, going-end, ReadGoing, reading-end}
 use Rattle.access.proofs.Values.{all-length, value-padded}
 

@@ -1,8 +1,8 @@
 -- The value of a read: the bytes of its doublewords, taken little-endian.
-use Prim.Native.Nat.{ℕ, zero, suc, _+_, _-_, _%_, _≤_, _<_, min}
-use mathlib.Core.Path.{_≡_, refl, sym, _∙_, ap}
-use mathlib.Core.Bool.{Bool, cond, not, _&&_}
-use mathlib.Core.List.{List, [], _∷_, _++_}
+use Prim.Native.Nat.{ℕ, zero, suc, _+_, _-_, _%_, _≤_, min}
+use mathlib.Core.Path.{_≡_, refl, ap}
+use mathlib.Core.Bool.{Bool, cond, _&&_}
+use mathlib.Core.List.{List, [], _∷_}
 use native.Mathlib.Omega.{arith}
 use lib.ListN.{length, getD, drop, replicate, length-append}
 use lib.Seq.{sets}
@@ -15,7 +15,7 @@ use Rattle.bus.specs.Bus.{ken}
 use Rattle.bus.specs.Groups.{group}
 use Rattle.doubleword.specs.Doubleword.{Doubleword, doublewordsOf, readDone, readHit, readFill, readPlain}
 use Rattle.doubleword.proofs.Doublewords.{read-memory}
-use Rattle.access.specs.Access.{State, next, readOne, allOf}
+use Rattle.access.specs.Access.{State, readOne, allOf}
 
 bytes-length : (l : List ℕ) (i n : ℕ) → length (bytesAt l i n) ≡ n
 unfolding bytesAt

@@ -6,7 +6,7 @@ use mathlib.Core.List.{List, [], _∷_, _++_}
 use native.Mathlib.Omega.{arith}
 use native.Mathlib.Decide.{decLe}
 use lib.ListN.{length, set, take, drop, length-append, length-take, length-drop}
-use lib.Seq.{drop-drop, sets, length-sets}
+use lib.Seq.{drop-drop, sets}
 use Rattle.bus.specs.Parity.{Memory}
 use Rattle.bus.specs.Bus.{run}
 use Rattle.bus.specs.Record.{Record, logged, wordsOf}

@@ -1,13 +1,12 @@
 -- Document 01, 'Turned away because of the input' and '.. of the state': the number of each call, 0 where it is accepted.
 use Prim.Native.Nat.{ℕ, _+_, _*_, _-_, _/_, _%_, _^_}
-use mathlib.Core.Bool.{Bool, true, false, cond, not, _&&_, _||_}
+use mathlib.Core.Bool.{Bool, false, cond, not, _&&_, _||_}
 use mathlib.Core.List.{List, [], _∷_}
 use lib.Dec.{eqb, ltb}
 use lib.ListN.{length}
 use Rattle.directory.specs.declared.steps.Directory.{Directory}
 use Rattle.directory.specs.Address.{setOf}
 use Rattle.directory.specs.State.{stateIn}
-use Rattle.directory.specs.Steps.{stateOf}
 use Rattle.bus.specs.Groups.{group, groups}
 
 -- A number where a test holds; and "Lowest number first": the first of two that is met.

@@ -1,5 +1,5 @@
 -- What the code's own state between two doublewords of an access stands for, and what the next doubleword leaves.
-use Prim.Native.Nat.{ℕ, _+_, _*_, _-_, _/_, _%_, _≤_, _<_, min}
+use Prim.Native.Nat.{ℕ, _+_, _*_, _-_, _/_, _%_, _≤_, min}
 use mathlib.Core.Path.{_≡_}
 use mathlib.Core.List.{List}
 use lib.ListN.{length, take, drop}
@@ -7,7 +7,6 @@ use lib.Seq.{sets}
 use Rattle.bus.specs.Groups.{group, groups}
 use Rattle.bus.specs.Parity.{Memory}
 use Rattle.bus.specs.Record.{logged}
-use Rattle.doubleword.specs.declared.change.Change.{Change}
 use Rattle.doubleword.specs.declared.change.Wanted.{Wanted}
 use Rattle.doubleword.specs.Doubleword.{Doubleword, Done, doublewordsOf}
 use Rattle.doubleword.specs.Moves.{BelowFour, doublewordOf}

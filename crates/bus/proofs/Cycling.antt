@@ -1,7 +1,7 @@
 -- Laws of the loops over cycles: what is left from a turn on gives what the whole gives.
-use Prim.Native.Nat.{ℕ, zero, suc, _+_, _*_, _-_, _/_, _%_, _≤_, _<_}
-use mathlib.Core.Path.{_≡_, refl, sym, _∙_, ap}
-use mathlib.Core.Bool.{Bool, true, false}
+use Prim.Native.Nat.{ℕ, suc, _+_, _*_, _-_, _/_, _%_, _≤_, _<_}
+use mathlib.Core.Path.{_≡_, refl, _∙_, ap}
+use mathlib.Core.Bool.{Bool, false}
 use mathlib.Core.List.{List, [], _∷_, map}
 use native.Mathlib.Omega.{arith}
 use native.Mathlib.Numerals.{add-one}
@@ -11,9 +11,9 @@ use lib.Seq.{drop-cons, sets, length-sets}
 use Rattle.bus.specs.declared.cycle.Turn.{Turn}
 use Rattle.bus.specs.Bytes.{bytesAt, wordIn}
 use Rattle.bus.specs.Parity.{Memory, put, stored, wrongIn}
-use Rattle.bus.specs.Bus.{Run, run, sizeOf, left, none, Cycle, cyclesOf, lastAnswer, through, brought, sent}
-use Rattle.bus.specs.Record.{Record, flagsOf, readRecord, writeRecord, wordsOf, logged, writing}
-use Rattle.bus.specs.Turns.{later, wantedAt, nextTurn, cycleAt, Ready, Room, ReadCycle, ReadCycles, WriteCycle, WriteCycles}
+use Rattle.bus.specs.Bus.{Run, run, sizeOf, Cycle, cyclesOf, lastAnswer, through, brought, sent}
+use Rattle.bus.specs.Record.{Record, flagsOf, readRecord, writeRecord, wordsOf, logged}
+use Rattle.bus.specs.Turns.{wantedAt, nextTurn, cycleAt, Ready, Room, ReadCycle, ReadCycles, WriteCycle, WriteCycles}
 use Rattle.bus.proofs.Bits.{put-lengths}
 use Rattle.bus.proofs.Sizing.{size-most, wanted-some, wanted-none, wanted-next, last-next, next-used, next-ready}
 

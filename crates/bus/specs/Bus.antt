@@ -3,7 +3,6 @@ use Prim.Native.Nat.{ℕ, zero, suc, _+_, _-_, _/_, _%_, min}
 use mathlib.Core.Bool.{Bool, true, false, cond}
 use mathlib.Core.List.{List, [], _∷_}
 use lib.Dec.{eqb}
-use lib.ListN.{length}
 use lib.Seq.{sets}
 use Rattle.bus.specs.Bytes.{bytesAt}
 use Rattle.bus.specs.Parity.{Memory, stored}

@@ -1,11 +1,11 @@
 -- Document 01, 'One doubleword': the three words that a cycle leaves in the log.
 use Prim.Native.Nat.{ℕ, zero, suc, _+_, _*_, _/_, _%_, _^_}
 use mathlib.Core.Bool.{Bool, false, cond}
-use mathlib.Core.List.{List, [], _∷_, map}
+use mathlib.Core.List.{List, [], _∷_}
 use lib.Seq.{sets}
 use Rattle.bus.specs.Bytes.{bytesAt, wordIn}
 use Rattle.bus.specs.Parity.{Memory, wrongIn}
-use Rattle.bus.specs.Bus.{Run, Cycle}
+use Rattle.bus.specs.Bus.{Cycle}
 
 -- "doubleword address; flags; data, unmoved lanes 0".
 pub record Record : Type 0 where

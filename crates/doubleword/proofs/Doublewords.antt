@@ -1,8 +1,8 @@
 -- Laws of one doubleword: what its cycles need, and what it leaves.
-use Prim.Native.Nat.{ℕ, _+_, _*_, _/_, _%_, _≤_, _<_}
+use Prim.Native.Nat.{ℕ, _+_, _*_, _/_, _%_, _<_}
 use mathlib.Core.Path.{_≡_, refl, sym, _∙_, ap}
 use mathlib.Core.Bool.{Bool, true, false, cond, _&&_}
-use mathlib.Core.List.{List, [], _∷_, map}
+use mathlib.Core.List.{List, [], _∷_}
 use native.Mathlib.Omega.{arith}
 use lib.Dec.{eqb}
 use lib.ListN.{length, getD, replicate, length-map}
@@ -16,8 +16,8 @@ use Rattle.directory.proofs.FourWays.{lookup-below, victim-below}
 use Rattle.bus.specs.declared.cycle.Turn.{Turn}
 use Rattle.bus.specs.Bytes.{bytesAt}
 use Rattle.bus.specs.Parity.{Memory}
-use Rattle.bus.specs.Bus.{ken, run, Cycle, cyclesOf, burst, lastAnswer, through, brought, sent}
-use Rattle.bus.specs.Record.{readRecord, writeRecord, logged, wordsOf, plainRead, filling}
+use Rattle.bus.specs.Bus.{ken, Cycle, cyclesOf, lastAnswer, through, brought}
+use Rattle.bus.specs.Record.{readRecord, writeRecord, wordsOf, plainRead, filling}
 use Rattle.bus.specs.Turns.{beginTurn, later, wantedAt, Ready, Room, ReadCycles, WriteCycles}
 use Rattle.bus.proofs.Sizing.{wanted-some, burst-later}
 use Rattle.doubleword.specs.declared.change.Change.{Change}
@@ -25,7 +25,7 @@ use Rattle.doubleword.specs.declared.change.Change.the-variants.{Keep, U
 use Rattle.doubleword.specs.declared.change.Moved.{Moved}
 use Rattle.doubleword.specs.declared.change.Wanted.{Wanted}
 use Rattle.bus.specs.Groups.{group}
-use Rattle.doubleword.specs.Doubleword.{Doubleword, Done, slotOf, ownCycles, fillCycles, laid, hitArray, readDone, readHit, readFill, readPlain, writeDone, writeThrough}
+use Rattle.doubleword.specs.Doubleword.{Doubleword, slotOf, ownCycles, fillCycles, laid, hitArray, readDone, readHit, readFill, readPlain, writeDone, writeThrough}
 use Rattle.doubleword.specs.Moves.{doublewordOf, Spot, Missed, missCycles, keptChange, keptArray, BelowFour, Reads, Sends, Writes}
 
 -- the turns that a doubleword's own bytes, and a fill of its line, begin with

@@ -1,6 +1,6 @@
 -- Document 01, 'One doubleword': what one doubleword of a read or a write does, by what the directory answers for its line.
 use Prim.Native.Nat.{ℕ, zero, suc, _+_, _*_, _-_, _/_, _%_, min}
-use mathlib.Core.Bool.{Bool, true, false, cond, _&&_}
+use mathlib.Core.Bool.{Bool, cond, _&&_}
 use mathlib.Core.List.{List, [], _∷_, map}
 use lib.ListN.{getD, take, drop, replicate}
 use lib.Seq.{sets}

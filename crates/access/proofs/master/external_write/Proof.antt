@@ -1,6 +1,5 @@
 use denote.Ref.{now}
 use native.Mathlib.Omega.{arith}
-use mathlib.Core.Path.{_≡_, refl, sym, _∙_, ap}
 use Rattle.bus.specs.Parity.{memory}
 use Rattle.access.proofs.Calls.{input-refused, input-good, state-refused, external-made}
 use borrow.Author.Needs.{needs}

@@ -1,11 +1,10 @@
 use denote.Ref.{now}
 use native.Mathlib.Omega.{arith}
-use mathlib.Core.Path.{_≡_, refl, sym, _∙_, ap}
+use mathlib.Core.Path.{refl}
 use Prim.Native.Nat.{_+_, _*_}
 use mathlib.Core.List.{List}
 use Rattle.bus.specs.Parity.{memory}
-use Rattle.directory.specs.Ways.{lookupIn, victimIn}
-use Rattle.directory.specs.Address.{setOf}
+use Rattle.directory.specs.Ways.{lookupIn}
 use Rattle.doubleword.specs.declared.change.Wanted.{Wanted}
 use Rattle.doubleword.specs.Doubleword.{writeDone}
 use Rattle.doubleword.specs.Moves.{doublewordOf}

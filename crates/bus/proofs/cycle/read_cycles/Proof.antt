@@ -1,14 +1,12 @@
-use Rattle.bus.proofs.Cycling.{Kept, kept-begin, kept-next, used-more, less-next, read-cycle-length, read-cycles-left}
+use Rattle.bus.proofs.Cycling.{Kept, kept-begin, kept-next, less-next, read-cycle-length, read-cycles-left}
 use native.Mathlib.Omega.{arith}
 use Prim.Native.Nat.{_-_}
-use mathlib.Core.Path.{_≡_, refl, sym, _∙_, ap}
-use mathlib.Core.List.{List}
+use mathlib.Core.Path.{_≡_, refl, _∙_}
 use lib.ListN.{length}
-use lib.Seq.{length-sets}
 use Rattle.bus.specs.Parity.{memory}
 use Rattle.bus.specs.Bus.{brought}
 use Rattle.bus.specs.Record.{readRecord}
-use Rattle.bus.proofs.Cycling.{Kept, kept-begin, kept-next, used-more, less-next, read-cycles-left}
+use Rattle.bus.proofs.Cycling.{Kept, kept-begin, kept-next, less-next, read-cycles-left}
 use Rattle.bus.proofs.cycle.read_cycles.Statement.{statement}
 use Rattle.bus.proofs.cycle.read_cycles.Tie as tie
 

@@ -1,4 +1,4 @@
-use mathlib.Core.Path.{_≡_, refl, sym, _∙_, ap}
+use mathlib.Core.Path.{_∙_}
 use Rattle.directory.proofs.FourWays.{victim-below}
 use borrow.Author.Needs.{needs}
 use Rattle.doubleword.proofs.reading.keep_line.Statement.{statement}

@@ -1,5 +1,5 @@
 use native.Mathlib.Omega.{arith}
-use mathlib.Core.Path.{_≡_, refl, sym, _∙_, ap}
+use mathlib.Core.Path.{refl}
 use Rattle.doubleword.proofs.Doublewords.{spot-room, own-ready, fill-ready, missed-own, missed-fill}
 use borrow.Author.Needs.{needs}
 use Rattle.doubleword.proofs.reading.read_missed.Statement.{statement}

@@ -1,4 +1,4 @@
-use mathlib.Core.Path.{_≡_, refl, sym, _∙_, ap}
+use mathlib.Core.Path.{refl}
 use Rattle.doubleword.proofs.Doublewords.{spot-room, own-ready, own-sends}
 use borrow.Author.Needs.{needs}
 use Rattle.doubleword.proofs.writing.write_through.Statement.{statement}

@@ -1,5 +1,5 @@
 use native.Mathlib.Omega.{arith}
-use mathlib.Core.Path.{_≡_, sym, _∙_}
+use mathlib.Core.Path.{sym, _∙_}
 use Rattle.bus.proofs.Sizing.{size-most, next-done, next-whole, next-part}
 use borrow.Author.Needs.{needs}
 use Rattle.bus.proofs.cycle.Turn.next.Statement.{statement}
