@@ -1,0 +1,44 @@
+use Rattle.events.specs.Fields.{bytesOf}
+use Rattle.events.proofs.Pairs.{front-count, pairs-length}
+use mathlib.Core.Path.{_≡_, refl, sym, ap, _∙_}
+use native.Mathlib.Omega.{arith}
+use borrow.Author.Needs.{needs}
+use Rattle.events.proofs.performing.perform_external.Statement.{statement}
+use Rattle.events.proofs.performing.perform_external.Tie as tie
+
+slice-aggregate-bytes-of : tie.Need-slice-aggregate-bytes-of
+slice-aggregate-bytes-of c = search needs
+
+bytes-of-requires : tie.Need-bytes-of-requires
+bytes-of-requires c κs = search needs
+
+array-share-prefix-bytes : tie.Need-array-share-prefix-bytes
+array-share-prefix-bytes c = front-count 80 _ (bytesOf (c .before .before .before .before .before .before .before .before .args .pairs .now)) _ (c .before .before .before .bytes-of .ensures .0) (c .before .before .before .bytes-of .ensures .1) (omega (arith, pairs-length (c .before .before .before .before .before .before .before .before .args .pairs .now), c .before .before .before .before .before .before .before .before .pre)) .0
+
+slice-aggregate-external-write : tie.Need-slice-aggregate-external-write
+slice-aggregate-external-write c = front-count 80 _ (bytesOf (c .before .before .before .before .before .before .before .before .before .args .pairs .now)) _ (c .before .before .before .before .bytes-of .ensures .0) (c .before .before .before .before .bytes-of .ensures .1) (omega (arith, pairs-length (c .before .before .before .before .before .before .before .before .before .args .pairs .now), c .before .before .before .before .before .before .before .before .before .pre)) .1
+
+external-write-requires : tie.Need-external-write-requires
+external-write-requires c κs = search needs
+
+same-length : tie.Need-same-length
+same-length c = search needs
+
+same-length-2 : tie.Need-same-length-2
+same-length-2 c = search needs
+
+returns : tie.Need-returns
+returns c = c .before .before .before .before .external-write .ensures ∙ rw (front-count 80 _ (bytesOf (c .before .before .before .before .before .before .before .before .before .before .before .before .before .before .args .pairs .now)) _ (c .before .before .before .before .before .before .before .before .before .bytes-of .ensures .0) (c .before .before .before .before .before .before .before .before .before .bytes-of .ensures .1) (omega (arith, pairs-length (c .before .before .before .before .before .before .before .before .before .before .before .before .before .before .args .pairs .now), c .before .before .before .before .before .before .before .before .before .before .before .before .before .before .pre)) .2)
+
+pub perform-external-spec : {M : Type 1} → statement M
+perform-external-spec =
+    tie.close
+    (tie.spec
+    slice-aggregate-bytes-of
+    bytes-of-requires
+    array-share-prefix-bytes
+    slice-aggregate-external-write
+    external-write-requires
+    same-length
+    same-length-2
+    returns)

@@ -1,0 +1,42 @@
+use Rattle.events.specs.Perform.{afterAccess}
+use mathlib.Core.Path.{_≡_, refl, sym, ap, _∙_}
+use borrow.Author.Needs.{needs}
+use Rattle.events.proofs.performing.perform_write.Statement.{statement}
+use Rattle.events.proofs.performing.perform_write.Tie as tie
+
+board-answers-requires : tie.Need-board-answers-requires
+board-answers-requires c κs = search needs
+
+slice-aggregate-write : tie.Need-slice-aggregate-write
+slice-aggregate-write c = search needs
+
+slice-aggregate-write-2 : tie.Need-slice-aggregate-write-2
+slice-aggregate-write-2 c = search needs
+
+write-requires : tie.Need-write-requires
+write-requires c κs = search needs
+
+same-length : tie.Need-same-length
+same-length c = search needs
+
+same-length-2 : tie.Need-same-length-2
+same-length-2 c = search needs
+
+same-length-3 : tie.Need-same-length-3
+same-length-3 c = search needs
+
+returns : tie.Need-returns
+returns c = ap afterAccess (c .before .before .before .before .before .before .before .write .ensures) ∙ rw (c .before .before .before .before .before .before .before .before .before .before .before .before .before .board-answers .ensures)
+
+pub perform-write-spec : {M : Type 1} → statement M
+perform-write-spec =
+    tie.close
+    (tie.spec
+    board-answers-requires
+    slice-aggregate-write
+    slice-aggregate-write-2
+    write-requires
+    same-length
+    same-length-2
+    same-length-3
+    returns)

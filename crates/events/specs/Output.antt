@@ -1,0 +1,49 @@
+-- Document 01, 'Board table and program': the output of every input.
+use Prim.Native.Nat.{ℕ, suc}
+use mathlib.Core.Bool.{cond}
+use mathlib.Core.List.{List, [], _∷_, _++_}
+use lib.Dec.{ltb}
+use lib.ListN.{length, replicate}
+use Rattle.directory.specs.Steps.{afterReset}
+use Rattle.bus.specs.Parity.{memory}
+use Rattle.access.specs.declared.outcome.Outcome.{Outcome}
+use Rattle.access.specs.Access.{State, state}
+use Rattle.events.specs.Number.{decimal}
+use Rattle.events.specs.Fields.{tab, newline, linesOf}
+use Rattle.events.specs.Perform.{Performed, lineDone}
+
+-- The header line: `event`, `answer`, `value`, `cycles`, with tabs between.
+unfoldable pub header : List ℕ
+header =
+    101 ∷ 118 ∷ 101 ∷ 110 ∷ 116 ∷ tab
+    ∷ 97 ∷ 110 ∷ 115 ∷ 119 ∷ 101 ∷ 114 ∷ tab
+    ∷ 118 ∷ 97 ∷ 108 ∷ 117 ∷ 101 ∷ tab
+    ∷ 99 ∷ 121 ∷ 99 ∷ 108 ∷ 101 ∷ 115 ∷ newline ∷ []
+
+-- A number, the byte that ends its column, and what stands after it.
+abbrev pub column : ℕ → ℕ → List ℕ → List ℕ
+column n end rest = decimal n ++ end ∷ rest
+
+-- "event (line from 1), answer (0 = done), value, cycles. Each line gives one tab-parted row, ended by a newline."
+unfoldable pub rowOf : ℕ → ℕ → ℕ → ℕ → List ℕ
+rowOf event number value cycles = column event tab (column number tab (column value tab (column cycles newline [])))
+
+abbrev pub rowFor : ℕ → Outcome → List ℕ
+rowFor event o = rowOf event (o .number) (o .value) (o .cycles)
+
+abbrev pub stateAfter : Performed → State
+stateAfter p = state (p .outcome .directory) (p .memory) (p .array)
+
+-- The rows of lines, the first with this event number.
+unfoldable pub rowsOf : State → ℕ → List (List ℕ) → List ℕ
+rowsOf s event [] = []
+rowsOf s event (line ∷ lines) =
+    rowFor event (lineDone s line .outcome) ++ rowsOf (stateAfter (lineDone s line)) (suc event) lines
+
+-- "The program has 65,536 zero RAM bytes, zero parity, a zero data array, a reset directory."
+unfoldable pub start : State
+start = state afterReset (memory (replicate 65536 0) (replicate 16384 0)) (replicate 8192 0)
+
+-- "Output starts with the fixed header line"; "Number 12 prints the header and the one row 0, 12, 0, 0."
+unfoldable pub outputOf : List ℕ → List ℕ
+outputOf input = header ++ cond (ltb 65536 (length input)) (rowOf 0 12 0 0) (rowsOf start 1 (linesOf input))

@@ -1,0 +1,52 @@
+-- Document 01, 'Board table and program': what the event of a line does, by the calls' own definitions.
+use Prim.Native.Nat.{ℕ, _*_}
+use mathlib.Core.List.{List}
+use lib.ListN.{drop, replicate}
+use Rattle.bus.specs.Groups.{group, groups}
+use Rattle.bus.specs.Parity.{Memory}
+use Rattle.access.specs.declared.outcome.Outcome.{Outcome}
+use Rattle.access.specs.Access.{State, After, outcome, readCall, writeCall}
+use Rattle.access.specs.Masters.{Written, externalCall, snoopOutcome, controlOutcome, flushOutcome, resetOutcome}
+use Rattle.access.specs.Board.{boardAnswers}
+use Rattle.events.specs.declared.scanning.Event.{Event}
+use Rattle.events.specs.declared.scanning.Event.the-variants.{Malformed, Read, Write, External, Snoop, Flush, Control, Reset}
+use Rattle.events.specs.Fields.{bytesOf}
+use Rattle.events.specs.Scan.{scanned}
+
+-- What an event leaves: its answer with the directory, memory, the data array.
+pub record Performed : Type 0 where
+  pub outcome : Outcome
+  pub memory : Memory
+  pub array : List ℕ
+
+abbrev pub performed : Outcome → Memory → List ℕ → Performed
+performed o m array = record { outcome = o; memory = m; array = array }
+
+-- An event that only answers.
+abbrev pub answered : State → Outcome → Performed
+answered s o = performed o (s .memory) (s .array)
+
+-- Each read and write has a log of its own, which no row shows.
+abbrev pub blank : List ℕ
+blank = replicate (3 * (group * groups)) 0
+
+abbrev pub afterAccess : After → Performed
+afterAccess a = performed (a .outcome) (a .memory) (a .array)
+
+abbrev pub afterExternal : State → Written → Performed
+afterExternal s w = performed (w .outcome) (w .memory) (s .array)
+
+-- The numbers and values of each case. "A malformed line .. gives its row with 11, 0, 0, changes nothing"
+unfoldable pub eventDone : State → List ℕ → Event → Performed
+eventDone s line Malformed = answered s (outcome (s .directory) 11 0 0)
+eventDone s line (Read address width pcd) = afterAccess (readCall s address width pcd (boardAnswers address width) blank)
+eventDone s line (Write address width value) = afterAccess (writeCall s address width value (boardAnswers address width) blank)
+eventDone s line (External address from) =
+    afterExternal s (externalCall (s .directory) (s .memory) address (bytesOf (drop from line)))
+eventDone s line (Snoop address) = answered s (snoopOutcome (s .directory) address)
+eventDone s line Flush = answered s (flushOutcome (s .directory))
+eventDone s line (Control cd nw) = answered s (controlOutcome (s .directory) cd nw)
+eventDone s line Reset = answered s resetOutcome
+
+unfoldable pub lineDone : State → List ℕ → Performed
+lineDone s line = eventDone s line (scanned line)

@@ -1,0 +1,129 @@
+// One line on the unit.
+ghost use mathlib.Core.Path.{_≡_};
+ghost use Prim.Native.Nat.{_≤_};
+ghost use lib.ListN.{length};
+ghost use Rattle.bus.specs.Parity.{memory};
+ghost use Rattle.access.specs.Access.{outcome, readCall, state, writeCall};
+ghost use Rattle.access.specs.Board.{boardAnswers};
+ghost use Rattle.access.specs.Masters.{externalCall, written};
+ghost use Rattle.events.specs.Fields.{bytesOf};
+ghost use Rattle.events.specs.Perform.{afterAccess, blank, lineDone, performed};
+use crate::fields::bytes_of;
+use crate::scanning::Event;
+use crate::scanning::scan;
+use access::Outcome;
+use directory::Directory;
+
+// The line's event with the board's answers. A malformed line answers 11.
+pub fn perform(
+    given: Directory,
+    ram: &mut [u8],
+    parity: &mut [u8],
+    data: &mut [u8],
+    line: &[u8],
+) -> Outcome
+    ensures { λ r. ⌜ performed r (memory (now (ram .exit)) (now (parity .exit))) (now («data» .exit))
+        ≡ lineDone (state given (memory (now (ram .entry)) (now (parity .entry))) (now («data» .entry))) (now (line .entry)) ⌝ }
+{
+    let event = scan(line);
+    match event {
+        Event::Malformed => malformed(given),
+        Event::Read(address, width, pcd) => {
+            perform_read(given, ram, parity, data, address, width, pcd)
+        }
+        Event::Write(address, width, value) => {
+            perform_write(given, ram, parity, data, address, width, value)
+        }
+        Event::External(address, from) => {
+            perform_external(given, ram, parity, address, &line[from..])
+        }
+        Event::Snoop(address) => access::snoop(given, address),
+        Event::Flush => access::flush(given),
+        Event::Control(cd, nw) => access::control(given, cd, nw),
+        Event::Reset => access::reset(),
+    }
+}
+
+fn malformed(given: Directory) -> Outcome
+    ensures { λ r. ⌜ r ≡ outcome given 11 0 0 ⌝ }
+{
+    Outcome {
+        directory: given,
+        number: 11,
+        value: 0,
+        cycles: 0,
+    }
+}
+
+// A read with the board's answers and a log that is not shown.
+fn perform_read(
+    given: Directory,
+    ram: &[u8],
+    parity: &[u8],
+    data: &mut [u8],
+    address: u32,
+    width: u32,
+    pcd: bool,
+) -> Outcome
+    ensures { λ r. ⌜ performed r (memory (now (ram .entry)) (now (parity .entry))) (now («data» .exit))
+        ≡ afterAccess (readCall (state given (memory (now (ram .entry)) (now (parity .entry))) (now («data» .entry))) address width pcd (boardAnswers address width) blank) ⌝ }
+{
+    let answers = access::board_answers(address, width);
+    let mut log = [0u32; 96];
+    access::read(
+        given,
+        ram,
+        parity,
+        data,
+        address,
+        width,
+        pcd,
+        &answers,
+        &mut log,
+    )
+}
+
+// A write, likewise.
+fn perform_write(
+    given: Directory,
+    ram: &mut [u8],
+    parity: &mut [u8],
+    data: &mut [u8],
+    address: u32,
+    width: u32,
+    value: u32,
+) -> Outcome
+    ensures { λ r. ⌜ performed r (memory (now (ram .exit)) (now (parity .exit))) (now («data» .exit))
+        ≡ afterAccess (writeCall (state given (memory (now (ram .entry)) (now (parity .entry))) (now («data» .entry))) address width value (boardAnswers address width) blank) ⌝ }
+{
+    let answers = access::board_answers(address, width);
+    let mut log = [0u32; 96];
+    access::write(
+        given,
+        ram,
+        parity,
+        data,
+        address,
+        width,
+        value,
+        &answers,
+        &mut log,
+    )
+}
+
+// An external write of the bytes that the pairs say.
+fn perform_external(
+    given: Directory,
+    ram: &mut [u8],
+    parity: &mut [u8],
+    address: u32,
+    pairs: &[u8],
+) -> Outcome
+    requires { ⌜ length (now pairs) ≤ 80 ⌝ }
+    ensures { λ r. ⌜ written r (memory (now (ram .exit)) (now (parity .exit)))
+        ≡ externalCall given (memory (now (ram .entry)) (now (parity .entry))) address (bytesOf (now (pairs .entry))) ⌝ }
+{
+    let mut bytes = [0u8; 80];
+    let count = bytes_of(pairs, &mut bytes);
+    access::external_write(given, ram, parity, address, &bytes[..count])
+}
