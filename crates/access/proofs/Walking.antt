@@ -11,6 +11,8 @@ use Rattle.bus.specs.Parity.{Memory}
 use Rattle.bus.specs.Bus.{run}
 use Rattle.bus.specs.Record.{Record, logged, wordsOf}
 use Rattle.directory.specs.declared.steps.Directory.{Directory}
+use Rattle.doubleword.specs.declared.change.Change.{Change}
+use Rattle.doubleword.specs.declared.change.Change.the-variants.{Keep}
 use Rattle.doubleword.specs.declared.change.Moved.{Moved}
 use Rattle.doubleword.specs.declared.change.Wanted.{Wanted}
 use Rattle.access.specs.declared.walk.Walk.{Walk}
@@ -237,6 +239,11 @@ pub group-length : (xs : List ℕ) (from to : ℕ) → to ≡ from + 16 → from
 group-length xs from to e l =
     let k : to - from ≡ 16 = omega arith in
     length-take (to - from) (drop from xs) ∙ rw (length-drop from xs) (omega arith)
+
+-- where the change is `Keep` the directory stays
+pub keep-changed : (d d′ : Directory) (line : ℕ) (change : Change) → change ≡ Keep → d′ ≡ d → d′ ≡ changed d line change
+unfolding changed
+keep-changed d d′ line change e same = rw e same
 
 -- what the loop of a read keeps
 module _ (pcd : Bool) (xs : List ℕ) where

@@ -16,6 +16,7 @@ use crate::walk::Stepped;
 use crate::walk::Walk;
 use bus::word_of;
 use directory::Directory;
+use doubleword::Change;
 use doubleword::changed_by;
 use doubleword::read_doubleword;
 
@@ -90,12 +91,11 @@ pub fn read(
     let mut operand = [0u8; 4];
     let mut walk = Walk::start(address, width);
     while 0 < walk.left {
-        let may_fill = !given.cd & !pcd;
         let step = read_step(
             &given.tags,
             &given.valid,
             &given.lru,
-            may_fill,
+            !given.cd & !pcd,
             ram,
             parity,
             data,
@@ -105,9 +105,11 @@ pub fn read(
             walk,
         );
         let change = step.change;
-        let next = step.walk;
-        given = changed_by(given, step.line, change);
-        walk = next;
+        match change {
+            Change::Keep => {}
+            _ => given = changed_by(given, step.line, change),
+        }
+        walk = step.walk;
     }
     Outcome {
         directory: given,

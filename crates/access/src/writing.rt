@@ -17,6 +17,7 @@ use crate::walk::Stepped;
 use crate::walk::Walk;
 use bus::bytes_of;
 use directory::Directory;
+use doubleword::Change;
 use doubleword::changed_by;
 use doubleword::write_doubleword;
 
@@ -90,11 +91,10 @@ pub fn write(
     let operand = bytes_of(value);
     let mut walk = Walk::start(address, width);
     while 0 < walk.left {
-        let stays = given.cd & given.nw;
         let step = write_step(
             &given.tags,
             &given.valid,
-            stays,
+            given.cd & given.nw,
             ram,
             parity,
             data,
@@ -104,9 +104,11 @@ pub fn write(
             walk,
         );
         let change = step.change;
-        let next = step.walk;
-        given = changed_by(given, step.line, change);
-        walk = next;
+        match change {
+            Change::Keep => {}
+            _ => given = changed_by(given, step.line, change),
+        }
+        walk = step.walk;
     }
     Outcome {
         directory: given,

@@ -34,7 +34,7 @@ pub fn slot_of(line: u32, way: usize) -> usize
     (directory::set_of(line) * 4 + way) * 16
 }
 
-// The directory after its change: the one step of a doubleword.
+// The directory after its change: the one step of a doubleword. It copies the directory, so the calls spare it for `Keep`.
 pub fn changed_by(directory: Directory, line: u32, change: Change) -> Directory
     requires { ⌜ BelowFour change ⌝ }
     ensures { λ r. ⌜ r ≡ changed directory line change ⌝ }

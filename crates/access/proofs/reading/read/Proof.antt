@@ -1,12 +1,13 @@
 use denote.Ref.{now}
 use native.Mathlib.Omega.{arith}
 use mathlib.Core.Path.{_≡_, refl, _∙_}
+use mathlib.Core.Logic.{⊎-elim}
 use borrow.Author.Needs.{needs}
 use Rattle.bus.specs.Parity.{memory}
 use lib.ListN.{length, replicate}
 use Rattle.access.specs.Access.{state, allOf, readOne}
 use Rattle.access.specs.Walks.{startWalk, restOf, Path}
-use Rattle.access.proofs.Walking.{ReadGoing, reading-begin, reading-next, path-more, walk-less, walk-path}
+use Rattle.access.proofs.Walking.{ReadGoing, reading-begin, reading-next, keep-changed, path-more, walk-less, walk-path}
 use Rattle.access.proofs.Calls.{path-begin, read-input-refused, read-state-refused, read-done}
 use Rattle.access.proofs.reading.read.Statement.{statement}
 use Rattle.access.proofs.reading.read.Tie as tie
@@ -59,6 +60,9 @@ slice-aggregate-read-step c = search needs
 read-step-requires : tie.Need-read-step-requires Inv-loop μ-loop
 read-step-requires c κs = (c .before .before .before .before .before .before .before .if3 .taken, rw (c .before .before .before .before .before .before .before .before .before .loop .inv .2, c .before .before .before .before .before .before .before .before .before .loop .inv .3, c .before .before .before .before .before .before .before .before .before .loop .inv .4) (c .before .before .before .before .before .before .before .before .before .loop .inv .1))
 
+enum-told : tie.Need-enum-told Inv-loop μ-loop
+enum-told c = search needs
+
 changed-by-requires : tie.Need-changed-by-requires Inv-loop μ-loop
 changed-by-requires c κs = c .before .before .before .before .before .before .read-step .ensures .below
 
@@ -67,13 +71,13 @@ loop-less c = walk-less _ _ _ (c .before .before .before .before .before .before
 
 loop-again : tie.Need-loop-again Inv-loop μ-loop
 unfolding readOne
-loop-again c = (reading-next _ _ _ _ _ _ _ _ _ _ _ _ _ (c .before .before .before .before .before .before .before .before .before .before .before .before .before .before .before .if3 .taken) (path-more _ _ _ _ _ _ _ (c .before .before .before .before .before .before .before .before .before .before .before .before .before .before .before .before .before .loop .inv .1) (c .before .before .before .before .before .before .before .before .before .before .before .before .before .before .before .if3 .taken)) (c .before .before .before .before .before .before .before .before .before .before .before .before .before .before .before .before .before .loop .inv .0) (c .before .before .before .before .before .before .before .read-step .ensures) (c .changed-by .ensures), walk-path _ _ _ (c .before .before .before .before .before .before .before .before .before .before .before .before .before .before .before .if3 .taken) (c .before .before .before .before .before .before .before .read-step .ensures .moves) _ _ _ _ _ _ (c .before .before .before .before .before .before .before .read-step .ensures .most) (c .before .before .before .before .before .before .before .before .before .before .before .before .before .before .before .before .before .loop .inv .1), c .before .before .before .before .before .before .before .read-step .kept .1 .1 .1 .1 .1 .1 .0 ∙ c .before .before .before .before .before .before .before .before .before .before .before .before .before .before .before .before .before .loop .inv .2, c .before .before .before .before .before .before .before .read-step .kept .1 .1 .1 .1 .1 .1 .1 .1 .0 ∙ c .before .before .before .before .before .before .before .before .before .before .before .before .before .before .before .before .before .loop .inv .3, c .before .before .before .before .before .before .before .read-step .kept .1 .1 .1 .1 .1 .1 .1 .1 .1 .0 ∙ c .before .before .before .before .before .before .before .before .before .before .before .before .before .before .before .before .before .loop .inv .4)
+loop-again c = (reading-next _ _ _ _ _ _ _ _ _ _ _ _ _ (c .before .before .before .before .before .before .before .before .before .before .before .before .before .before .before .if3 .taken) (path-more _ _ _ _ _ _ _ (c .before .before .before .before .before .before .before .before .before .before .before .before .before .before .before .before .before .loop .inv .1) (c .before .before .before .before .before .before .before .before .before .before .before .before .before .before .before .if3 .taken)) (c .before .before .before .before .before .before .before .before .before .before .before .before .before .before .before .before .before .loop .inv .0) (c .before .before .before .before .before .before .before .read-step .ensures) (⊎-elim (λ w. keep-changed _ _ _ _ (w .1 .given .1) (w .2)) (λ w. w .2 ∙ w .1 .ensures) (c .before .match .came)), walk-path _ _ _ (c .before .before .before .before .before .before .before .before .before .before .before .before .before .before .before .if3 .taken) (c .before .before .before .before .before .before .before .read-step .ensures .moves) _ _ _ _ _ _ (c .before .before .before .before .before .before .before .read-step .ensures .most) (c .before .before .before .before .before .before .before .before .before .before .before .before .before .before .before .before .before .loop .inv .1), c .before .before .before .before .before .before .before .read-step .kept .1 .1 .1 .1 .1 .1 .0 ∙ c .before .before .before .before .before .before .before .before .before .before .before .before .before .before .before .before .before .loop .inv .2, c .before .before .before .before .before .before .before .read-step .kept .1 .1 .1 .1 .1 .1 .1 .1 .0 ∙ c .before .before .before .before .before .before .before .before .before .before .before .before .before .before .before .before .before .loop .inv .3, c .before .before .before .before .before .before .before .read-step .kept .1 .1 .1 .1 .1 .1 .1 .1 .1 .0 ∙ c .before .before .before .before .before .before .before .before .before .before .before .before .before .before .before .before .before .loop .inv .4)
 
 word-of-requires : tie.Need-word-of-requires Inv-loop μ-loop
 word-of-requires c κs = search needs
 
-cast-t46 : tie.Need-cast-t46 Inv-loop μ-loop
-cast-t46 c = omega (arith, c .before .before .before .before .loop .inv .1 .made, c .before .before .before .before .loop .inv .1 .last)
+cast-t45 : tie.Need-cast-t45 Inv-loop μ-loop
+cast-t45 c = omega (arith, c .before .before .before .before .loop .inv .1 .made, c .before .before .before .before .loop .inv .1 .last)
 
 same-length-5 : tie.Need-same-length-5 Inv-loop μ-loop
 same-length-5 c = c .before .before .before .before .loop .inv .2
@@ -104,11 +108,12 @@ read-spec =
     loop-holds
     slice-aggregate-read-step
     read-step-requires
+    enum-told
     changed-by-requires
     loop-less
     loop-again
     word-of-requires
-    cast-t46
+    cast-t45
     same-length-5
     same-length-6
     returns-3)

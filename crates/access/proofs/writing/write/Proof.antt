@@ -1,13 +1,14 @@
 use denote.Ref.{now}
 use native.Mathlib.Omega.{arith}
 use mathlib.Core.Path.{_≡_, refl, _∙_}
+use mathlib.Core.Logic.{⊎-elim}
 use borrow.Author.Needs.{needs}
 use Rattle.bus.specs.Bytes.{bytesOf}
 use Rattle.bus.specs.Parity.{memory}
 use lib.ListN.{length}
 use Rattle.access.specs.Access.{state, allOf, writeOne}
 use Rattle.access.specs.Walks.{startWalk, restOf, Path}
-use Rattle.access.proofs.Walking.{Going, going-begin, writing-next, path-more, walk-less, walk-path}
+use Rattle.access.proofs.Walking.{Going, going-begin, writing-next, keep-changed, path-more, walk-less, walk-path}
 use Rattle.access.proofs.Calls.{path-begin, write-input-refused, write-later-refused, write-done}
 use Rattle.access.proofs.writing.write.Statement.{statement}
 use Rattle.access.proofs.writing.write.Tie as tie
@@ -82,6 +83,9 @@ slice-aggregate-write-step c = search needs
 write-step-requires : tie.Need-write-step-requires Inv-loop μ-loop
 write-step-requires c κs = (c .before .before .before .before .before .before .before .before .if3 .taken, rw (c .before .before .before .before .before .before .before .before .before .before .loop .inv .2, c .before .before .before .before .before .before .before .before .before .before .loop .inv .3, c .before .before .before .before .before .before .before .before .before .before .loop .inv .4, c .before .before .before .before .before .before .before .before .before .before .loop .inv .5) (c .before .before .before .before .before .before .before .before .before .before .loop .inv .1))
 
+enum-told : tie.Need-enum-told Inv-loop μ-loop
+enum-told c = search needs
+
 changed-by-requires : tie.Need-changed-by-requires Inv-loop μ-loop
 changed-by-requires c κs = c .before .before .before .before .before .before .before .before .before .write-step .ensures .below
 
@@ -90,10 +94,10 @@ loop-less c = walk-less _ _ _ (c .before .before .before .before .before .before
 
 loop-again : tie.Need-loop-again Inv-loop μ-loop
 unfolding writeOne
-loop-again c = (writing-next _ _ _ _ _ _ _ _ _ _ _ _ (c .before .before .before .before .before .before .before .before .before .before .before .before .before .before .before .before .before .before .before .if3 .taken) (path-more _ _ _ _ _ _ _ (c .before .before .before .before .before .before .before .before .before .before .before .before .before .before .before .before .before .before .before .before .before .loop .inv .1) (c .before .before .before .before .before .before .before .before .before .before .before .before .before .before .before .before .before .before .before .if3 .taken)) (c .before .before .before .before .before .before .before .before .before .before .before .before .before .before .before .before .before .before .before .before .before .loop .inv .0) (c .before .before .before .before .before .before .before .before .before .before .write-step .ensures) (c .changed-by .ensures), walk-path _ _ _ (c .before .before .before .before .before .before .before .before .before .before .before .before .before .before .before .before .before .before .before .if3 .taken) (c .before .before .before .before .before .before .before .before .before .before .write-step .ensures .moves) _ _ _ _ _ _ (c .before .before .before .before .before .before .before .before .before .before .write-step .ensures .most) (c .before .before .before .before .before .before .before .before .before .before .before .before .before .before .before .before .before .before .before .before .before .loop .inv .1), c .before .before .before .before .before .before .before .before .before .before .write-step .kept .1 .1 .1 .1 .1 .0 ∙ c .before .before .before .before .before .before .before .before .before .before .before .before .before .before .before .before .before .before .before .before .before .loop .inv .2, c .before .before .before .before .before .before .before .before .before .before .write-step .kept .1 .1 .1 .1 .1 .1 .1 .0 ∙ c .before .before .before .before .before .before .before .before .before .before .before .before .before .before .before .before .before .before .before .before .before .loop .inv .3, c .before .before .before .before .before .before .before .before .before .before .write-step .kept .1 .1 .1 .0 ∙ c .before .before .before .before .before .before .before .before .before .before .before .before .before .before .before .before .before .before .before .before .before .loop .inv .4, c .before .before .before .before .before .before .before .before .before .before .write-step .kept .1 .1 .1 .1 .0 ∙ c .before .before .before .before .before .before .before .before .before .before .before .before .before .before .before .before .before .before .before .before .before .loop .inv .5)
+loop-again c = (writing-next _ _ _ _ _ _ _ _ _ _ _ _ (c .before .before .before .before .before .before .before .before .before .before .before .before .before .before .before .before .before .before .before .if3 .taken) (path-more _ _ _ _ _ _ _ (c .before .before .before .before .before .before .before .before .before .before .before .before .before .before .before .before .before .before .before .before .before .loop .inv .1) (c .before .before .before .before .before .before .before .before .before .before .before .before .before .before .before .before .before .before .before .if3 .taken)) (c .before .before .before .before .before .before .before .before .before .before .before .before .before .before .before .before .before .before .before .before .before .loop .inv .0) (c .before .before .before .before .before .before .before .before .before .before .write-step .ensures) (⊎-elim (λ w. keep-changed _ _ _ _ (w .1 .given .1) (w .2)) (λ w. w .2 ∙ w .1 .ensures) (c .before .match .came)), walk-path _ _ _ (c .before .before .before .before .before .before .before .before .before .before .before .before .before .before .before .before .before .before .before .if3 .taken) (c .before .before .before .before .before .before .before .before .before .before .write-step .ensures .moves) _ _ _ _ _ _ (c .before .before .before .before .before .before .before .before .before .before .write-step .ensures .most) (c .before .before .before .before .before .before .before .before .before .before .before .before .before .before .before .before .before .before .before .before .before .loop .inv .1), c .before .before .before .before .before .before .before .before .before .before .write-step .kept .1 .1 .1 .1 .1 .0 ∙ c .before .before .before .before .before .before .before .before .before .before .before .before .before .before .before .before .before .before .before .before .before .loop .inv .2, c .before .before .before .before .before .before .before .before .before .before .write-step .kept .1 .1 .1 .1 .1 .1 .1 .0 ∙ c .before .before .before .before .before .before .before .before .before .before .before .before .before .before .before .before .before .before .before .before .before .loop .inv .3, c .before .before .before .before .before .before .before .before .before .before .write-step .kept .1 .1 .1 .0 ∙ c .before .before .before .before .before .before .before .before .before .before .before .before .before .before .before .before .before .before .before .before .before .loop .inv .4, c .before .before .before .before .before .before .before .before .before .before .write-step .kept .1 .1 .1 .1 .0 ∙ c .before .before .before .before .before .before .before .before .before .before .before .before .before .before .before .before .before .before .before .before .before .loop .inv .5)
 
-cast-t33 : tie.Need-cast-t33 Inv-loop μ-loop
-cast-t33 c = omega (arith, c .before .before .before .loop .inv .1 .made, c .before .before .before .loop .inv .1 .last)
+cast-t31 : tie.Need-cast-t31 Inv-loop μ-loop
+cast-t31 c = omega (arith, c .before .before .before .loop .inv .1 .made, c .before .before .before .loop .inv .1 .last)
 
 same-length-9 : tie.Need-same-length-9 Inv-loop μ-loop
 same-length-9 c = c .before .before .before .loop .inv .4
@@ -137,10 +141,11 @@ write-spec =
     loop-holds
     slice-aggregate-write-step
     write-step-requires
+    enum-told
     changed-by-requires
     loop-less
     loop-again
-    cast-t33
+    cast-t31
     same-length-9
     same-length-10
     same-length-11
