@@ -8,15 +8,22 @@ import sys
 from collections.abc import Callable
 from pathlib import Path
 
+import event_files
 import replay
 import tables
 
-EXPECTATIONS: list[tuple[str, Callable[[], str]]] = [
+# An event file may have any bytes; the others are text.
+EXPECTATIONS: list[tuple[str, Callable[[], str | bytes]]] = [
     ("crates/directory_tables/stdout", tables.directory_tables),
     *replay.expectations(),
+    *event_files.expectations(),
 ]
 
 ROOT = Path(__file__).resolve().parent.parent
+
+
+def bytes_of(generated: str | bytes) -> bytes:
+    return generated.encode() if isinstance(generated, str) else generated
 
 
 def agrees(path: str, generated: bytes) -> bool:
@@ -43,7 +50,7 @@ def main(arguments: list[str]) -> int:
         print("usage: expectations.py [--write]", file=sys.stderr)
         return 2
     step = write if arguments else agrees
-    done = [step(path, generate().encode()) for path, generate in EXPECTATIONS]
+    done = [step(path, bytes_of(generate())) for path, generate in EXPECTATIONS]
     return 0 if all(done) else 1
 
 
