@@ -1,6 +1,6 @@
 """Compare the stored expectations with what the model generates, or write them.
 
-    python3 oracle/expectations.py           says which agree; exit 1 if one differs
+    python3 oracle/expectations.py           says which differ; exit 1 if one does
     python3 oracle/expectations.py --write   writes them all
 """
 
@@ -27,13 +27,14 @@ def bytes_of(generated: str | bytes) -> bytes:
 
 
 def agrees(path: str, generated: bytes) -> bool:
-    """Say whether the stored file is what the model generates."""
+    """Say where the stored file is not what the model generates."""
     stored = ROOT / path
     if not stored.is_file():
         print(f"{path}: missing")
         return False
     same = stored.read_bytes() == generated
-    print(f"{path}: {'as generated' if same else 'differs'}")
+    if not same:
+        print(f"{path}: differs")
     return same
 
 
@@ -41,8 +42,15 @@ def write(path: str, generated: bytes) -> bool:
     """Store what the model generates."""
     (ROOT / path).parent.mkdir(parents=True, exist_ok=True)
     (ROOT / path).write_bytes(generated)
-    print(f"{path}: written")
     return True
+
+
+def strays() -> list[str]:
+    """Files that stand among a program's data and are not generated."""
+    listed = {ROOT / path for path, _ in EXPECTATIONS}
+    folders = {path.parent for path in listed if path.parent.name == "data"}
+    found = [path for folder in folders for path in folder.glob("*") if path not in listed]
+    return sorted(str(path.relative_to(ROOT)) for path in found)
 
 
 def main(arguments: list[str]) -> int:
@@ -51,7 +59,10 @@ def main(arguments: list[str]) -> int:
         return 2
     step = write if arguments else agrees
     done = [step(path, bytes_of(generate())) for path, generate in EXPECTATIONS]
-    return 0 if all(done) else 1
+    print(f"{sum(done)} of {len(done)} files {'written' if arguments else 'as generated'}")
+    for path in strays():
+        print(f"{path}: not generated")
+    return 0 if all(done) and not strays() else 1
 
 
 if __name__ == "__main__":

@@ -20,6 +20,7 @@ GROUPS: list[tuple[str, Callable[[], None]]] = [
     ("burst order, table 3-9", vectors.burst_order),
     ("fill vectors", vectors.fill_vectors),
     ("bench table", vectors.bench_table),
+    ("program start", vectors.program_start),
     ("program example", vectors.program_example),
     ("readings of document 01", readings.readings),
     ("random lists against the plain memory", random_lists.random_lists),

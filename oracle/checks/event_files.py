@@ -17,7 +17,8 @@ from .vectors import PROGRAM_OUTPUT
 
 FILES = 200
 DATA_LIMIT = 700_000
-PRINTED_LIMIT = 1_300_000
+# What a program may print where it is run without its proofs.
+PRINTED_LIMIT = 1_048_576
 # The program's room for the output of one file.
 OUTPUT_ROOM = 1_048_576
 OVER_LIMIT = events.HEADER + b"0\t12\t0\t0\n"
@@ -53,12 +54,15 @@ def event_file_checks() -> None:
     files = event_files.files()
     _sizes(files)
     for file in files:
-        over = len(file.text()) > events.INPUT_LIMIT
-        rows = OVER_LIMIT if over else events.HEADER + b"".join(file.rows)
+        rows = OVER_LIMIT if _over(file) else events.HEADER + b"".join(file.rows)
         check(f"{file.name} rows", file.printed() == rows, True)
         _plain_answers(file)
     check("example", files[0].printed(), PROGRAM_OUTPUT)
     _met(files)
+
+
+def _over(file: EventFile) -> bool:
+    return len(file.text()) > events.INPUT_LIMIT
 
 
 def _sizes(files: tuple[EventFile, ...]) -> None:
@@ -84,7 +88,7 @@ def _met(files: tuple[EventFile, ...]) -> None:
     for file in files:
         rows = file.printed().splitlines()[1:]
         answers |= {int(row.split(b"\t")[1]) for row in rows}
-        met += file.met
+        met += Counter() if _over(file) else file.met
     check("answers", answers, ANSWERS)
     for letter, numbers in LETTERS.items():
         got = {number for number in range(30) if met[f"{letter} {number}"]}

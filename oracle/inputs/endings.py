@@ -7,7 +7,7 @@ from unit486_model.events import HEADER, lines_of
 from checks.bench import check
 from checks.vectors import PROGRAM_INPUT, PROGRAM_OUTPUT
 
-from .malformed import FIELDS
+from .malformed import GOOD
 from .writer import EventFile, line_of
 
 
@@ -38,8 +38,8 @@ def example_file() -> EventFile:
 def last_line_files() -> Iterator[EventFile]:
     """A last line without its newline is a line like any other."""
     start = b"C\t0\t0\nR\t0\t4\t0\n"
-    for letter, fields in FIELDS.items():
-        yield ending_file(f"good-{letter}", start + line_of(letter, *fields), 0, 0, 0)
+    for letter, good in GOOD.items():
+        yield ending_file(f"good-{letter}", start + good, 0, 0, 0)
     for name, last in (
         ("letter", b"Q"),
         ("field", b"R\t0\t4"),

@@ -1,6 +1,7 @@
 """Lines that break one rule of the line format each, and lines that just keep it."""
 
 from collections.abc import Iterator, Sequence
+from itertools import product
 
 from unit486_model.access import Result
 from unit486_model.events import MALFORMED
@@ -19,6 +20,7 @@ FIELDS: dict[str, tuple[str, ...]] = {
     "C": ("1", "1"),
     "Z": (),
 }
+GOOD = {letter: line_of(letter, *fields) for letter, fields in FIELDS.items()}
 # The fields that are numbers, and those that are one digit, by letter and place.
 NUMBERS = {
     "R-address": ("R", 0),
@@ -31,7 +33,7 @@ NUMBERS = {
 }
 DIGITS = {"R-PCD": ("R", 2), "C-CD": ("C", 0), "C-NW": ("C", 1)}
 
-HELD = 0x5A3C_96E1
+HELD = 0x5A3C
 PROBE = Result(0, HELD, 0)
 
 
@@ -64,20 +66,13 @@ def letter_files() -> Iterator[EventFile]:
     lines = [line_of(letter) for letter in [*unknown, "@", "[", "0", "1"]]
     lines += [line_of(letter, *FIELDS["R"]) for letter in unknown]
     yield probed("letters-unknown", lines)
-    lines = [line_of(letter.lower(), *fields) for letter, fields in FIELDS.items()]
-    yield probed("letters-lower", lines)
-    lines = [line_of(2 * letter, *fields) for letter, fields in FIELDS.items()]
+    yield probed("letters-lower", [good[:1].lower() + good[1:] for good in GOOD.values()])
+    lines = [good[:1] + good for good in GOOD.values()]
     lines += [b"FZ", b"ZF", b"RW\t0\t4\t0", b"INVD", b"FLUSH", b"Z0", b"0Z", b"F0", b"S0"]
     yield probed("letters-more", lines)
-    yield probed("letters-none", [b"\t".join([b"", *_encoded(f)]) for f in FIELDS.values()])
-    # Bit 7 set: the letter to who looks at seven bits only.
-    high = [bytes([ord(letter) + 128]) for letter in FIELDS]
-    lines = [b"\t".join([first, *_encoded(FIELDS[letter])]) for first, letter in zip(high, FIELDS)]
-    yield probed("letters-high", lines)
-
-
-def _encoded(fields: Sequence[str]) -> list[bytes]:
-    return [field.encode() for field in fields]
+    yield probed("letters-none", [good[1:] for good in GOOD.values()])
+    # Bit 7 set: the letter itself to who looks at seven bits only.
+    yield probed("letters-high", [bytes([good[0] + 128]) + good[1:] for good in GOOD.values()])
 
 
 # --- fields and what parts them
@@ -102,29 +97,27 @@ def empty_field_files() -> Iterator[EventFile]:
 
 
 def tab_files() -> Iterator[EventFile]:
-    for letter, fields in FIELDS.items():
-        good = line_of(letter, *fields)
+    for letter, good in GOOD.items():
         lines = [b"\t" + good, good + b"\t", b"\t" + good + b"\t", good + b"\t\t"]
         lines += [good[:at] + b"\t" + good[at:] for at in _tabs(good)]
         yield probed(f"tabs-{letter}", lines)
 
 
 def blank_files() -> Iterator[EventFile]:
-    for letter, fields in FIELDS.items():
-        good = line_of(letter, *fields)
+    for letter, good in GOOD.items():
         lines = [b" " + good, good + b" ", b" " + good + b" "]
         for at in _tabs(good):
             around = (b" ", b" \t", b"\t ")
             lines += [good[:at] + blank + good[at + 1 :] for blank in around]
-        if len(fields) > 1:
-            lines.append(good.replace(b"\t", b" "))
+        lines += [good.replace(b"\t", b" ")] if len(_tabs(good)) > 1 else []
         yield probed(f"blanks-{letter}", lines)
 
 
-def parter_file() -> EventFile:
-    parters = (b",", b";", b":", b"|", b"\\t", b"\v", b"\f", b"\r", b"\0", b"  ", b"\xc2\xa0")
-    goods = (line_of("S", *FIELDS["S"]), line_of("C", *FIELDS["C"]), line_of("R", *FIELDS["R"]))
-    return probed("parters", [good.replace(b"\t", parter) for parter in parters for good in goods])
+def separator_file() -> EventFile:
+    others = (b",", b";", b":", b"|", b"\\t", b"\v", b"\f", b"\r", b"\0", b"  ", b"\xc2\xa0")
+    goods = (GOOD["S"], GOOD["C"], GOOD["R"])
+    lines = [good.replace(b"\t", other) for other in others for good in goods]
+    return probed("separators", lines)
 
 
 def _tabs(line: bytes) -> list[int]:
@@ -133,11 +126,9 @@ def _tabs(line: bytes) -> list[int]:
 
 def inserted_files() -> Iterator[EventFile]:
     """Bytes that no line may have, before and after each of its bytes."""
-    for letter, fields in FIELDS.items():
-        good = line_of(letter, *fields)
-        foreign = (b"\0", b"\r", b"\x7f", b"\x80", b"\xff")
-        places = range(len(good) + 1)
-        yield probed(f"inserted-{letter}", [good[:k] + f + good[k:] for f in foreign for k in places])
+    for letter, good in GOOD.items():
+        places = product((b"\0", b"\r", b"\x80", b"\xff"), range(len(good) + 1))
+        yield probed(f"inserted-{letter}", [good[:at] + byte + good[at:] for byte, at in places])
 
 
 # --- numbers, digits, hex pairs
@@ -191,8 +182,7 @@ SWEEPS: dict[str, tuple[bytes, bytes, bytes]] = {
     "letter": (b"", b"", b"FZ"),
     "letter-of-address": (b"", b"\t64", b"S"),
     "after-letter": (b"F", b"", b""),
-    "parter": (b"S", b"64", b"\t"),
-    "number": (b"S\t", b"", DECIMAL),
+    "separator": (b"S", b"64", b"\t"),
     "number-first": (b"S\t", b"4", DECIMAL),
     "number-last": (b"S\t6", b"", DECIMAL),
     "PCD": (b"R\t64\t4\t", b"", b"01"),
@@ -225,8 +215,8 @@ def length_files() -> Iterator[EventFile]:
     long += [b"0" * length for length in (80, 81, 255, 256, 257, 511, 512, 513)]
     yield probed("length-any", long)
     # Who parts a line after 80 bytes finds an event in its rest.
-    rests = [line_of(letter, *fields) for letter, fields in FIELDS.items()]
-    yield probed("length-rest", [b"Q" * length + rest for length in (80, 81, 160) for rest in rests])
+    lines = [b"Q" * count + good for count in (80, 81, 160) for good in GOOD.values()]
+    yield probed("length-rest", lines)
     # Who drops what follows 80 bytes, or goes by the last ones, finds an external write.
     longest = line_of("X", 0, "AB" * 38)
     lines = [longest + more for more in (b"A", b"AB", b"\t", b"\r", b" ", b"\0", b"AB" * 100)]
@@ -256,7 +246,8 @@ def empty_line_files() -> Iterator[EventFile]:
     for line in [*[b""] * 9, b"C\t0\t0", *[b""] * 30, b"F", b"", b"", b"Z", *[b""] * 120]:
         check("empty", file.line(line).number, 0 if line else 11)
     yield file
-    yield probed("white", [b" ", b"\t", b"\r", b"\v", b"\f", b"\0", b"  ", b"\t\t", b" \t", b"\r\r"])
+    white = (b" ", b"\t", b"\r", b"\v", b"\f", b"\0", b"  ", b"\t\t", b" \t", b"\r\r")
+    yield probed("white", white)
 
 
 def malformed_files() -> list[EventFile]:
@@ -266,7 +257,7 @@ def malformed_files() -> list[EventFile]:
         empty_field_files(),
         tab_files(),
         blank_files(),
-        [parter_file()],
+        [separator_file()],
         inserted_files(),
         number_files(),
         digit_files(),

@@ -114,6 +114,31 @@ def stale_file() -> EventFile:
     return file
 
 
+def inside_file() -> EventFile:
+    """With CD = NW = 1 writes of a held line make no cycle, and RAM keeps its bytes."""
+    file = EventFile("modes-inside")
+    two_lines(file)
+    control(file, (1, 1))
+    held = bytearray(file.unit.ram[HELD : HELD + 16])
+    for place in range(16):
+        width = (1, 2, 4)[place % 3]
+        if place + width > 16:
+            continue
+        value = (0x0101_0101 * (place + 1)) % 256**width
+        held[place : place + width] = value.to_bytes(width, "little")
+        check("inside", file.write(HELD + place, width, value), DONE)
+        check("seen", file.read(HELD + place, width), Result(0, value, 0))
+    for place in range(0, 16, 4):
+        value = int.from_bytes(held[place : place + 4], "little")
+        check("the line", file.read(HELD + place, 4), Result(0, value, 0))
+    control(file, (1, 0))
+    check("write through", file.write(HELD + 12, 4, 0), Result(0, 0, 1))
+    check("snoop", file.snoop(HELD), DONE)
+    for place in range(0, 16, 4):
+        check("RAM's", file.read(HELD + place, 4), Result(0, 0 if place else HELD, 1))
+    return file
+
+
 def reset_file() -> EventFile:
     """A reset drops lines and what was written inside, and leaves RAM."""
     file = EventFile("modes-reset")
@@ -154,5 +179,5 @@ def flush_file() -> EventFile:
 
 
 def mode_files() -> list[EventFile]:
-    singles = [first_event_file(), stale_file(), reset_file(), flush_file()]
+    singles = [first_event_file(), inside_file(), stale_file(), reset_file(), flush_file()]
     return [*singles, *pair_files()]

@@ -9,11 +9,12 @@ from unit486_model.events import RAM_BYTES
 
 from scripts.source import Source
 
-from .writer import EventFile
+from .writer import EventFile, line_of
 
 BAD_WIDTHS = (0, 3, 5, 8, 4_294_967_295)
 FAR = (RAM_BYTES, RAM_BYTES + 1, RAM_BYTES + 2048, 2**31, 4_294_967_294, 4_294_967_295)
-PAIRS = ((False, False), (False, False), (True, False), (True, True), (False, True))
+# Those of a control call, the mode that fills as often as it is to be drawn.
+PAIRS = (*[(False, False)] * 3, (True, False), (True, True), (True, True), (False, True))
 WAY_BYTES = SETS * LINE_BYTES
 
 
@@ -33,14 +34,16 @@ class Kind:
     changed: float = 0.0
     # The share of accesses outside the hot sets.
     elsewhere: float = 0.2
+    # The share of lines whose numbers have leading zeros.
+    zeros: float = 0.05
 
 
 KINDS = (
-    Kind("mixed", 40, 70, "RRRRRRRRWWWWXXSSFCZ", hostile=0.06, changed=0.08),
-    Kind("hot-random", 14, 90, "RRRRRRRRRRRRRWWWS", tags=7, changed=0.02, elsewhere=0.03),
-    Kind("modes-random", 14, 70, "RRRRRRWWWWXSFCCCZ", tags=2, hostile=0.02, elsewhere=0.1),
-    Kind("masters-random", 14, 70, "RRRRRRRXXXXSSSW", tags=3, hostile=0.03),
-    Kind("malformed-random", 10, 60, "RRRWWWXXXSSFCCZ", hostile=0.05, changed=0.8),
+    Kind("mixed", 40, 40, "RRRRRRRRWWWWXXSSFCZ", hostile=0.06, changed=0.08),
+    Kind("hot-random", 10, 70, "RRRRRRRRRRRRRWWWS", tags=7, changed=0.02, elsewhere=0.03),
+    Kind("modes-random", 10, 60, "RRRRRRRRWWWWWWXSFCCCCZ", tags=2, hostile=0.02, elsewhere=0.1),
+    Kind("masters-random", 10, 50, "RRRRRRRXXXXSSSW", tags=3, hostile=0.03),
+    Kind("malformed-random", 8, 45, "RRRWWWXXXSSFCCZ", hostile=0.05, changed=0.8),
 )
 
 
@@ -85,10 +88,9 @@ class RandomEvents:
     # --- fields
 
     def _line(self, letter: str, *fields: int | str) -> bytes:
-        """At times a number has leading zeros."""
-        texts = [str(field) for field in fields]
-        if texts and self.source.chance(0.05):
-            texts[0] = texts[0].rjust(self.source.between(1, 10), "0")
+        """Numbers may have leading zeros, bytes have none."""
+        digits = self.source.between(7, 10) if self.source.chance(self.kind.zeros) else 1
+        texts = [f"{field:0{digits}}" if isinstance(field, int) else field for field in fields]
         return "\t".join([letter, *texts]).encode()
 
     def _address(self) -> int:
@@ -106,7 +108,8 @@ class RandomEvents:
     # --- lines
 
     def _read(self) -> bytes:
-        return self._line("R", self._address(), self._width(), int(self.source.chance(0.1)))
+        pcd = "1" if self.source.chance(0.1) else "0"
+        return self._line("R", self._address(), self._width(), pcd)
 
     def _write(self) -> bytes:
         width = self._width()
@@ -123,7 +126,7 @@ class RandomEvents:
 
     def _control(self) -> bytes:
         cd, nw = self.source.choice(PAIRS)
-        return self._line("C", int(cd), int(nw))
+        return line_of("C", int(cd), int(nw))
 
     def _changed(self, line: bytes) -> bytes:
         """A line that is malformed, or by chance another event."""

@@ -1,6 +1,7 @@
 """An event file under way: each line is run on the model as it is written."""
 
 from collections import Counter
+from functools import cache
 from typing import Any
 
 from unit486_model import directory as steps
@@ -25,7 +26,7 @@ class EventFile:
         return b"\n".join(self.lines) + (b"\n" if self.lines and self.last_newline else b"")
 
     def printed(self) -> bytes:
-        return events.run(self.text())
+        return _printed(self.text())
 
     def held(self, address: int) -> int | None:
         return steps.find(self.unit.directory, address)
@@ -93,3 +94,8 @@ class EventFile:
 def line_of(letter: str, *fields: str | int) -> bytes:
     """A letter and its fields, parted by tabs."""
     return "\t".join([letter, *(str(field) for field in fields)]).encode()
+
+
+@cache
+def _printed(text: bytes) -> bytes:
+    return events.run(text)
