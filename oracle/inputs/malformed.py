@@ -101,6 +101,8 @@ def tab_files() -> Iterator[EventFile]:
         lines = [b"\t" + good, good + b"\t", b"\t" + good + b"\t", good + b"\t\t"]
         lines += [good[:at] + b"\t" + good[at:] for at in _tabs(good)]
         yield probed(f"tabs-{letter}", lines)
+    lines = [b"\t" * count for count in (1, 2, 3, 4, 5, 6, 79, 80, 81)]
+    yield probed("tabs-many", [*lines, *(good.ljust(80, b"\t") for good in GOOD.values())])
 
 
 def blank_files() -> Iterator[EventFile]:
