@@ -1,6 +1,6 @@
 """Compare the stored expectations with what the model generates, or write them.
 
-    python3 oracle/expectations.py           says which agree; exit 1 if one differs
+    python3 oracle/expectations.py           says which differ; exit 1 if one does
     python3 oracle/expectations.py --write   writes them all
 """
 
@@ -8,25 +8,33 @@ import sys
 from collections.abc import Callable
 from pathlib import Path
 
+import event_files
 import replay
 import tables
 
-EXPECTATIONS: list[tuple[str, Callable[[], str]]] = [
+# An event file may have any bytes; the others are text.
+EXPECTATIONS: list[tuple[str, Callable[[], str | bytes]]] = [
     ("crates/directory_tables/stdout", tables.directory_tables),
     *replay.expectations(),
+    *event_files.expectations(),
 ]
 
 ROOT = Path(__file__).resolve().parent.parent
 
 
+def bytes_of(generated: str | bytes) -> bytes:
+    return generated.encode() if isinstance(generated, str) else generated
+
+
 def agrees(path: str, generated: bytes) -> bool:
-    """Say whether the stored file is what the model generates."""
+    """Say where the stored file is not what the model generates."""
     stored = ROOT / path
     if not stored.is_file():
         print(f"{path}: missing")
         return False
     same = stored.read_bytes() == generated
-    print(f"{path}: {'as generated' if same else 'differs'}")
+    if not same:
+        print(f"{path}: differs")
     return same
 
 
@@ -34,8 +42,15 @@ def write(path: str, generated: bytes) -> bool:
     """Store what the model generates."""
     (ROOT / path).parent.mkdir(parents=True, exist_ok=True)
     (ROOT / path).write_bytes(generated)
-    print(f"{path}: written")
     return True
+
+
+def strays() -> list[str]:
+    """Files that stand among a program's data and are not generated."""
+    listed = {ROOT / path for path, _ in EXPECTATIONS}
+    folders = {path.parent for path in listed if path.parent.name == "data"}
+    found = [path for folder in folders for path in folder.glob("*") if path not in listed]
+    return sorted(str(path.relative_to(ROOT)) for path in found)
 
 
 def main(arguments: list[str]) -> int:
@@ -43,8 +58,11 @@ def main(arguments: list[str]) -> int:
         print("usage: expectations.py [--write]", file=sys.stderr)
         return 2
     step = write if arguments else agrees
-    done = [step(path, generate().encode()) for path, generate in EXPECTATIONS]
-    return 0 if all(done) else 1
+    done = [step(path, bytes_of(generate())) for path, generate in EXPECTATIONS]
+    print(f"{sum(done)} of {len(done)} files {'written' if arguments else 'as generated'}")
+    for path in strays():
+        print(f"{path}: not generated")
+    return 0 if all(done) and not strays() else 1
 
 
 if __name__ == "__main__":

@@ -1,4 +1,5 @@
-"""The papers' tables and examples, run against the model; random lists of calls; call scripts.
+"""The papers' tables and examples, run against the model; random lists of calls; call scripts;
+event files.
 
 Prints one line per group and `ok` at the end; stops with exit 1 at the first mismatch.
 """
@@ -6,7 +7,7 @@ Prints one line per group and `ok` at the end; stops with exit 1 at the first mi
 import sys
 from collections.abc import Callable
 
-from checks import random_lists, readings, replays, vectors
+from checks import event_files, random_lists, readings, replays, vectors
 from checks.bench import Mismatch, done
 
 GROUPS: list[tuple[str, Callable[[], None]]] = [
@@ -19,11 +20,13 @@ GROUPS: list[tuple[str, Callable[[], None]]] = [
     ("burst order, table 3-9", vectors.burst_order),
     ("fill vectors", vectors.fill_vectors),
     ("bench table", vectors.bench_table),
+    ("program start", vectors.program_start),
     ("program example", vectors.program_example),
     ("readings of document 01", readings.readings),
     ("random lists against the plain memory", random_lists.random_lists),
     ("refused calls", random_lists.refused_calls),
     ("call scripts", replays.replays),
+    ("event files", event_files.event_file_checks),
 ]
 
 

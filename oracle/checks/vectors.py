@@ -317,6 +317,18 @@ PROGRAM_OUTPUT = b"""event\tanswer\tvalue\tcycles
 """
 
 
+def program_start() -> None:
+    """Rule: "65,536 zero RAM bytes, zero parity, a zero data array, a reset directory"."""
+    unit = events.program_unit()
+    check("RAM", bytes(unit.ram), bytes(65_536))
+    check("parity", bytes(unit.parity), bytes(16_384))
+    check("data array", bytes(unit.data), bytes(8192))
+    check("directory", unit.directory, steps.reset())
+    check("header", events.HEADER, b"event\tanswer\tvalue\tcycles\n")
+    check("empty input", events.run(b""), events.HEADER)
+    check("number 12", events.run(bytes(65_537)), events.HEADER + b"0\t12\t0\t0\n")
+
+
 def program_example() -> None:
     check("without a last newline", events.run(PROGRAM_INPUT), PROGRAM_OUTPUT)
     check("with it", events.run(PROGRAM_INPUT + b"\n"), PROGRAM_OUTPUT)

@@ -1,0 +1,1 @@
+"""The event files of the program `event_files`, by subject."""
