@@ -138,12 +138,16 @@ digits-some most n =
     by-test (λ t. 1 ≤ length (cond t [] (digitsOf most (n / 10)) ++ ((48 + n % 10) ∷ []))) (ltb n 10) (λ _. omega arith)
     (λ _. rw (length-append (digitsOf most (n / 10)) ((48 + n % 10) ∷ [])) (omega arith))
 
+pub decimal-most : (n : ℕ) → n ≤ 4294967295 → length (decimal n) ≤ 10
+unfolding decimal
+decimal-most n h = digits-most (suc n) 9 n (omega (arith, h))
+
 -- Scanning what was printed gives the number back.
 pub printed-scanned : (n : ℕ) → n ≤ 4294967295 → numberOf (decimal n) ≡ Value n
 unfolding decimal
 printed-scanned n h =
     let v : valueOf (digitsOf (suc n) n) ≡ n = digits-value (suc n) n (omega arith) in
-    sym (rw v at (number-value (digitsOf (suc n) n) (digits-some n n) (digits-most (suc n) 9 n (omega (arith, h))) (digits-all (suc n) n) (rw v h)))
+    sym (rw v at (number-value (digitsOf (suc n) n) (digits-some n n) (decimal-most n h) (digits-all (suc n) n) (rw v h)))
 
 -- a field of one byte, and one of none or more
 pub bit-one : (field : List ℕ) → length field ≡ 1 → bitOf field ≡ bitOf (getD field 0 0 ∷ [])

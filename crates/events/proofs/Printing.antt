@@ -77,16 +77,16 @@ lines-next l e some place =
     (λ last. rw (parts-end newline l (sym place ∙ last)) (last-line l e some last))
     (λ more. rw (parts-more newline l (omega (arith, place, index-most newline l)), ← place) (more-lines (take e l) (drop (suc e) l)))
 
--- The rows that are left at a place of the input, from a state and the number of events so far.
+-- The rows that are left at a place of the input, from a state and the number of the next event.
 abbrev pub left : List ℕ → State → ℕ → ℕ → List ℕ
-left input s event place = rowsOf s (event + 1) (linesOf (drop place input))
+left input s event place = rowsOf s event (linesOf (drop place input))
 
 pub left-none : (input : List ℕ) (s : State) (event place : ℕ) → length input ≤ place → left input s event place ≡ []
 unfolding rowsOf linesOf withoutEmptyEnd partsOf
 left-none input s event place h = rw (drop-of-length-le input h)
 
 -- The next line's row comes first.
-left-next : (input : List ℕ) (s : State) (event place : ℕ) (rest : List ℕ) (e : ℕ) (done : Outcome) (m : Memory) (array : List ℕ) → place < length input → rest ≡ take (length input - place) (drop place input) → e ≡ indexOf newline rest → performed done m array ≡ lineDone s (take e rest) → left input s event place ≡ rowFor (event + 1) done ++ left input (state (done .directory) m array) (event + 1) (place + e + 1)
+left-next : (input : List ℕ) (s : State) (event place : ℕ) (rest : List ℕ) (e : ℕ) (done : Outcome) (m : Memory) (array : List ℕ) → place < length input → rest ≡ take (length input - place) (drop place input) → e ≡ indexOf newline rest → performed done m array ≡ lineDone s (take e rest) → left input s event place ≡ rowFor event done ++ left input (state (done .directory) m array) (event + 1) (place + e + 1)
 unfolding rowsOf
 left-next input s event place rest e done m array h r i d =
     let whole : rest ≡ drop place input = r ∙ take-all (length input - place) (drop place input) (omega (arith, length-drop place input)) in
@@ -95,12 +95,12 @@ left-next input s event place rest e done m array h r i d =
     let sum : place + suc e ≡ place + e + 1 = omega arith in
     let far : drop (suc e) (drop place input) ≡ drop (place + e + 1) input = drop-drop (suc e) place input ∙ rw sum in
     let line : lineDone s (take e (drop place input)) ≡ performed done m array = ap (λ l. lineDone s (take e l)) (sym whole) ∙ sym d in
-    rw (lines-next (drop place input) e some at, far, line, add-one (event + 1))
+    rw (lines-next (drop place input) e some at, far, line, add-one event)
 
 -- Its row put, what is left after it gives what was left before it.
-pub line-done : (input : List ℕ) (s : State) (event place : ℕ) (rest : List ℕ) (e : ℕ) (done : Outcome) (m : Memory) (array out printed whole : List ℕ) (at next total : ℕ) → place < length input → rest ≡ take (length input - place) (drop place input) → e ≡ indexOf newline rest → performed done m array ≡ lineDone s (take e rest) → next ≡ at + length (rowFor (event + 1) done) → printed ≡ sets out at (rowFor (event + 1) done) → at + length (left input s event place) ≡ total → sets out at (left input s event place) ≡ whole → (next + length (left input (state (done .directory) m array) (event + 1) (place + e + 1)) ≡ total) × (sets printed next (left input (state (done .directory) m array) (event + 1) (place + e + 1)) ≡ whole)
+pub line-done : (input : List ℕ) (s : State) (event place : ℕ) (rest : List ℕ) (e : ℕ) (done : Outcome) (m : Memory) (array out printed whole : List ℕ) (at next total : ℕ) → place < length input → rest ≡ take (length input - place) (drop place input) → e ≡ indexOf newline rest → performed done m array ≡ lineDone s (take e rest) → next ≡ at + length (rowFor event done) → printed ≡ sets out at (rowFor event done) → at + length (left input s event place) ≡ total → sets out at (left input s event place) ≡ whole → (next + length (left input (state (done .directory) m array) (event + 1) (place + e + 1)) ≡ total) × (sets printed next (left input (state (done .directory) m array) (event + 1) (place + e + 1)) ≡ whole)
 line-done input s event place rest e done m array out printed whole at next total h r i d n p t w =
-    let row = rowFor (event + 1) done in
+    let row = rowFor event done in
     let after = left input (state (done .directory) m array) (event + 1) (place + e + 1) in
     let both = left-next input s event place rest e done m array h r i d in (
       omega (arith, t, ap length both, length-append row after, n),

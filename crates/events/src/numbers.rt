@@ -59,9 +59,9 @@ pub fn scan_bit(field: &[u8]) -> Number
 
 // Puts the decimal text of n at a place of out, as far as out goes, and answers the place after it.
 pub fn put_number(out: &mut [u8], at: usize, n: u32) -> usize
-    requires { ⌜ at ≤ 1152921504606846976 ⌝ }
+    requires { ⌜ at ≤ 8589934592 ⌝ }
     ensures { λ r. ⌜ (r ≡ at + length (decimal n)) × (now (out .exit) ≡ sets (now (out .entry)) at (decimal n)) ⌝ }
-    ensures { λ r. ⌜ r ≤ at + n + 1 ⌝ }
+    ensures { λ r. ⌜ r ≤ at + 10 ⌝ }
 {
     if n < 10 {
         put(out, at, 48 + n as u8);

@@ -30,9 +30,9 @@ pub fn put_header(out: &mut [u8]) -> usize
 
 // Puts a row at a place of out, as far as out goes, and answers the place after it.
 pub fn put_row(out: &mut [u8], at: usize, event: u32, number: u32, value: u32, cycles: u32) -> usize
-    requires { ⌜ at ≤ 576460752303423488 ⌝ }
+    requires { ⌜ at ≤ 4294967296 ⌝ }
     ensures { λ r. ⌜ (r ≡ at + length (rowOf event number value cycles)) × (now (out .exit) ≡ sets (now (out .entry)) at (rowOf event number value cycles)) ⌝ }
-    ensures { λ r. ⌜ r ≤ at + 34359738368 ⌝ }
+    ensures { λ r. ⌜ r ≤ at + 44 ⌝ }
 {
     let a = put_number(out, at, event);
     put(out, a, b'\t');

@@ -11,9 +11,11 @@ use crate::rows::put_header;
 use crate::rows::put_row;
 use directory::Directory;
 
-// Puts the output of the program for the input at the start of output, as far as output goes, and answers its length.
+// Puts the output of the program for the input at the start of output, as far as output goes, and answers its length, for
+// which 2,883,654 bytes are enough.
 pub fn run(input: &[u8], output: &mut [u8]) -> usize
     ensures { λ r. ⌜ (r ≡ length (outputOf (now (input .entry)))) × (now (output .exit) ≡ sets (now (output .entry)) 0 (outputOf (now (input .entry)))) ⌝ }
+    ensures { λ r. ⌜ r ≤ 2883654 ⌝ }
 {
     let at = put_header(output);
     if 65536 < input.len() {
@@ -26,20 +28,21 @@ pub fn run(input: &[u8], output: &mut [u8]) -> usize
 fn run_lines(input: &[u8], output: &mut [u8], from: usize) -> usize
     requires { ⌜ (length (now input) ≤ 65536) × (from ≤ 65536) ⌝ }
     ensures { λ r. ⌜ (r ≡ from + length (rowsOf start 1 (linesOf (now (input .entry))))) × (now (output .exit) ≡ sets (now (output .entry)) from (rowsOf start 1 (linesOf (now (input .entry))))) ⌝ }
+    ensures { λ r. ⌜ r ≤ from + 2883628 ⌝ }
 {
     let mut directory = Directory::reset();
     let mut ram = [0u8; 65536];
     let mut parity = [0u8; 16384];
     let mut data = [0u8; 8192];
-    let mut event: u32 = 0;
+    let mut event: u32 = 1;
     let mut place: usize = 0;
     let mut at = from;
     while place < input.len() {
         let rest = &input[place..];
         let end = end_of(rest, b'\n');
         let done = perform(directory, &mut ram, &mut parity, &mut data, &rest[..end]);
-        event += 1;
         at = put_row(output, at, event, done.number, done.value, done.cycles);
+        event += 1;
         directory = done.directory;
         place = place + end + 1;
     }

@@ -1,3 +1,4 @@
+use Rattle.events.proofs.Digits.{decimal-most}
 use Prim.Native.Nat.{_<_}
 use Rattle.events.proofs.Printing.{digit-only, digit-last}
 use mathlib.Core.Path.{_≡_, refl, sym, _∙_}
@@ -9,6 +10,7 @@ use borrow.Fn.PlainCycle.{Measures, is, falls, and}
 use Rattle.events.proofs.numbers.put_number.Reads as put-number
 use Rattle.events.proofs.numbers.put_number.Kinds as put-number-kinds
 use Rattle.events.proofs.numbers.+put_number.Lts-put_number as put-number-lts
+use Rattle.events.proofs.rows.put.Reads as put-reads
 use Rattle.events.proofs.numbers.+put_number.{statement}
 use Rattle.events.proofs.numbers.+put_number.Tie.{close}
 
@@ -109,7 +111,7 @@ put-number-add-result-2 : (t : ℕ) → put-number-lts.Need-add-result-2 (
   put-number-below t,
   put-number.Post,
 ) (put-number-at t) put-number.Post
-put-number-add-result-2 t c = omega (arith, c .before .before .before .before .before .before .put-number .ensures)
+put-number-add-result-2 t c = omega (arith, c .before .before .before .before .before .before .put-number .ensures .1)
 
 put-number-same-length-2 : (t : ℕ) → put-number-lts.Need-same-length-2 (
   put-reads.Asked,
@@ -125,7 +127,7 @@ put-number-returns-2 : (t : ℕ) → put-number-lts.Need-returns-2 (
   put-number-below t,
   put-number.Post,
 ) (put-number-at t) put-number.Post
-put-number-returns-2 t c = (let d = digit-last (c .before .before .before .before .before .before .before .before .before .before .args .out .now) (c .before .before .before .before .before .before .before .before .before .before .args .at) (c .before .before .before .before .before .before .before .before .before .before .args .n) (c .before .before .before .before .before .before .put-number .result) _ (omega arith) (c .before .before .before .before .before .before .put-number .ensures .0 .0) (c .before .before .before .before .before .before .put-number .ensures .0 .1) in (d .0, c .before .before .put2 .ensures ∙ d .1), omega (arith, c .before .before .before .before .before .before .put-number .ensures .1))
+put-number-returns-2 t c = let d = digit-last (c .before .before .before .before .before .before .before .before .before .before .args .out .now) (c .before .before .before .before .before .before .before .before .before .before .args .at) (c .before .before .before .before .before .before .before .before .before .before .args .n) (c .before .before .before .before .before .before .put-number .result) _ (omega arith) (c .before .before .before .before .before .before .put-number .ensures .0 .0) (c .before .before .before .before .before .before .put-number .ensures .0 .1) in ((d .0, c .before .before .put2 .ensures ∙ d .1), omega (arith, d .0, decimal-most (c .before .before .before .before .before .before .before .before .before .before .args .n) (omega arith)))
 
 pub +put-number-spec : {M : Type 1} → statement M
 +put-number-spec = close μ-put-number λ t. put-number-lts.spec (

@@ -15,7 +15,7 @@ same-length : tie.Need-same-length
 same-length c = search needs
 
 returns : tie.Need-returns
-returns c = rw (output-long (c .before .before .before .before .before .before .before .before .before .before .before .args .input .now) (c .before .before .before .before .if1 .taken)) (after-header (c .before .before .before .before .before .before .before .before .before .before .before .args .output .now) _ _ _ _ _ (c .before .before .before .before .before .before .before .put-header .ensures .0) (c .before .before .before .before .before .before .before .put-header .ensures .1) (c .before .before .put-row .ensures .0 .0) (c .before .before .put-row .ensures .0 .1))
+returns c = (rw (output-long (c .before .before .before .before .before .before .before .before .before .before .before .args .input .now) (c .before .before .before .before .if1 .taken)) (after-header (c .before .before .before .before .before .before .before .before .before .before .before .args .output .now) _ _ _ _ _ (c .before .before .before .before .before .before .before .put-header .ensures .0) (c .before .before .before .before .before .before .before .put-header .ensures .1) (c .before .before .put-row .ensures .0 .0) (c .before .before .put-row .ensures .0 .1)), omega (arith, c .before .before .before .before .before .before .before .put-header .ensures .0, header-length, c .before .before .put-row .ensures .1))
 
 run-lines-requires : tie.Need-run-lines-requires
 run-lines-requires c κs = (omega arith, omega (arith, c .before .before .before .before .put-header .ensures, header-length))
@@ -24,7 +24,7 @@ same-length-2 : tie.Need-same-length-2
 same-length-2 c = search needs
 
 returns-2 : tie.Need-returns-2
-returns-2 c = rw (output-lines (c .before .before .before .before .before .before .before .before .before .before .before .args .input .now) (omega arith)) (after-header (c .before .before .before .before .before .before .before .before .before .before .before .args .output .now) _ _ _ _ _ (c .before .before .before .before .before .before .before .put-header .ensures .0) (c .before .before .before .before .before .before .before .put-header .ensures .1) (c .before .before .run-lines .ensures .0) (c .before .before .run-lines .ensures .1))
+returns-2 c = (rw (output-lines (c .before .before .before .before .before .before .before .before .before .before .before .args .input .now) (omega arith)) (after-header (c .before .before .before .before .before .before .before .before .before .before .before .args .output .now) _ _ _ _ _ (c .before .before .before .before .before .before .before .put-header .ensures .0) (c .before .before .before .before .before .before .before .put-header .ensures .1) (c .before .before .run-lines .ensures .0 .0) (c .before .before .run-lines .ensures .0 .1)), omega (arith, c .before .before .before .before .before .before .before .put-header .ensures .0, header-length, c .before .before .run-lines .ensures .1))
 
 pub run-spec : {M : Type 1} → statement M
 run-spec =
