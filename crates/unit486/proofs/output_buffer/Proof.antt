@@ -1,0 +1,11 @@
+use Rattle.unit486.proofs.output_buffer.Statement.{statement}
+use Rattle.unit486.proofs.output_buffer.Tie as tie
+use Rattle.unit486.proofs.output_buffer.Reads as reads
+use Rattle.unit486.proofs.output_buffer.Lts as lts
+
+-- src/main.rt:49:1
+returns : tie.Need-returns
+returns c = ?
+
+pub output-buffer-spec : {M : Type 1} → statement M
+output-buffer-spec = tie.close (tie.spec returns)

@@ -1,0 +1,119 @@
+use Rattle.unit486.proofs.read_input.Statement.{statement}
+use Rattle.unit486.proofs.read_input.Tie as tie
+use Rattle.unit486.proofs.read_input.Reads as reads
+use Rattle.unit486.proofs.read_input.Lts as lts
+use Rattle.io.proofs.count.Reads as count-reads
+use Rattle.libc.proofs.read.Reads as read-reads
+
+abbrev Inv-loop : tie.InvT-loop
+Inv-loop buffer₀ done₀ buffer done = ?
+
+abbrev μ-loop : tie.MeasureT-loop
+μ-loop buffer₀ done₀ buffer done = ?
+
+-- src/main.rt:21:5
+loop-holds : tie.Need-loop-holds Inv-loop μ-loop
+loop-holds c = ?
+
+-- src/main.rt:22:44
+sub-read : tie.Need-sub-read Inv-loop μ-loop
+sub-read c = ?
+
+-- src/main.rt:22:44
+part-read-start : tie.Need-part-read-start Inv-loop μ-loop
+part-read-start c = ?
+
+-- src/main.rt:22:44
+part-read-end : tie.Need-part-read-end Inv-loop μ-loop
+part-read-end c = ?
+
+-- src/main.rt:22:13
+read-requires : tie.Need-read-requires Inv-loop μ-loop
+read-requires c κs = ?
+
+-- src/main.rt:24:13
+same-length : tie.Need-same-length Inv-loop μ-loop
+same-length c = ?
+
+-- src/main.rt:24:13
+returns : tie.Need-returns Inv-loop μ-loop
+returns c = ?
+
+-- src/main.rt:26:32
+sub-count : tie.Need-sub-count Inv-loop μ-loop
+sub-count c = ?
+
+-- src/main.rt:26:32
+part-count-start : tie.Need-part-count-start Inv-loop μ-loop
+part-count-start c = ?
+
+-- src/main.rt:26:32
+part-count-end : tie.Need-part-count-end Inv-loop μ-loop
+part-count-end c = ?
+
+-- src/main.rt:26:13
+count-requires : tie.Need-count-requires Inv-loop μ-loop
+count-requires c κs = ?
+
+-- src/main.rt:28:20
+cast-result : tie.Need-cast-result Inv-loop μ-loop
+cast-result c = ?
+
+-- src/main.rt:28:13
+same-length-2 : tie.Need-same-length-2 Inv-loop μ-loop
+same-length-2 c = ?
+
+-- src/main.rt:28:13
+returns-2 : tie.Need-returns-2 Inv-loop μ-loop
+returns-2 c = ?
+
+-- src/main.rt:30:9
+add-done : tie.Need-add-done Inv-loop μ-loop
+add-done c = ?
+
+-- src/main.rt:21:5
+loop-less : tie.Need-loop-less Inv-loop μ-loop
+loop-less c = ?
+
+-- src/main.rt:21:5
+loop-again : tie.Need-loop-again Inv-loop μ-loop
+loop-again c = ?
+
+-- src/main.rt:32:5
+cast-result-2 : tie.Need-cast-result-2 Inv-loop μ-loop
+cast-result-2 c = ?
+
+-- src/main.rt:19:1
+same-length-3 : tie.Need-same-length-3 Inv-loop μ-loop
+same-length-3 c = ?
+
+-- src/main.rt:19:1
+returns-3 : tie.Need-returns-3 Inv-loop μ-loop
+returns-3 c = ?
+
+pub read-input-spec : {M : Type 1} → statement M
+read-input-spec =
+    tie.close
+    (tie.spec
+    Inv-loop
+    μ-loop
+    loop-holds
+    sub-read
+    part-read-start
+    part-read-end
+    read-requires
+    same-length
+    returns
+    sub-count
+    part-count-start
+    part-count-end
+    count-requires
+    cast-result
+    same-length-2
+    returns-2
+    add-done
+    loop-less
+    loop-again
+    cast-result-2
+    same-length-3
+    returns-3)
