@@ -5,8 +5,9 @@ use mathlib.Core.Bool.{Bool}
 use mathlib.Core.List.{List, [], _∷_, _++_}
 use native.Mathlib.Omega.{arith}
 use native.Mathlib.Decide.{decLe}
-use lib.ListN.{length, set, take, drop, length-append, length-take, length-drop}
+use lib.ListN.{length, take, drop, length-append, length-take, length-drop}
 use lib.Seq.{drop-drop, sets}
+use Rattle.laws.proofs.Lists.{sets-append}
 use Rattle.bus.specs.Parity.{Memory}
 use Rattle.bus.specs.Bus.{run}
 use Rattle.bus.specs.Record.{Record, logged, wordsOf}
@@ -23,13 +24,6 @@ use Rattle.access.specs.Access.{State, state, Progress, allOf, next, rea
 use Rattle.doubleword.specs.Moves.{doublewordOf, BelowFour, Spot, Reads, Writes}
 use Rattle.access.specs.Walks.{wantedOf, nextWalk, restOf, Path, nextDoubleword, ReadStep, WriteStep}
 use Rattle.access.proofs.Values.{one-length, one-memory}
-
--- lists put in one after the other
-pub sets-append : {A : Type 0} (l : List A) (i : ℕ) (a b : List A) → sets l i (a ++ b) ≡ sets (sets l i a) (i + length a) b
-sets-append l i [] b = let e : i + 0 ≡ i = omega arith in rw e
-sets-append l i (x ∷ a) b =
-    let e : i + suc (length a) ≡ suc i + length a = omega arith in
-    rw e (sets-append (set l i x) (suc i) a b)
 
 words-append : (a b : List Record) → wordsOf (a ++ b) ≡ wordsOf a ++ wordsOf b
 unfolding wordsOf

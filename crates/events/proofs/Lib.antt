@@ -1,7 +1,2 @@
 -- Laws that the proofs of several functions cite.
-pub mod Digits
-pub mod Parts
-pub mod Forms
-pub mod Pairs
-pub mod Within
-pub mod Printing
+pub mod Rest

@@ -1,6 +1,3 @@
--- The event program by document 01, 'Board table and program': what a reader must believe of this crate.
-pub mod Number
-pub mod Fields
-pub mod Scan
+-- The run of event lines by document 01, 'Board table and program': what a reader must believe of this crate.
 pub mod Perform
 pub mod Output

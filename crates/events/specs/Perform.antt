@@ -8,10 +8,10 @@ use Rattle.access.specs.declared.outcome.Outcome.{Outcome}
 use Rattle.access.specs.Access.{State, After, outcome, readCall, writeCall}
 use Rattle.access.specs.Masters.{Written, externalCall, snoopOutcome, controlOutcome, flushOutcome, resetOutcome}
 use Rattle.access.specs.Board.{boardAnswers}
-use Rattle.events.specs.declared.scanning.Event.{Event}
-use Rattle.events.specs.declared.scanning.Event.the-variants.{Malformed, Read, Write, External, Snoop, Flush, Control, Reset}
-use Rattle.events.specs.Fields.{bytesOf}
-use Rattle.events.specs.Scan.{scanned}
+use Rattle.lines.specs.declared.scanning.Event.{Event}
+use Rattle.lines.specs.declared.scanning.Event.the-variants.{Malformed, Read, Write, External, Snoop, Flush, Control, Reset}
+use Rattle.lines.specs.Fields.{bytesOf}
+use Rattle.lines.specs.Scan.{scanned}
 
 -- What an event leaves: its answer with the directory, memory, the data array.
 pub record Performed : Type 0 where
@@ -48,5 +48,6 @@ eventDone s line Flush = answered s (flushOutcome (s .directory))
 eventDone s line (Control cd nw) = answered s (controlOutcome (s .directory) cd nw)
 eventDone s line Reset = answered s resetOutcome
 
+-- A line does what its event does.
 unfoldable pub lineDone : State → List ℕ → Performed
 lineDone s line = eventDone s line (scanned line)

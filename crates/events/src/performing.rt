@@ -6,13 +6,13 @@ ghost use Rattle.bus.specs.Parity.{memory};
 ghost use Rattle.access.specs.Access.{outcome, readCall, state, writeCall};
 ghost use Rattle.access.specs.Board.{boardAnswers};
 ghost use Rattle.access.specs.Masters.{externalCall, written};
-ghost use Rattle.events.specs.Fields.{bytesOf};
+ghost use Rattle.lines.specs.Fields.{bytesOf};
 ghost use Rattle.events.specs.Perform.{afterAccess, blank, lineDone, performed};
-use crate::fields::bytes_of;
-use crate::scanning::Event;
-use crate::scanning::scan;
 use access::Outcome;
 use directory::Directory;
+use lines::Event;
+use lines::bytes_of;
+use lines::scan;
 
 // The line's event with the board's answers. A malformed line answers 11.
 pub fn perform(

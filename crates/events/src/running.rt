@@ -3,13 +3,13 @@ ghost use mathlib.Core.Path.{_≡_};
 ghost use Prim.Native.Nat.{_+_, _≤_};
 ghost use lib.ListN.{length};
 ghost use lib.Seq.{sets};
-ghost use Rattle.events.specs.Fields.{linesOf};
+ghost use Rattle.lines.specs.Fields.{linesOf};
 ghost use Rattle.events.specs.Output.{outputOf, rowsOf, start};
-use crate::fields::end_of;
 use crate::performing::perform;
-use crate::rows::put_header;
-use crate::rows::put_row;
 use directory::Directory;
+use lines::end_of;
+use lines::put_header;
+use lines::put_row;
 
 // Puts the output of the program for the input at the start of output, as far as output goes, and answers its length, for
 // which 2,883,654 bytes are enough.

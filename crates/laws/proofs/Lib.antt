@@ -1,3 +1,4 @@
 -- Plain laws that the proofs of every crate cite.
 pub mod Tests
 pub mod Below
+pub mod Lists

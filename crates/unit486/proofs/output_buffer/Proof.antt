@@ -1,3 +1,6 @@
+use Prim.Native.Nat.{ℕ}
+use mathlib.Core.Path.{sym}
+use lib.ListN.{length-replicate}
 use Rattle.unit486.proofs.output_buffer.Statement.{statement}
 use Rattle.unit486.proofs.output_buffer.Tie as tie
 use Rattle.unit486.proofs.output_buffer.Reads as reads
@@ -5,7 +8,7 @@ use Rattle.unit486.proofs.output_buffer.Lts as lts
 
 -- src/main.rt:49:1
 returns : tie.Need-returns
-returns c = ?
+returns c = sym (length-replicate {A = ℕ} 2883654 0)
 
 pub output-buffer-spec : {M : Type 1} → statement M
 output-buffer-spec = tie.close (tie.spec returns)

@@ -1,3 +1,8 @@
+use lib.ListN.{length}
+use mathlib.Core.Path.{_≡_, refl, _∙_}
+use Prim.Native.Nat.{_≤_, _-_}
+use borrow.Author.Needs.{needs}
+use native.Mathlib.Omega.{arith}
 use Rattle.unit486.proofs.read_input.Statement.{statement}
 use Rattle.unit486.proofs.read_input.Tie as tie
 use Rattle.unit486.proofs.read_input.Reads as reads
@@ -6,14 +11,14 @@ use Rattle.io.proofs.count.Reads as count-reads
 use Rattle.libc.proofs.read.Reads as read-reads
 
 abbrev Inv-loop : tie.InvT-loop
-Inv-loop buffer₀ done₀ buffer done = ?
+Inv-loop buffer₀ done₀ buffer done = (done ≤ length buffer) × (length buffer ≡ length buffer₀)
 
 abbrev μ-loop : tie.MeasureT-loop
-μ-loop buffer₀ done₀ buffer done = ?
+μ-loop buffer₀ done₀ buffer done = length buffer₀ - done
 
 -- src/main.rt:21:5
 loop-holds : tie.Need-loop-holds Inv-loop μ-loop
-loop-holds c = ?
+loop-holds c = (omega arith, refl)
 
 -- src/main.rt:22:44
 sub-read : tie.Need-sub-read Inv-loop μ-loop
@@ -29,7 +34,7 @@ part-read-end c = ?
 
 -- src/main.rt:22:13
 read-requires : tie.Need-read-requires Inv-loop μ-loop
-read-requires c κs = ?
+read-requires c κs = search needs
 
 -- src/main.rt:24:13
 same-length : tie.Need-same-length Inv-loop μ-loop
@@ -37,7 +42,7 @@ same-length c = ?
 
 -- src/main.rt:24:13
 returns : tie.Need-returns Inv-loop μ-loop
-returns c = ?
+returns c = search needs
 
 -- src/main.rt:26:32
 sub-count : tie.Need-sub-count Inv-loop μ-loop
@@ -53,7 +58,7 @@ part-count-end c = ?
 
 -- src/main.rt:26:13
 count-requires : tie.Need-count-requires Inv-loop μ-loop
-count-requires c κs = ?
+count-requires c κs = search needs
 
 -- src/main.rt:28:20
 cast-result : tie.Need-cast-result Inv-loop μ-loop
@@ -65,7 +70,7 @@ same-length-2 c = ?
 
 -- src/main.rt:28:13
 returns-2 : tie.Need-returns-2 Inv-loop μ-loop
-returns-2 c = ?
+returns-2 c = search needs
 
 -- src/main.rt:30:9
 add-done : tie.Need-add-done Inv-loop μ-loop
@@ -77,7 +82,7 @@ loop-less c = ?
 
 -- src/main.rt:21:5
 loop-again : tie.Need-loop-again Inv-loop μ-loop
-loop-again c = ?
+loop-again c = (?, ?)
 
 -- src/main.rt:32:5
 cast-result-2 : tie.Need-cast-result-2 Inv-loop μ-loop
@@ -85,11 +90,11 @@ cast-result-2 c = ?
 
 -- src/main.rt:19:1
 same-length-3 : tie.Need-same-length-3 Inv-loop μ-loop
-same-length-3 c = ?
+same-length-3 c = c .before .loop .inv .1
 
 -- src/main.rt:19:1
 returns-3 : tie.Need-returns-3 Inv-loop μ-loop
-returns-3 c = ?
+returns-3 c = search needs
 
 pub read-input-spec : {M : Type 1} → statement M
 read-input-spec =

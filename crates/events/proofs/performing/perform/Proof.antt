@@ -1,5 +1,5 @@
-use Rattle.events.proofs.Pairs.{drop-part}
-use Rattle.events.proofs.Within.{external-line}
+use Rattle.lines.proofs.Pairs.{drop-part}
+use Rattle.lines.proofs.Within.{external-line}
 use Rattle.events.specs.Perform.{lineDone, eventDone, afterExternal}
 use Rattle.access.specs.Access.{state}
 use Rattle.bus.specs.Parity.{memory}

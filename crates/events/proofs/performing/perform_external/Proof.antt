@@ -1,5 +1,5 @@
-use Rattle.events.specs.Fields.{bytesOf}
-use Rattle.events.proofs.Pairs.{front-count, pairs-length}
+use Rattle.lines.specs.Fields.{bytesOf}
+use Rattle.lines.proofs.Pairs.{front-count, pairs-length}
 use mathlib.Core.Path.{_≡_, refl, sym, ap, _∙_}
 use native.Mathlib.Omega.{arith}
 use borrow.Author.Needs.{needs}

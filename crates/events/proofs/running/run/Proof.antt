@@ -1,4 +1,5 @@
-use Rattle.events.proofs.Printing.{output-long, output-lines, header-length, after-header}
+use Rattle.lines.proofs.Printing.{header-length}
+use Rattle.events.proofs.Rest.{output-long, output-lines, after-header}
 use mathlib.Core.Path.{_≡_, refl, sym, ap, _∙_}
 use borrow.Author.Needs.{needs}
 use native.Mathlib.Omega.{arith}

@@ -1,8 +1,8 @@
 use mathlib.Core.List.{[]}
 use denote.Ref.{now}
-use Rattle.events.proofs.Printing.{left, left-none, line-done}
+use Rattle.events.proofs.Rest.{left, left-none, line-done}
 use Rattle.events.specs.Output.{rowsOf, start}
-use Rattle.events.specs.Fields.{linesOf}
+use Rattle.lines.specs.Fields.{linesOf}
 use Rattle.access.specs.Access.{state}
 use Rattle.bus.specs.Parity.{memory}
 use lib.Seq.{sets, length-take-le}

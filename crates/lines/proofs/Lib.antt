@@ -1,0 +1,7 @@
+-- Laws that the proofs of several functions cite.
+pub mod Digits
+pub mod Parts
+pub mod Forms
+pub mod Pairs
+pub mod Within
+pub mod Printing

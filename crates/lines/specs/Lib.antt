@@ -1,0 +1,5 @@
+-- Event lines and rows as text, by document 01, 'Board table and program': what a reader must believe of this crate.
+pub mod Number
+pub mod Fields
+pub mod Scan
+pub mod Row
