@@ -1,11 +1,10 @@
 -- Laws of a line's fields: how many there are, and what a line of them asks for.
-use Prim.Native.Nat.{ℕ, zero, suc, _+_, _-_, _≤_, _<_}
-use mathlib.Core.Path.{_≡_, refl, sym, ap, _∙_}
+use Prim.Native.Nat.{ℕ, suc, _+_, _-_, _≤_, _<_}
+use mathlib.Core.Path.{_≡_, refl, sym, _∙_}
 use mathlib.Core.Bool.{Bool, true, false, cond}
 use mathlib.Core.List.{List, [], _∷_}
 use native.Mathlib.Omega.{arith}
 use native.Mathlib.Numerals.{add-one}
-use lib.Dec.{eqb, ltb}
 use lib.ListN.{length, take, drop, getD, length-drop}
 use lib.Seq.{take-all, length-take-le}
 use borrow.Author.Tests.{le-ltb, lt-ltb, ne-eqb}
@@ -14,7 +13,7 @@ use Rattle.bytes.specs.Bytes.{indexOf}
 use Rattle.lines.specs.declared.numbers.Number.the-variants.{Value, NotANumber}
 use Rattle.lines.specs.declared.scanning.Event.{Event}
 use Rattle.lines.specs.declared.scanning.Event.the-variants.{Malformed}
-use Rattle.lines.specs.Fields.{tab, fieldsOf, partsOf}
+use Rattle.lines.specs.Fields.{tab, fieldsOf}
 use Rattle.lines.specs.Number.{numberOf, bitOf}
 use Rattle.lines.specs.Scan.{with, ofNone, ofOne, ofTwo, ofThree, readWith, readOf, writeWith, writeOf, eventOf, formOf, scanned}
 use Rattle.lines.proofs.Parts.{parts-some, parts-end, parts-more}

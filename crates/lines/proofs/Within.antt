@@ -1,6 +1,6 @@
 -- Where an external write's pairs begin lies within its line, and the line is short.
-use Prim.Native.Nat.{ℕ, zero, suc, _+_, _≤_}
-use mathlib.Core.Path.{_≡_, refl, sym, _∙_}
+use Prim.Native.Nat.{ℕ, suc, _+_, _≤_}
+use mathlib.Core.Path.{_≡_, refl}
 use mathlib.Core.Bool.{Bool, true, false, cond}
 use mathlib.Core.List.{List, [], _∷_}
 use native.Mathlib.Omega.{arith}
@@ -12,7 +12,6 @@ use Rattle.lines.specs.declared.numbers.Number.{Number}
 use Rattle.lines.specs.declared.numbers.Number.the-variants.{Value, NotANumber}
 use Rattle.lines.specs.declared.scanning.Event.{Event}
 use Rattle.lines.specs.declared.scanning.Event.the-variants.{Malformed, Read, Write, External, Snoop, Flush, Control, Reset}
-use Rattle.lines.specs.Number.{numberOf, bitOf}
 use Rattle.lines.specs.Fields.{tab, fieldsOf, partsOf, inFront, isPairs}
 use Rattle.lines.proofs.Parts.{parts-some}
 use Rattle.lines.specs.Scan.{with, ofNone, ofOne, ofTwo, ofThree, readWith, readOf, writeWith, writeOf, externalOf, snoopOf, controlOf, formOf, eventOf, scanned}

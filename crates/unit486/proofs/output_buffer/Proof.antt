@@ -3,10 +3,7 @@ use mathlib.Core.Path.{sym}
 use lib.ListN.{length-replicate}
 use Rattle.unit486.proofs.output_buffer.Statement.{statement}
 use Rattle.unit486.proofs.output_buffer.Tie as tie
-use Rattle.unit486.proofs.output_buffer.Reads as reads
-use Rattle.unit486.proofs.output_buffer.Lts as lts
 
--- src/main.rt:49:1
 returns : tie.Need-returns
 returns c = sym (length-replicate {A = ℕ} 2883654 0)
 

@@ -3,7 +3,7 @@ use Rattle.lines.proofs.Within.{external-line}
 use Rattle.events.specs.Perform.{lineDone, eventDone, afterExternal}
 use Rattle.access.specs.Access.{state}
 use Rattle.bus.specs.Parity.{memory}
-use mathlib.Core.Path.{_≡_, refl, sym, ap, _∙_}
+use mathlib.Core.Path.{sym, ap, _∙_}
 use denote.Ref.{now}
 use native.Mathlib.Omega.{arith}
 use borrow.Author.Needs.{needs}

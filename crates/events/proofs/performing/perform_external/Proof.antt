@@ -1,13 +1,16 @@
+use lib.ListN.{length-replicate}
+use mathlib.Core.Path.{sym}
+use Prim.Native.Nat.{ℕ}
 use Rattle.lines.specs.Fields.{bytesOf}
 use Rattle.lines.proofs.Pairs.{front-count, pairs-length}
-use mathlib.Core.Path.{_≡_, refl, sym, ap, _∙_}
+use mathlib.Core.Path.{_∙_}
 use native.Mathlib.Omega.{arith}
 use borrow.Author.Needs.{needs}
 use Rattle.events.proofs.performing.perform_external.Statement.{statement}
 use Rattle.events.proofs.performing.perform_external.Tie as tie
 
 slice-aggregate-bytes-of : tie.Need-slice-aggregate-bytes-of
-slice-aggregate-bytes-of c = search needs
+slice-aggregate-bytes-of c = sym (length-replicate {A = ℕ} 80 0)
 
 bytes-of-requires : tie.Need-bytes-of-requires
 bytes-of-requires c κs = search needs
@@ -19,13 +22,13 @@ slice-aggregate-external-write : tie.Need-slice-aggregate-external-write
 slice-aggregate-external-write c = front-count 80 _ (bytesOf (c .before .before .before .before .before .before .before .before .before .args .pairs .now)) _ (c .before .before .before .before .bytes-of .ensures .0) (c .before .before .before .before .bytes-of .ensures .1) (omega (arith, pairs-length (c .before .before .before .before .before .before .before .before .before .args .pairs .now), c .before .before .before .before .before .before .before .before .before .pre)) .1
 
 external-write-requires : tie.Need-external-write-requires
-external-write-requires c κs = search needs
+external-write-requires c κs = tt
 
 same-length : tie.Need-same-length
-same-length c = search needs
+same-length c = c .before .before .before .before .external-write .kept .1 .0
 
 same-length-2 : tie.Need-same-length-2
-same-length-2 c = search needs
+same-length-2 c = c .before .before .before .before .external-write .kept .1 .1 .0
 
 returns : tie.Need-returns
 returns c = c .before .before .before .before .external-write .ensures ∙ rw (front-count 80 _ (bytesOf (c .before .before .before .before .before .before .before .before .before .before .before .before .before .before .args .pairs .now)) _ (c .before .before .before .before .before .before .before .before .before .bytes-of .ensures .0) (c .before .before .before .before .before .before .before .before .before .bytes-of .ensures .1) (omega (arith, pairs-length (c .before .before .before .before .before .before .before .before .before .before .before .before .before .before .args .pairs .now), c .before .before .before .before .before .before .before .before .before .before .before .before .before .before .pre)) .2)

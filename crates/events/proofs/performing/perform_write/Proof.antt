@@ -1,5 +1,5 @@
 use Rattle.events.specs.Perform.{afterAccess}
-use mathlib.Core.Path.{_≡_, refl, sym, ap, _∙_}
+use mathlib.Core.Path.{ap, _∙_}
 use borrow.Author.Needs.{needs}
 use Rattle.events.proofs.performing.perform_write.Statement.{statement}
 use Rattle.events.proofs.performing.perform_write.Tie as tie

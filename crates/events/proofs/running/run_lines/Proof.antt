@@ -6,7 +6,7 @@ use Rattle.lines.specs.Fields.{linesOf}
 use Rattle.access.specs.Access.{state}
 use Rattle.bus.specs.Parity.{memory}
 use lib.Seq.{sets, length-take-le}
-use lib.ListN.{length, drop, take, length-replicate}
+use lib.ListN.{length, length-replicate}
 use mathlib.Core.Path.{_≡_, refl, sym, ap, _∙_}
 use Prim.Native.Nat.{ℕ, _+_, _*_, _-_, _≤_}
 use borrow.Author.Needs.{needs}

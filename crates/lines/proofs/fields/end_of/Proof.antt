@@ -1,6 +1,4 @@
 use Rattle.lines.proofs.Parts.{find-index}
-use native.Mathlib.Omega.{arith}
-use mathlib.Core.Path.{_≡_, ap, _∙_}
 use borrow.Author.Needs.{needs}
 use Rattle.lines.proofs.fields.end_of.Statement.{statement}
 use Rattle.lines.proofs.fields.end_of.Tie as tie

@@ -1,7 +1,6 @@
 use Rattle.lines.specs.Fields.{hexOf}
 use borrow.Author.Tests.{le-leb, lt-leb}
 use mathlib.Core.Bool.{and-false}
-use mathlib.Core.Path.{_≡_, refl, sym, _∙_}
 use native.Mathlib.Omega.{arith}
 use borrow.Author.Needs.{needs}
 use Rattle.lines.proofs.fields.hex_of.Statement.{statement}

@@ -1,9 +1,8 @@
 use Rattle.lines.proofs.Digits.{all-and, all-and-end}
-use Rattle.lines.proofs.Digits.{all-step, all-end}
 use borrow.Author.Needs.{needs}
 use native.Mathlib.Omega.{arith}
-use lib.ListN.{length, drop, getD}
-use mathlib.Core.Bool.{_&&_, and-assoc}
+use lib.ListN.{length, drop}
+use mathlib.Core.Bool.{_&&_}
 use mathlib.Core.Path.{_≡_, refl, sym, _∙_}
 use Prim.Native.Nat.{_≤_, _-_}
 use Rattle.lines.specs.Number.{allAre}

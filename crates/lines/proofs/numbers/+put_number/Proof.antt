@@ -1,7 +1,7 @@
 use Rattle.lines.proofs.Digits.{decimal-most}
 use Prim.Native.Nat.{_<_}
 use Rattle.lines.proofs.Printing.{digit-only, digit-last}
-use mathlib.Core.Path.{_≡_, refl, sym, _∙_}
+use mathlib.Core.Path.{_∙_}
 use borrow.Author.Needs.{needs}
 use native.Mathlib.Omega.{arith}
 use Prim.Native.Nat.{ℕ, _<_}

@@ -1,7 +1,7 @@
 use Rattle.lines.proofs.Digits.{bit-one, bit-other}
 use Rattle.lines.specs.Number.{bitOf}
-use borrow.Author.Tests.{eq-eqb, ne-eqb}
-use mathlib.Core.Path.{_≡_, refl, sym, _∙_}
+use borrow.Author.Tests.{ne-eqb}
+use mathlib.Core.Path.{sym, _∙_}
 use borrow.Author.Needs.{needs}
 use Rattle.lines.proofs.numbers.scan_bit.Statement.{statement}
 use Rattle.lines.proofs.numbers.scan_bit.Tie as tie

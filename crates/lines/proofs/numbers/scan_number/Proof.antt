@@ -2,7 +2,7 @@ use native.Mathlib.Omega.{arith}
 use lib.ListN.{length, drop, getD}
 use mathlib.Core.Path.{_≡_, refl, sym, ap, _∙_}
 use Prim.Native.Nat.{_≤_, _<_, _-_, _^_}
-use Rattle.lines.specs.Number.{allAre, isDigit, valueAfter, valueOf, numberOf}
+use Rattle.lines.specs.Number.{allAre, isDigit, valueAfter, valueOf}
 use Rattle.lines.specs.declared.numbers.Number.the-variants.{Value}
 use Rattle.lines.proofs.Digits.{all-step, all-end, value-step, value-end, number-empty, number-long, number-large, number-value, other-at, low-digit, high-digit, a-digit, power-step, power-most}
 use Rattle.lines.proofs.numbers.scan_number.Statement.{statement}

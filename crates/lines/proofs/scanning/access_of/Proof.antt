@@ -1,7 +1,6 @@
 use Rattle.lines.proofs.Forms.{one-end, one-more, two-end, two-more, three-end, three-more, third-first, third-second, read-third, write-third}
-use Rattle.lines.specs.Scan.{readOf, writeOf}
 use lib.Seq.{length-take-le}
-use mathlib.Core.Path.{_≡_, refl, sym, ap, _∙_}
+use mathlib.Core.Path.{sym, _∙_}
 use borrow.Author.Needs.{needs}
 use Rattle.lines.proofs.scanning.access_of.Statement.{statement}
 use Rattle.lines.proofs.scanning.access_of.Tie as tie

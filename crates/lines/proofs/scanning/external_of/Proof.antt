@@ -1,8 +1,7 @@
 use Rattle.lines.proofs.Forms.{one-end, one-more, two-end, two-more}
 use Rattle.lines.specs.Scan.{externalOf, with}
-use native.Mathlib.Omega.{arith}
 use lib.Seq.{length-take-le}
-use mathlib.Core.Path.{_≡_, refl, sym, _∙_}
+use mathlib.Core.Path.{sym, _∙_}
 use borrow.Author.Needs.{needs}
 use Rattle.lines.proofs.scanning.external_of.Statement.{statement}
 use Rattle.lines.proofs.scanning.external_of.Tie as tie

@@ -1,7 +1,6 @@
 use Rattle.lines.proofs.Forms.{scan-long, scan-no-letter, scan-alone, scan-fields}
-use mathlib.Core.Path.{_≡_, refl, sym, _∙_}
+use mathlib.Core.Path.{sym, _∙_}
 use native.Mathlib.Omega.{arith}
-use denote.Ref.{now}
 use borrow.Author.Needs.{needs}
 use Rattle.lines.proofs.scanning.scan.Statement.{statement}
 use Rattle.lines.proofs.scanning.scan.Tie as tie

@@ -1,6 +1,6 @@
 use Rattle.lines.proofs.Forms.{one-end, one-more}
 use Rattle.lines.specs.Scan.{snoopOf, with}
-use mathlib.Core.Path.{_≡_, refl, sym, _∙_}
+use mathlib.Core.Path.{sym, _∙_}
 use borrow.Author.Needs.{needs}
 use Rattle.lines.proofs.scanning.snoop_of.Statement.{statement}
 use Rattle.lines.proofs.scanning.snoop_of.Tie as tie
