@@ -188,6 +188,12 @@ fits-next left a g c e l h =
     ends : (x y z : ℕ) → z ≡ 0 → x ≤ y → x ≤ y - z
     ends x y z e h = omega arith
 
+-- buffers of the same lengths
+pub path-lengths : {walk : Walk} {ram parity array answers log operand ram′ parity′ array′ log′ operand′ : ℕ} →
+    ram′ ≡ ram → parity′ ≡ parity → array′ ≡ array → log′ ≡ log → operand′ ≡ operand →
+    Path walk ram parity array answers log operand → Path walk ram′ parity′ array′ answers log′ operand′
+path-lengths er ep ea el eo z = rw (er, ep, ea, el, eo) z
+
 -- what the next doubleword needs, and what is left after it
 module _ (walk : Walk) (ram parity array answers log operand : ℕ) (z : Path walk ram parity array answers log operand) (some : 0 < walk .left) where
   pub path-more : walk .group < groups

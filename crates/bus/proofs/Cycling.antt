@@ -218,6 +218,13 @@ stored-lengths (b ∷ bytes) m a =
     let e = put-lengths m a b in
     (k .0 ∙ e .0, k .1 ∙ e .1)
 
+-- a write cycle leaves the lengths of memory
+pub write-cycle-lengths : {buffer : List ℕ} {line first : ℕ} {t : Turn} {x : ℕ} {m₀ : Memory} {log₀ : List ℕ} {r : Turn} {m : Memory} {log : List ℕ} →
+    WriteCycle buffer line first t x m₀ log₀ r m log → (length (m .ram) ≡ length (m₀ .ram)) × (length (m .parity) ≡ length (m₀ .parity))
+write-cycle-lengths {buffer} {line} {t = t} {x} {m₀} c =
+    let k = stored-lengths (bytesAt buffer (t .from) (sizeOf x (run (t .from) (t .count)))) m₀ (line + t .from) in
+    (ap (λ (m : Memory). length (m .ram)) (c .sends) ∙ k .0, ap (λ (m : Memory). length (m .parity)) (c .sends) ∙ k .1)
+
 -- a read cycle leaves the length of the line buffer
 pub read-cycle-length : {kind : ℕ} {m : Memory} {start line first : ℕ} {t : Turn} {x : ℕ} {log₀ buffer₀ : List ℕ} {r : Turn} {log buffer : List ℕ} →
     ReadCycle kind m start line first t x log₀ buffer₀ r log buffer → length buffer ≡ length buffer₀

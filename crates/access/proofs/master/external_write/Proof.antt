@@ -40,10 +40,10 @@ snooped-requires : tie.Need-snooped-requires
 snooped-requires c κs = search needs
 
 same-length : tie.Need-same-length
-same-length c = search needs
+same-length c = c .before .before .before .before .before .store-bytes .kept .1 .1 .0
 
 same-length-2 : tie.Need-same-length-2
-same-length-2 c = search needs
+same-length-2 c = c .before .before .before .before .before .store-bytes .kept .1 .1 .1 .0
 
 returns-3 : tie.Need-returns-3
 returns-3 c = external-made (c .before .before .before .before .before .before .before .before .before .before .before .before .before .before .before .before .before .before .before .before .before .args .t1) (memory (now (c .before .before .before .before .before .before .before .before .before .before .before .before .before .before .before .before .before .before .before .before .before .args .ram)) (now (c .before .before .before .before .before .before .before .before .before .before .before .before .before .before .before .before .before .before .before .before .before .args .parity))) (c .before .before .before .before .before .before .before .before .before .before .before .before .before .before .before .before .before .before .before .before .before .args .address) (now (c .before .before .before .before .before .before .before .before .before .before .before .before .before .before .before .before .before .before .before .before .before .args .bytes)) _ _ (c .before .before .before .before .before .before .before .before .before .before .before .before .before .before .before .before .before .memory-number .ensures) (c .before .before .before .before .before .before .before .before .before .before .before .before .before .before .before .before .external-number .ensures) _ (c .before .before .before .before .before .before .before .before .before .before .before .before .before .before .before .or-else .ensures) (c .before .before .before .before .before .before .before .before .before .before .before .before .before .before .if1 .left) _ (c .before .before .before .before .before .before .before .before .before .states-number .ensures) (c .before .before .before .before .before .before .before .before .if2 .left) _ _ (c .snooped .ensures) (c .before .before .before .before .before .store-bytes .ensures)

@@ -7,7 +7,7 @@ use Rattle.bus.specs.Parity.{memory}
 use lib.ListN.{length, replicate}
 use Rattle.access.specs.Access.{state, allOf, readOne}
 use Rattle.access.specs.Walks.{startWalk, restOf, Path}
-use Rattle.access.proofs.Walking.{ReadGoing, reading-begin, reading-next, keep-changed, path-more, walk-less, walk-path}
+use Rattle.access.proofs.Walking.{ReadGoing, reading-begin, reading-next, keep-changed, path-lengths, path-more, walk-less, walk-path}
 use Rattle.access.proofs.Calls.{path-begin, read-input-refused, read-state-refused, read-done}
 use Rattle.access.proofs.reading.read.Statement.{statement}
 use Rattle.access.proofs.reading.read.Tie as tie
@@ -58,7 +58,7 @@ slice-aggregate-read-step : tie.Need-slice-aggregate-read-step Inv-loop μ-loop
 slice-aggregate-read-step c = search needs
 
 read-step-requires : tie.Need-read-step-requires Inv-loop μ-loop
-read-step-requires c κs = (c .before .before .before .before .before .before .before .if3 .taken, rw (c .before .before .before .before .before .before .before .before .before .loop .inv .2, c .before .before .before .before .before .before .before .before .before .loop .inv .3, c .before .before .before .before .before .before .before .before .before .loop .inv .4) (c .before .before .before .before .before .before .before .before .before .loop .inv .1))
+read-step-requires c κs = (c .before .before .before .before .before .before .before .if3 .taken, path-lengths refl refl (c .before .before .before .before .before .before .before .before .before .loop .inv .2) (c .before .before .before .before .before .before .before .before .before .loop .inv .3) (c .before .before .before .before .before .before .before .before .before .loop .inv .4) (c .before .before .before .before .before .before .before .before .before .loop .inv .1))
 
 enum-told : tie.Need-enum-told Inv-loop μ-loop
 enum-told c = search needs

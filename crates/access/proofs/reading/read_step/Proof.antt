@@ -41,13 +41,13 @@ next-requires : tie.Need-next-requires
 next-requires c κs = let s = walk-steps _ _ _ _ _ _ _ _ _ (c .before .before .before .before .before .before .before .before .before .before .before .before .before .before .before .before .before .before .before .pre .0) (c .before .before .before .before .before .before .before .before .before .before .before .before .wanted .ensures) (c .before .before .before .before .before .before .read-doubleword .ensures .most) (c .before .before .before .before .before .before .before .before .before .before .before .before .before .before .before .before .before .before .before .pre .1) in (s .count, s .address, s .group, s .place, s .left, s .records, s .made)
 
 same-length : tie.Need-same-length
-same-length c = search needs
+same-length c = c .before .before .before .before .before .before .before .read-doubleword .kept .1 .1 .1 .1 .1 .1 .0
 
 same-length-2 : tie.Need-same-length-2
-same-length-2 c = search needs
+same-length-2 c = c .before .before .before .before .before .before .before .read-doubleword .kept .1 .1 .1 .1 .1 .1 .1 .1 .0
 
 same-length-3 : tie.Need-same-length-3
-same-length-3 c = search needs
+same-length-3 c = c .before .before .before .before .before .before .before .read-doubleword .kept .1 .1 .1 .1 .1 .1 .1 .1 .1 .0
 
 returns : tie.Need-returns
 returns c = let a = c .before .before .before .before .before .before .before .before .before .before .before .before .before .before .before .before .before .before .before .before .args in read-step-left _ _ _ _ (c .before .before .before .before .before .before .before .before .before .before .before .before .before .wanted .ensures) (group-is (now (a .answers)) (a .walk .group * 16) (a .walk .group * 16 + 16) refl) _ _ (c .next .ensures) (reads-below _ _ _ _ _ _ _ (c .before .before .before .before .before .before .before .read-doubleword .ensures)) (λ (w : Wanted) (xs : List ℕ). readDone (lookupIn (now (a .tags)) (now (a .valid)) (w .line)) (victimIn (now (a .valid)) (now (a .lru)) (setOf (w .line))) (a .may-fill) (memory (now (a .ram)) (now (a .parity))) (now (a .«data»)) (doublewordOf w xs)) _ _ _ _ _ (c .before .before .before .before .before .before .before .read-doubleword .ensures)

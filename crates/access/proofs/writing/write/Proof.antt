@@ -8,7 +8,7 @@ use Rattle.bus.specs.Parity.{memory}
 use lib.ListN.{length}
 use Rattle.access.specs.Access.{state, allOf, writeOne}
 use Rattle.access.specs.Walks.{startWalk, restOf, Path}
-use Rattle.access.proofs.Walking.{Going, going-begin, writing-next, keep-changed, path-more, walk-less, walk-path}
+use Rattle.access.proofs.Walking.{Going, going-begin, writing-next, keep-changed, path-lengths, path-more, walk-less, walk-path}
 use Rattle.access.proofs.Calls.{path-begin, write-input-refused, write-later-refused, write-done}
 use Rattle.access.proofs.writing.write.Statement.{statement}
 use Rattle.access.proofs.writing.write.Tie as tie
@@ -81,7 +81,7 @@ slice-aggregate-write-step : tie.Need-slice-aggregate-write-step Inv-loop μ-loo
 slice-aggregate-write-step c = search needs
 
 write-step-requires : tie.Need-write-step-requires Inv-loop μ-loop
-write-step-requires c κs = (c .before .before .before .before .before .before .before .before .if3 .taken, rw (c .before .before .before .before .before .before .before .before .before .before .loop .inv .2, c .before .before .before .before .before .before .before .before .before .before .loop .inv .3, c .before .before .before .before .before .before .before .before .before .before .loop .inv .4, c .before .before .before .before .before .before .before .before .before .before .loop .inv .5) (c .before .before .before .before .before .before .before .before .before .before .loop .inv .1))
+write-step-requires c κs = (c .before .before .before .before .before .before .before .before .if3 .taken, path-lengths (c .before .before .before .before .before .before .before .before .before .before .loop .inv .4) (c .before .before .before .before .before .before .before .before .before .before .loop .inv .5) (c .before .before .before .before .before .before .before .before .before .before .loop .inv .2) (c .before .before .before .before .before .before .before .before .before .before .loop .inv .3) refl (c .before .before .before .before .before .before .before .before .before .before .loop .inv .1))
 
 enum-told : tie.Need-enum-told Inv-loop μ-loop
 enum-told c = search needs

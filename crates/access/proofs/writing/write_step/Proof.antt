@@ -40,16 +40,16 @@ next-requires : tie.Need-next-requires
 next-requires c κs = let s = walk-steps _ _ _ _ _ _ _ _ _ (c .before .before .before .before .before .before .before .before .before .before .before .before .before .before .before .before .before .before .before .before .before .before .pre .0) (c .before .before .before .before .before .before .before .before .before .before .before .before .before .before .before .wanted .ensures) (c .before .before .before .before .before .before .before .before .write-doubleword .ensures .most) (c .before .before .before .before .before .before .before .before .before .before .before .before .before .before .before .before .before .before .before .before .before .before .pre .1) in (s .count, s .address, s .group, s .place, s .left, s .records, s .made)
 
 same-length : tie.Need-same-length
-same-length c = search needs
+same-length c = c .before .before .before .before .before .before .before .before .before .write-doubleword .kept .1 .1 .1 .0
 
 same-length-2 : tie.Need-same-length-2
-same-length-2 c = search needs
+same-length-2 c = c .before .before .before .before .before .before .before .before .before .write-doubleword .kept .1 .1 .1 .1 .0
 
 same-length-3 : tie.Need-same-length-3
-same-length-3 c = search needs
+same-length-3 c = c .before .before .before .before .before .before .before .before .before .write-doubleword .kept .1 .1 .1 .1 .1 .0
 
 same-length-4 : tie.Need-same-length-4
-same-length-4 c = search needs
+same-length-4 c = c .before .before .before .before .before .before .before .before .before .write-doubleword .kept .1 .1 .1 .1 .1 .1 .1 .0
 
 returns : tie.Need-returns
 returns c = let a = c .before .before .before .before .before .before .before .before .before .before .before .before .before .before .before .before .before .before .before .before .before .before .before .args in write-step-left _ _ _ _ (c .before .before .before .before .before .before .before .before .before .before .before .before .before .before .before .before .wanted .ensures) (group-is (now (a .answers)) (a .walk .group * 16) (a .walk .group * 16 + 16) refl) _ _ (c .next .ensures) (writes-below _ _ _ _ _ _ _ (c .before .before .before .before .before .before .before .before .before .write-doubleword .ensures)) (λ (w : Wanted) (xs : List ℕ). writeDone (lookupIn (now (a .tags)) (now (a .valid)) (w .line)) (a .stays) (memory (now (a .ram)) (now (a .parity))) (now (a .«data»)) (now (a .operand)) (doublewordOf w xs)) _ _ _ _ (c .before .before .before .before .before .before .before .before .before .write-doubleword .ensures)

@@ -12,7 +12,7 @@ word-of-requires : tie.Need-word-of-requires
 word-of-requires c κs = search needs
 
 returns : tie.Need-returns
-returns c = cc
+returns c = rw (c .word-of .ensures, c .before .before .copy-bytes .ensures)
 
 pub lane-word-spec : {M : Type 1} → statement M
 lane-word-spec =

@@ -1,5 +1,7 @@
 use native.Mathlib.Omega.{arith}
 use mathlib.Core.Path.{refl}
+use denote.Ref.{now}
+use Rattle.bus.specs.Parity.{memory}
 use Rattle.bus.proofs.Cycling.{cycle-fits, read-cycle-left}
 use borrow.Author.Needs.{needs}
 use Rattle.bus.proofs.cycle.read_cycle.Statement.{statement}
@@ -45,13 +47,13 @@ copy-bytes-requires : tie.Need-copy-bytes-requires
 copy-bytes-requires c κs = let f = cycle-fits _ _ _ _ _ _ _ _ _ _ (c .before .before .before .before .before .before .before .before .before .before .before .before .before .before .before .before .before .pre .0) (c .before .before .before .before .before .before .before .before .before .before .before .before .before .before .before .before .before .pre .3) (c .before .before .before .before .before .before .before .before .before .before .before .before .before .before .before .before .before .pre .4) (c .before .before .before .before .before .before .before .before .before .before .size-of .ensures) in (f .inside, omega (arith, f .whole, c .before .before .before .before .before .before .before .before .before .before .before .before .before .before .before .before .before .pre .4 .whole))
 
 same-length : tie.Need-same-length
-same-length c = search needs
+same-length c = c .before .before .before .before .before .before .put-record .kept .0
 
 same-length-2 : tie.Need-same-length-2
-same-length-2 c = search needs
+same-length-2 c = c .before .before .copy-bytes .kept .1 .1 .0
 
 returns : tie.Need-returns
-returns c = read-cycle-left _ _ _ _ _ _ _ _ _ (c .before .before .before .before .before .before .before .before .before .before .before .before .before .size-of .ensures) (c .before .before .before .before .before .before .before .before .before .before .before .before .next .ensures) (c .before .before .before .before .before .before .before .before .before .before .before .any-wrong .ensures) (c .before .before .before .before .before .before .before .before .before .flags-of .ensures) refl (c .before .before .before .before .before .before .before .before .lane-word .ensures) (c .before .before .before .before .before .before .put-record .ensures) (c .before .before .copy-bytes .ensures)
+returns c = let a = c .before .before .before .before .before .before .before .before .before .before .before .before .before .before .before .before .before .before .before .before .args in read-cycle-left (a .kind) (memory (now (a .ram)) (now (a .parity))) (a .start) (a .line) (a .first) (a .t) _ (now (a .log)) (now (a .buffer)) (c .before .before .before .before .before .before .before .before .before .before .before .before .before .size-of .ensures) (c .before .before .before .before .before .before .before .before .before .before .before .before .next .ensures) (c .before .before .before .before .before .before .before .before .before .before .before .any-wrong .ensures) (c .before .before .before .before .before .before .before .before .before .flags-of .ensures) refl (c .before .before .before .before .before .before .before .before .lane-word .ensures) (c .before .before .before .before .before .before .put-record .ensures) (c .before .before .copy-bytes .ensures)
 
 pub read-cycle-spec : {M : Type 1} → statement M
 read-cycle-spec =

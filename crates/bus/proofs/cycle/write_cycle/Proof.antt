@@ -1,5 +1,7 @@
 use native.Mathlib.Omega.{arith}
 use mathlib.Core.Path.{refl}
+use denote.Ref.{now}
+use Rattle.bus.specs.Parity.{memory}
 use Rattle.bus.proofs.Cycling.{cycle-fits, write-cycle-left}
 use borrow.Author.Needs.{needs}
 use Rattle.bus.proofs.cycle.write_cycle.Statement.{statement}
@@ -42,16 +44,16 @@ store-bytes-requires : tie.Need-store-bytes-requires
 store-bytes-requires c κs = let f = cycle-fits _ _ _ _ _ _ _ _ _ _ (c .before .before .before .before .before .before .before .before .before .before .before .before .before .before .before .before .before .pre .0) (c .before .before .before .before .before .before .before .before .before .before .before .before .before .before .before .before .before .pre .1) (c .before .before .before .before .before .before .before .before .before .before .before .before .before .before .before .before .before .pre .2) (c .before .before .before .before .before .before .before .before .before .before .size-of .ensures) in (omega (arith, f .whole, c .before .before .before .before .before .before .before .before .before .before .before .before .before .before .before .before .before .pre .2 .whole), f .inside, f .bits)
 
 same-length : tie.Need-same-length
-same-length c = search needs
+same-length c = c .before .before .before .before .store-bytes .kept .1 .1 .0
 
 same-length-2 : tie.Need-same-length-2
-same-length-2 c = search needs
+same-length-2 c = c .before .before .before .before .store-bytes .kept .1 .1 .1 .0
 
 same-length-3 : tie.Need-same-length-3
-same-length-3 c = search needs
+same-length-3 c = c .before .before .before .before .before .before .before .before .before .put-record .kept .0
 
 returns : tie.Need-returns
-returns c = write-cycle-left _ _ _ _ _ _ _ (c .before .before .before .before .before .before .before .before .before .before .before .before .before .before .before .size-of .ensures) (c .before .before .before .before .before .before .before .before .before .before .before .before .before .before .next .ensures) (c .before .before .before .before .before .before .before .before .before .before .before .before .flags-of .ensures) refl (c .before .before .before .before .before .before .before .before .before .before .before .lane-word .ensures) (c .before .before .before .before .before .before .before .before .before .put-record .ensures) (c .before .before .before .before .store-bytes .ensures)
+returns c = let a = c .before .before .before .before .before .before .before .before .before .before .before .before .before .before .before .before .before .before .before .before .before .before .args in write-cycle-left (now (a .buffer)) (a .line) (a .first) (a .t) _ (memory (now (a .ram)) (now (a .parity))) (now (a .log)) (c .before .before .before .before .before .before .before .before .before .before .before .before .before .before .before .size-of .ensures) (c .before .before .before .before .before .before .before .before .before .before .before .before .before .before .next .ensures) (c .before .before .before .before .before .before .before .before .before .before .before .before .flags-of .ensures) refl (c .before .before .before .before .before .before .before .before .before .before .before .lane-word .ensures) (c .before .before .before .before .before .before .before .before .before .put-record .ensures) (c .before .before .before .before .store-bytes .ensures)
 
 pub write-cycle-spec : {M : Type 1} → statement M
 write-cycle-spec =

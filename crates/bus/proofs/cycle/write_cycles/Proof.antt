@@ -1,11 +1,11 @@
 use native.Mathlib.Omega.{arith}
 use Prim.Native.Nat.{_-_}
-use mathlib.Core.Path.{_≡_, refl, _∙_, ap}
+use mathlib.Core.Path.{_≡_, refl, _∙_}
 use lib.ListN.{length}
-use Rattle.bus.specs.Parity.{Memory, memory}
+use Rattle.bus.specs.Parity.{memory}
 use Rattle.bus.specs.Bus.{sent}
 use Rattle.bus.specs.Record.{writeRecord}
-use Rattle.bus.proofs.Cycling.{Kept, kept-begin, kept-next, less-next, stored-lengths, write-cycles-left}
+use Rattle.bus.proofs.Cycling.{Kept, kept-begin, kept-next, less-next, write-cycle-lengths, write-cycles-left}
 use Rattle.bus.proofs.cycle.write_cycles.Statement.{statement}
 use Rattle.bus.proofs.cycle.write_cycles.Tie as tie
 
@@ -25,7 +25,7 @@ loop-less : tie.Need-loop-less Inv-loop μ-loop
 loop-less c = less-next _ _ _ _ _ (c .before .before .before .before .before .before .write-cycle .ensures .turn) (omega (arith, c .before .before .before .before .before .before .before .before .before .before .before .before .loop .inv .0 .ready .enough, c .before .before .before .before .before .before .before .before .before .before .if1 .taken))
 
 loop-again : tie.Need-loop-again Inv-loop μ-loop
-loop-again c = let r = c .before .before .before .before .before .before .write-cycle .ensures in (kept-next _ _ _ _ _ _ _ _ (omega arith) (c .before .before .before .before .before .before .before .before .before .before .if1 .taken) (c .before .before .before .before .before .before .before .before .before .before .before .before .loop .inv .0) (r .turn) (r .logs) (r .sends), ap (λ (m : Memory). length (m .ram)) (r .sends) ∙ stored-lengths _ _ _ .0 ∙ c .before .before .before .before .before .before .before .before .before .before .before .before .loop .inv .1, ap (λ (m : Memory). length (m .parity)) (r .sends) ∙ stored-lengths _ _ _ .1 ∙ c .before .before .before .before .before .before .before .before .before .before .before .before .loop .inv .2)
+loop-again c = let r = c .before .before .before .before .before .before .write-cycle .ensures in (kept-next _ _ _ _ _ _ _ _ (omega arith) (c .before .before .before .before .before .before .before .before .before .before .if1 .taken) (c .before .before .before .before .before .before .before .before .before .before .before .before .loop .inv .0) (r .turn) (r .logs) (r .sends), write-cycle-lengths r .0 ∙ c .before .before .before .before .before .before .before .before .before .before .before .before .loop .inv .1, write-cycle-lengths r .1 ∙ c .before .before .before .before .before .before .before .before .before .before .before .before .loop .inv .2)
 
 same-length : tie.Need-same-length Inv-loop μ-loop
 same-length c = c .before .before .loop .inv .1

@@ -23,7 +23,7 @@ add-result-3 c = search needs
 
 returns : tie.Need-returns
 unfolding flagsOf
-returns c = cc
+returns c = rw (c .flag-if2 .ensures .0, c .before .flag-if .ensures .0, c .before .before .lanes-of .ensures .0)
 
 pub flags-of-spec : {M : Type 1} → statement M
 flags-of-spec =

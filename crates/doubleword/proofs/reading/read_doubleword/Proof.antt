@@ -8,6 +8,13 @@ use borrow.Author.Needs.{needs}
 use Rattle.doubleword.proofs.reading.read_doubleword.Statement.{statement}
 use Rattle.doubleword.proofs.reading.read_doubleword.Tie as tie
 
+-- what the lookup found
+found : (c : tie.After-way) → lookupIn (now (c .before .before .before .before .before .before .before .before .before .args .tags)) (now (c .before .before .before .before .before .before .before .before .before .args .valid)) (c .before .before .before .before .before .before .before .before .before .args .w .line) ≡ At (c .way .given .0 .0)
+found c = sym (c .before .before .lookup .ensures) ∙ c .way .given .1
+
+missing : (c : tie.After-enum-told) → lookupIn (now (c .before .before .before .before .before .before .before .before .before .args .tags)) (now (c .before .before .before .before .before .before .before .before .before .args .valid)) (c .before .before .before .before .before .before .before .before .before .args .w .line) ≡ Nothing
+missing c = sym (c .before .before .lookup .ensures) ∙ c .enum-told .given .1
+
 lookup-requires : tie.Need-lookup-requires
 lookup-requires c κs = search needs
 
@@ -15,7 +22,7 @@ enum-known-way : tie.Need-enum-known-way
 enum-known-way c = search needs
 
 slot-of-requires : tie.Need-slot-of-requires
-slot-of-requires c κs = let e : lookupIn (now (c .before .before .before .before .before .before .before .before .before .before .before .args .tags)) (now (c .before .before .before .before .before .before .before .before .before .before .before .args .valid)) (c .before .before .before .before .before .before .before .before .before .before .before .args .w .line) ≡ At (c .before .before .way .given .0 .0) = cc in lookup-below _ _ _ _ e
+slot-of-requires c κs = lookup-below _ _ _ _ (found (c .before .before))
 
 add-copy-bytes : tie.Need-add-copy-bytes
 add-copy-bytes c = search needs
@@ -30,7 +37,7 @@ same-length-2 : tie.Need-same-length-2
 same-length-2 c = search needs
 
 returns : tie.Need-returns
-returns c = let e : lookupIn (now (c .before .before .before .before .before .before .before .before .before .before .before .before .before .before .before .before .before .args .tags)) (now (c .before .before .before .before .before .before .before .before .before .before .before .before .before .before .before .before .before .args .valid)) (c .before .before .before .before .before .before .before .before .before .before .before .before .before .before .before .before .before .args .w .line) ≡ At (c .before .before .before .before .before .before .before .before .way .given .0 .0) = cc in hit-reads _ _ _ _ _ _ _ _ _ _ _ _ e (c .before .before .before .before .before .slot-of .ensures .0) (c .before .before .copy-bytes .ensures)
+returns c = hit-reads _ _ _ _ _ _ _ _ _ _ _ _ (found (c .before .before .before .before .before .before .before .before)) (c .before .before .before .before .before .slot-of .ensures .0) (c .before .before .copy-bytes .ensures)
 
 enum-told : tie.Need-enum-told
 enum-told c = search needs
@@ -57,16 +64,16 @@ keep-line-requires : tie.Need-keep-line-requires
 keep-line-requires c κs = (c .before .before .before .before .before .before .before .before .before .before .before .before .before .before .before .before .before .before .before .before .before .before .before .before .pre .1, missed-length (c .before .before .before .before .before .before .before .before .before .before .before .read-missed .ensures))
 
 same-length-3 : tie.Need-same-length-3
-same-length-3 c = search needs
+same-length-3 c = c .before .before .keep-line .kept .1 .1 .0
 
 same-length-4 : tie.Need-same-length-4
-same-length-4 c = search needs
+same-length-4 c = c .before .before .before .before .before .before .before .before .before .before .before .before .before .before .read-missed .kept .1 .1 .1 .0
 
 same-length-5 : tie.Need-same-length-5
-same-length-5 c = search needs
+same-length-5 c = c .before .before .before .before .before .before .before .before .copy-bytes2 .kept .1 .1 .0
 
 returns-2 : tie.Need-returns-2
-returns-2 c = let e : lookupIn (now (c .before .before .before .before .before .before .before .before .before .before .before .before .before .before .before .before .before .before .before .before .before .before .before .before .before .before .before .args .tags)) (now (c .before .before .before .before .before .before .before .before .before .before .before .before .before .before .before .before .before .before .before .before .before .before .before .before .before .before .before .args .valid)) (c .before .before .before .before .before .before .before .before .before .before .before .before .before .before .before .before .before .before .before .before .before .before .before .before .before .before .before .args .w .line) ≡ Nothing = sym (c .before .before .before .before .before .before .before .before .before .before .before .before .before .before .before .before .before .before .before .before .lookup .ensures) ∙ c .before .before .before .before .before .before .before .before .before .before .before .before .before .before .before .before .before .before .enum-told .given .1 in miss-reads _ _ _ _ _ _ _ _ _ _ _ _ _ e (missed-done _ _ _ _ _ _ _ _ _ _ _ _ _ _ (c .before .before .before .before .before .before .before .before .before .before .before .before .before .before .read-missed .ensures) (c .before .before .keep-line .ensures .0) (c .before .before .keep-line .ensures .1) (c .before .before .before .before .before .before .before .before .copy-bytes2 .ensures))
+returns-2 c = miss-reads _ _ _ _ _ _ _ _ _ _ _ _ _ (missing (c .before .before .before .before .before .before .before .before .before .before .before .before .before .before .before .before .before .before)) (missed-done _ _ _ _ _ _ _ _ _ _ _ _ _ _ (c .before .before .before .before .before .before .before .before .before .before .before .before .before .before .read-missed .ensures) (c .before .before .keep-line .ensures .0) (c .before .before .keep-line .ensures .1) (c .before .before .before .before .before .before .before .before .copy-bytes2 .ensures))
 
 pub read-doubleword-spec : {M : Type 1} → statement M
 read-doubleword-spec =

@@ -1,5 +1,5 @@
 use denote.Ref.{now}
-use mathlib.Core.Path.{_≡_}
+use mathlib.Core.Path.{_≡_, sym, _∙_}
 use Rattle.directory.specs.declared.ways.Found.the-variants.{At, Nothing}
 use Rattle.directory.specs.Ways.{lookupIn}
 use Rattle.directory.proofs.FourWays.{lookup-below}
@@ -8,6 +8,13 @@ use borrow.Author.Needs.{needs}
 use Rattle.doubleword.proofs.writing.write_doubleword.Statement.{statement}
 use Rattle.doubleword.proofs.writing.write_doubleword.Tie as tie
 
+-- what the lookup found
+found : (c : tie.After-way) → lookupIn (now (c .before .before .before .before .before .before .before .before .before .args .tags)) (now (c .before .before .before .before .before .before .before .before .before .args .valid)) (c .before .before .before .before .before .before .before .before .before .args .w .line) ≡ At (c .way .given .0 .0)
+found c = sym (c .before .before .lookup .ensures) ∙ c .way .given .1
+
+missing : (c : tie.After-enum-told) → lookupIn (now (c .before .before .before .before .before .before .before .before .before .args .tags)) (now (c .before .before .before .before .before .before .before .before .before .args .valid)) (c .before .before .before .before .before .before .before .before .before .args .w .line) ≡ Nothing
+missing c = sym (c .before .before .lookup .ensures) ∙ c .enum-told .given .1
+
 lookup-requires : tie.Need-lookup-requires
 lookup-requires c κs = search needs
 
@@ -15,7 +22,7 @@ enum-known-way : tie.Need-enum-known-way
 enum-known-way c = search needs
 
 slot-of-requires : tie.Need-slot-of-requires
-slot-of-requires c κs = let e : lookupIn (now (c .before .before .before .before .before .before .before .before .before .before .before .args .tags)) (now (c .before .before .before .before .before .before .before .before .before .before .before .args .valid)) (c .before .before .before .before .before .before .before .before .before .before .before .args .w .line) ≡ At (c .before .before .way .given .0 .0) = cc in lookup-below _ _ _ _ e
+slot-of-requires c κs = lookup-below _ _ _ _ (found (c .before .before))
 
 add-copy-bytes : tie.Need-add-copy-bytes
 add-copy-bytes c = search needs
@@ -24,46 +31,46 @@ copy-bytes-requires : tie.Need-copy-bytes-requires
 copy-bytes-requires c κs = search needs
 
 same-length : tie.Need-same-length
-same-length c = search needs
+same-length c = c .before .before .before .copy-bytes .kept .1 .1 .0
 
 returns : tie.Need-returns
-returns c = let e : lookupIn (now (c .before .before .before .before .before .before .before .before .before .before .before .before .before .before .before .before .before .args .tags)) (now (c .before .before .before .before .before .before .before .before .before .before .before .before .before .before .before .before .before .args .valid)) (c .before .before .before .before .before .before .before .before .before .before .before .before .before .before .before .before .before .args .w .line) ≡ At (c .before .before .before .before .before .before .before .before .way .given .0 .0) = cc in stay-writes _ _ _ _ _ _ _ _ _ _ _ e (c .if1 .taken) (c .before .before .before .before .before .slot-of .ensures .0) (c .before .before .before .copy-bytes .ensures)
+returns c = stay-writes _ _ _ _ _ _ _ _ _ _ _ (found (c .before .before .before .before .before .before .before .before)) (c .if1 .taken) (c .before .before .before .before .before .slot-of .ensures .0) (c .before .before .before .copy-bytes .ensures)
 
 write-through-requires : tie.Need-write-through-requires
-write-through-requires c κs = search needs
+write-through-requires c κs = let p = c .before .before .before .before .before .before .before .before .before .before .before .before .before .before .before .before .before .before .before .before .pre in (p .0, p .2)
 
 same-length-2 : tie.Need-same-length-2
-same-length-2 c = search needs
+same-length-2 c = c .before .before .before .before .before .before .write-through .kept .0
 
 same-length-3 : tie.Need-same-length-3
-same-length-3 c = search needs
+same-length-3 c = c .before .before .before .before .before .before .write-through .kept .1 .0
 
 same-length-4 : tie.Need-same-length-4
-same-length-4 c = search needs
+same-length-4 c = c .before .before .before .before .before .before .before .before .before .before .before .before .before .copy-bytes .kept .1 .1 .0
 
 same-length-5 : tie.Need-same-length-5
-same-length-5 c = search needs
+same-length-5 c = c .before .before .before .before .before .before .write-through .kept .1 .1 .1 .0
 
 returns-2 : tie.Need-returns-2
-returns-2 c = let e : lookupIn (now (c .before .before .before .before .before .before .before .before .before .before .before .before .before .before .before .before .before .before .before .before .before .before .before .before .before .before .before .args .tags)) (now (c .before .before .before .before .before .before .before .before .before .before .before .before .before .before .before .before .before .before .before .before .before .before .before .before .before .before .before .args .valid)) (c .before .before .before .before .before .before .before .before .before .before .before .before .before .before .before .before .before .before .before .before .before .before .before .before .before .before .before .args .w .line) ≡ At (c .before .before .before .before .before .before .before .before .before .before .before .before .before .before .before .before .before .before .way .given .0 .0) = cc in hit-writes _ _ _ _ _ _ _ _ _ _ _ _ _ _ e (c .before .before .before .before .before .before .before .before .before .before .if1 .left) (c .before .before .before .before .before .before .before .before .before .before .before .before .before .before .before .slot-of .ensures .0) (c .before .before .before .before .before .before .before .before .before .before .before .before .before .copy-bytes .ensures) (c .before .before .before .before .before .before .write-through .ensures)
+returns-2 c = hit-writes _ _ _ _ _ _ _ _ _ _ _ _ _ _ (found (c .before .before .before .before .before .before .before .before .before .before .before .before .before .before .before .before .before .before)) (c .before .before .before .before .before .before .before .before .before .before .if1 .left) (c .before .before .before .before .before .before .before .before .before .before .before .before .before .before .before .slot-of .ensures .0) (c .before .before .before .before .before .before .before .before .before .before .before .before .before .copy-bytes .ensures) (c .before .before .before .before .before .before .write-through .ensures)
 
 enum-told : tie.Need-enum-told
 enum-told c = search needs
 
 write-through-requires-2 : tie.Need-write-through-requires-2
-write-through-requires-2 c κs = search needs
+write-through-requires-2 c κs = let p = c .before .before .before .before .before .before .before .before .before .before .before .before .pre in (p .0, p .2)
 
 same-length-6 : tie.Need-same-length-6
-same-length-6 c = search needs
+same-length-6 c = c .before .before .before .before .before .before .write-through2 .kept .0
 
 same-length-7 : tie.Need-same-length-7
-same-length-7 c = search needs
+same-length-7 c = c .before .before .before .before .before .before .write-through2 .kept .1 .0
 
 same-length-8 : tie.Need-same-length-8
-same-length-8 c = search needs
+same-length-8 c = c .before .before .before .before .before .before .write-through2 .kept .1 .1 .1 .0
 
 returns-3 : tie.Need-returns-3
-returns-3 c = let e : lookupIn (now (c .before .before .before .before .before .before .before .before .before .before .before .before .before .before .before .before .before .before .before .args .tags)) (now (c .before .before .before .before .before .before .before .before .before .before .before .before .before .before .before .before .before .before .before .args .valid)) (c .before .before .before .before .before .before .before .before .before .before .before .before .before .before .before .before .before .before .before .args .w .line) ≡ Nothing = cc in miss-writes _ _ _ _ _ _ _ _ _ _ _ e (c .before .before .before .before .before .before .write-through2 .ensures)
+returns-3 c = miss-writes _ _ _ _ _ _ _ _ _ _ _ (missing (c .before .before .before .before .before .before .before .before .before .before)) (c .before .before .before .before .before .before .write-through2 .ensures)
 
 pub write-doubleword-spec : {M : Type 1} → statement M
 write-doubleword-spec =

@@ -6,6 +6,10 @@ use borrow.Author.Needs.{needs}
 use Rattle.directory.proofs.steps.Directory.snoop.Statement.{statement}
 use Rattle.directory.proofs.steps.Directory.snoop.Tie as tie
 
+-- the number of the set's state
+number : (c : tie.After-state-number) → c .state-number .result ≡ stateOf (c .before .before .before .before .before .before .args .t1) (setOf (c .before .before .before .before .before .before .args .address))
+number c = rw (c .state-number .ensures, c .before .set-of .ensures)
+
 set-of-requires : tie.Need-set-of-requires
 set-of-requires c κs = search needs
 
@@ -14,14 +18,14 @@ state-number-requires c κs = search needs
 
 returns : tie.Need-returns
 unfolding snoopCall
-returns c = let a = c .before .before .before .before .before .before .before .args in let e : c .before .state-number .result ≡ stateOf (a .t1) (setOf (a .address)) = cc in rw (← e, ne-eqb _ _ (c .if1 .taken))
+returns c = rw (← number (c .before), ne-eqb _ _ (c .if1 .taken))
 
 snooped-requires : tie.Need-snooped-requires
 snooped-requires c κs = search needs
 
 returns-2 : tie.Need-returns-2
 unfolding snoopCall
-returns-2 c = let a = c .before .before .before .before .before .before .before .before .args in let e : c .before .before .state-number .result ≡ stateOf (a .t1) (setOf (a .address)) = cc in rw (← e, eq-eqb _ _ (c .before .if1 .left), c .snooped .ensures)
+returns-2 c = rw (← number (c .before .before), eq-eqb _ _ (c .before .if1 .left), c .snooped .ensures)
 
 pub snoop-spec : {M : Type 1} → statement M
 snoop-spec =

@@ -1,6 +1,6 @@
 use native.Mathlib.Omega.{arith}
 use Prim.Native.Nat.{_<_}
-use mathlib.Core.Path.{_≡_}
+use mathlib.Core.Path.{_≡_, sym, _∙_}
 use Rattle.directory.specs.declared.ways.Found.the-variants.{At, Nothing}
 use Rattle.directory.specs.Address.{lineOf}
 use Rattle.directory.specs.Steps.{lookupOf, invalidated}
@@ -12,7 +12,7 @@ use Rattle.directory.proofs.steps.Directory.snooped.Tie as tie
 
 -- the line that is found
 found : (c : tie.After-set-of) → lookupOf (c .before .before .before .before .before .before .before .before .before .args .t1) (c .before .before .before .before .before .before .before .before .before .args .address) ≡ At (c .before .before .way .given .0 .0)
-found c = cc
+found c = sym (c .before .before .before .before .lookup .ensures) ∙ c .before .before .way .given .1
 
 inside : (c : tie.After-set-of) → lineOf (c .set-of .result) (c .before .before .way .given .0 .0) < 512
 inside c = let l = lookup-below _ _ _ _ (found c) in let s = c .set-of .ensures in omega arith
@@ -31,7 +31,7 @@ enum-told c = search needs
 
 returns-2 : tie.Need-returns-2
 unfolding invalidated
-returns-2 c = let a = c .before .before .before .before .before .before .before .args in let e : lookupOf (a .t1) (a .address) ≡ Nothing = cc in rw (snoop-on (a .t1) (a .address) (c .before .before .before .before .before .before .if1 .left), e)
+returns-2 c = let a = c .before .before .before .before .before .before .before .args in let e : lookupOf (a .t1) (a .address) ≡ Nothing = sym (c .before .before .lookup .ensures) ∙ c .enum-told .given .1 in rw (snoop-on (a .t1) (a .address) (c .before .before .before .before .before .before .if1 .left), e)
 
 set-of-requires : tie.Need-set-of-requires
 set-of-requires c κs = search needs
