@@ -44,6 +44,6 @@ unfoldable pub digitsOf : ℕ → ℕ → List ℕ
 digitsOf zero n = []
 digitsOf (suc most) n = cond (ltb n 10) [] (digitsOf most (n / 10)) ++ ((48 + n % 10) ∷ [])
 
--- A number has at most as many digits as itself and one.
+-- All of its digits: one more than the number itself is always room enough.
 unfoldable pub decimal : ℕ → List ℕ
 decimal n = digitsOf (suc n) n
