@@ -21,16 +21,30 @@ abbrev pub badRam : ℕ → Bool
 badRam ram = ltb ram 16 || ltb 16777216 ram || not (eqb (ram % 16) 0)
 
 -- "1. RAM length. 2. Parity length is not RAM / 4. 3. Data array is not 8,192 bytes.": of the lengths of what is lent.
+abbrev pub ramNumber : ℕ → ℕ
+ramNumber ram = when (badRam ram) 1
+
+abbrev pub arrayNumber : ℕ → ℕ
+arrayNumber array = when (not (eqb array 8192)) 3
+
 unfoldable pub memoryNumber : ℕ → ℕ → ℕ
-memoryNumber ram parity = orElse (when (badRam ram) 1) (when (not (eqb parity (ram / 4))) 2)
+memoryNumber ram parity = orElse (ramNumber ram) (when (not (eqb parity (ram / 4))) 2)
 
 -- 1 to 3, for a call that receives the data array too.
 unfoldable pub lentNumber : ℕ → ℕ → ℕ → ℕ
-lentNumber ram parity array = orElse (memoryNumber ram parity) (when (not (eqb array 8192)) 3)
+lentNumber ram parity array = orElse (memoryNumber ram parity) (arrayNumber array)
 
 -- "4. Width not 1, 2, 4. 5. Address + width beyond RAM"
 abbrev pub badWidth : ℕ → Bool
 badWidth width = not (eqb width 1) && not (eqb width 2) && not (eqb width 4)
+
+-- "(view: address not in RAM)": number 5 of a view, which has no width.
+abbrev pub viewAddressNumber : ℕ → ℕ → ℕ
+viewAddressNumber ram address = when (not (ltb address ram)) 5
+
+-- 1, 3 and 5, for a view.
+unfoldable pub viewInputNumber : ℕ → ℕ → ℕ → ℕ
+viewInputNumber ram array address = orElse (ramNumber ram) (orElse (arrayNumber array) (viewAddressNumber ram address))
 
 -- "6. Not 32 answers, or one above 7."
 unfoldable pub anyAbove : ℕ → List ℕ → Bool

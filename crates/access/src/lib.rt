@@ -16,4 +16,5 @@ pub use master::reset;
 pub use master::snoop;
 pub use outcome::Outcome;
 pub use reading::read;
+pub use refusal::view_input_number;
 pub use writing::write;

@@ -5,7 +5,7 @@ ghost use Prim.Native.Nat.{_+_, _-_, _^_, _<_};
 ghost use lib.Dec.{ltb};
 ghost use lib.ListN.{length};
 ghost use Rattle.directory.specs.Address.{setOf};
-ghost use Rattle.access.specs.Refusal.{anyAbove, argumentNumber, badAnswers, badRam, badWidth, externalNumber, lentNumber, memoryNumber, orElse, statesIn, valueNumber, when};
+ghost use Rattle.access.specs.Refusal.{anyAbove, argumentNumber, badAnswers, badRam, badWidth, externalNumber, lentNumber, memoryNumber, orElse, statesIn, valueNumber, viewInputNumber, when};
 
 fn number_if(bad: bool, number: u32) -> u32
     ensures { λ r. ⌜ r ≡ when bad number ⌝ }
@@ -129,6 +129,17 @@ pub fn external_number(ram: usize, address: u32, count: usize) -> u32
     number_if(
         (count == 0) | (16 < start % 16 + count) | (ram < start + count),
         10,
+    )
+}
+
+// Numbers 1, 3 and 5 of a view, of the lengths of RAM and data array.
+pub fn view_input_number(ram: usize, array: usize, address: u32) -> u32
+    ensures { λ r. ⌜ r ≡ viewInputNumber ram array address ⌝ }
+{
+    let outside = !((address as usize) < ram);
+    or_else(
+        number_if(bad_ram(ram), 1),
+        or_else(number_if(array != 8192, 3), number_if(outside, 5)),
     )
 }
 

@@ -8,5 +8,6 @@ pub use change::Change;
 pub use change::Moved;
 pub use change::Wanted;
 pub use change::changed_by;
+pub use change::slot_of;
 pub use reading::read_doubleword;
 pub use writing::write_doubleword;

@@ -1,0 +1,2 @@
+-- Line views by document 01: what a reader must believe of this crate.
+pub mod View

@@ -1,0 +1,40 @@
+-- Document 01, 'Other masters, views, and the plain memory': line views, asked of the arrays of a directory.
+use Prim.Native.Nat.{ℕ, _*_, _/_}
+use mathlib.Core.Bool.{Bool, cond}
+use mathlib.Core.List.{List, []}
+use lib.Dec.{eqb}
+use lib.ListN.{length}
+use Rattle.directory.specs.declared.ways.Found.{Found}
+use Rattle.directory.specs.declared.ways.Found.the-variants.{At, Nothing}
+use Rattle.directory.specs.Address.{setOf}
+use Rattle.directory.specs.Ways.{lookupIn}
+use Rattle.directory.specs.State.{stateIn}
+use Rattle.bus.specs.Bytes.{bytesAt}
+use Rattle.doubleword.specs.Doubleword.{slotOf}
+use Rattle.access.specs.Refusal.{orElse, viewInputNumber}
+use Rattle.access.specs.Access.{State}
+
+-- "a companion question on the same inputs gives the view's number": 1, 3 and 5, then the state of its set.
+unfoldable pub viewNumberIn : List ℕ → List Bool → List ℕ → ℕ → ℕ → ℕ → ℕ
+viewNumberIn tags valid lru ram array address =
+    orElse (viewInputNumber ram array address) (stateIn tags valid lru (setOf address))
+
+-- "A line view is a part of the data array where the line is held, otherwise a part of RAM, always the sixteen bytes around the address": for each case of a lookup's answer.
+unfoldable pub shown : Found → List ℕ → List ℕ → ℕ → List ℕ
+shown (At way) ram array address = bytesAt array (slotOf address way) 16
+shown Nothing ram array address = bytesAt ram (address / 16 * 16) 16
+
+-- "a refused view is the empty part at RAM's start"
+unfoldable pub viewIn : List ℕ → List Bool → List ℕ → List ℕ → List ℕ → ℕ → List ℕ
+viewIn tags valid lru ram array address =
+    cond (eqb (viewNumberIn tags valid lru (length ram) (length array) address) 0)
+    (shown (lookupIn tags valid address) ram array address) []
+
+-- The same of the state of the unit.
+abbrev pub viewNumberOf : State → ℕ → ℕ
+viewNumberOf s address =
+    viewNumberIn (s .directory .tags) (s .directory .valid) (s .directory .lru) (length (s .memory .ram)) (length (s .array)) address
+
+abbrev pub viewOf : State → ℕ → List ℕ
+viewOf s address =
+    viewIn (s .directory .tags) (s .directory .valid) (s .directory .lru) (s .memory .ram) (s .array) address

@@ -1,0 +1,61 @@
+// Line views: the sixteen bytes around an address, as a part of the data array or of RAM, and the number of a view.
+// The arrays of the directory are lent, so a view copies nothing.
+ghost use mathlib.Core.Path.{_≡_};
+ghost use Prim.Native.Nat.{_+_, _≤_};
+ghost use lib.ListN.{length};
+ghost use Rattle.bus.specs.Bytes.{bytesAt};
+ghost use Rattle.views.specs.View.{viewIn, viewNumberIn};
+use access::view_input_number;
+use directory::Found;
+use directory::lookup;
+use directory::set_of;
+use directory::state_number;
+use doubleword::slot_of;
+
+// The companion question: 0 where the view is accepted, else the number that turns it away.
+pub fn view_number<'a>(
+    tags: &'a [u32; 512],
+    valid: &'a [bool; 512],
+    lru: &'a [u8; 128],
+    ram: &'a [u8],
+    data: &'a [u8],
+    address: u32,
+) -> u32
+    ensures { λ r. ⌜ r ≡ viewNumberIn (now (tags .entry)) (now (valid .entry)) (now (lru .entry)) (length (now (ram .entry))) (length (now («data» .entry))) address ⌝ }
+{
+    let number = view_input_number(ram.len(), data.len(), address);
+    if number != 0 {
+        return number;
+    }
+    state_number(tags, valid, lru, set_of(address))
+}
+
+// The sixteen bytes around an address, or the empty part at RAM's start where the view is turned away.
+pub fn view<'a>(
+    tags: &'a [u32; 512],
+    valid: &'a [bool; 512],
+    lru: &'a [u8; 128],
+    ram: &'a [u8],
+    data: &'a [u8],
+    address: u32,
+) -> &'a [u8]
+    ensures { λ r. ⌜ now r ≡ viewIn (now (tags .entry)) (now (valid .entry)) (now (lru .entry)) (now (ram .entry)) (now («data» .entry)) address ⌝ }
+{
+    let number = view_number(tags, valid, lru, ram, data, address);
+    if number != 0 {
+        return &ram[0..0];
+    }
+    match lookup(tags, valid, address) {
+        Found::At(way) => sixteen(data, slot_of(address, way)),
+        Found::Nothing => sixteen(ram, (address / 16 * 16) as usize),
+    }
+}
+
+// Sixteen bytes, from a place on.
+fn sixteen<'a>(bytes: &'a [u8], from: usize) -> &'a [u8]
+    requires { ⌜ from + 16 ≤ length (now bytes) ⌝ }
+    ensures { λ r. ⌜ now r ≡ bytesAt (now (bytes .entry)) from 16 ⌝ }
+{
+    let to = from + 16;
+    &bytes[from..to]
+}
