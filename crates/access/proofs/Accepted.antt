@@ -6,10 +6,10 @@ use mathlib.Core.List.{List}
 use native.Mathlib.Omega.{arith}
 use lib.Dec.{eqb, ltb}
 use lib.ListN.{length}
-use borrow.Author.Tests.{eq-eqb, ne-eqb, eqb-true, eqb-false, ltb-false, not-false}
+use borrow.Author.Tests.{eq-eqb, ne-eqb, eqb-true, eqb-false, ltb-true, ltb-false, not-false}
 use Rattle.laws.proofs.Tests.{neither, cond-true, cond-false, same-or, by-test}
 use Rattle.bus.specs.Groups.{group, groups}
-use Rattle.access.specs.Refusal.{when, orElse, badRam, memoryNumber, lentNumber, badWidth, badAnswers, argumentNumber, externalNumber}
+use Rattle.access.specs.Refusal.{when, orElse, badRam, memoryNumber, lentNumber, badWidth, badAnswers, argumentNumber, ramNumber, arrayNumber, viewAddressNumber, viewInputNumber, externalNumber}
 
 -- neither of two numbers is met
 pub or-zero : (a b : ℕ) → orElse a b ≡ 0 → (a ≡ 0) × (b ≡ 0)
@@ -43,26 +43,48 @@ pub record GoodMemory (ram parity : ℕ) : Type 0 where
   pub whole : ram % 16 ≡ 0
   pub bits : parity ≡ ram / 4
 
+-- 1 alone
+ram-accepted : (ram : ℕ) → ramNumber ram ≡ 0 → (16 ≤ ram) × (ram ≤ 16777216) × (ram % 16 ≡ 0)
+ram-accepted ram e =
+    let r = when-zero (badRam ram) 1 (omega arith) e in
+    let a = neither (ltb ram 16 || ltb 16777216 ram) _ r in
+    let b = neither (ltb ram 16) (ltb 16777216 ram) (a .0) in
+    (ltb-false ram 16 (b .0), ltb-false 16777216 ram (b .1), eqb-true (ram % 16) 0 (not-false _ (a .1)))
+
 pub memory-accepted : (ram parity : ℕ) → memoryNumber ram parity ≡ 0 → GoodMemory ram parity
 unfolding memoryNumber
 memory-accepted ram parity e =
-    let p = or-zero (when (badRam ram) 1) _ e in
-    let r = when-zero (badRam ram) 1 (omega arith) (p .0) in
-    let a = neither (ltb ram 16 || ltb 16777216 ram) _ r in
-    let b = neither (ltb ram 16) (ltb 16777216 ram) (a .0) in
+    let p = or-zero (ramNumber ram) _ e in
+    let r = ram-accepted ram (p .0) in
     let q = when-zero (not (eqb parity (ram / 4))) 2 (omega arith) (p .1) in
-    record {
-      least = ltb-false ram 16 (b .0);
-      most = ltb-false 16777216 ram (b .1);
-      whole = eqb-true (ram % 16) 0 (not-false _ (a .1));
-      bits = eqb-true parity (ram / 4) (not-false _ q);
-    }
+    record { least = r .0; most = r .1; whole = r .2; bits = eqb-true parity (ram / 4) (not-false _ q) }
+
+-- 3
+array-accepted : (array : ℕ) → arrayNumber array ≡ 0 → array ≡ 8192
+array-accepted array e = eqb-true array 8192 (not-false _ (when-zero (not (eqb array 8192)) 3 (omega arith) e))
 
 pub lent-accepted : (ram parity array : ℕ) → lentNumber ram parity array ≡ 0 → GoodMemory ram parity × (array ≡ 8192)
 unfolding lentNumber
 lent-accepted ram parity array e =
     let p = or-zero (memoryNumber ram parity) _ e in
-    (memory-accepted ram parity (p .0), eqb-true array 8192 (not-false _ (when-zero (not (eqb array 8192)) 3 (omega arith) (p .1))))
+    (memory-accepted ram parity (p .0), array-accepted array (p .1))
+
+-- 1, 3 and 5 of a view
+pub record GoodView (ram array address : ℕ) : Type 0 where
+  pub whole : ram % 16 ≡ 0
+  pub lines : array ≡ 8192
+  pub inside : address < ram
+
+pub view-accepted : (ram array address : ℕ) → viewInputNumber ram array address ≡ 0 → GoodView ram array address
+unfolding viewInputNumber
+view-accepted ram array address e =
+    let p = or-zero (ramNumber ram) _ e in
+    let q = or-zero (arrayNumber array) _ (p .1) in
+    record {
+      whole = ram-accepted ram (p .0) .2;
+      lines = array-accepted array (q .0);
+      inside = ltb-true address ram (not-false _ (when-zero (not (ltb address ram)) 5 (omega arith) (q .1)));
+    }
 
 -- 4 to 7
 pub record GoodArguments (ram address width answers log : ℕ) : Type 0 where

@@ -1,72 +1,64 @@
+use denote.Ref.{now}
+use mathlib.Core.Path.{_≡_, sym, _∙_}
+use Rattle.directory.specs.declared.ways.Found.the-variants.{At, Nothing}
+use Rattle.directory.specs.Ways.{lookupIn}
+use Rattle.directory.proofs.FourWays.{lookup-below}
+use Rattle.views.proofs.Viewing.{view-refused, slot-inside, line-inside, view-held, view-missed}
 use borrow.Author.Needs.{needs}
 use Rattle.views.proofs.view.Statement.{statement}
 use Rattle.views.proofs.view.Tie as tie
-use Rattle.views.proofs.view.Reads as reads
-use Rattle.views.proofs.view.Lts as lts
-use Rattle.directory.proofs.lookup.Reads as lookup-reads
-use Rattle.doubleword.proofs.slot_of.Reads as slot-of-reads
-use Rattle.views.proofs.sixteen.Reads as sixteen-reads
-use Rattle.views.proofs.view_number.Reads as view-number-reads
 
--- src/lib.rt:44:9
 view-number-requires : tie.Need-view-number-requires
 view-number-requires c κs = search needs
 
--- src/lib.rt:46:16
 sub-result : tie.Need-sub-result
 sub-result c = search needs
 
--- src/lib.rt:46:16
 part-result-start : tie.Need-part-result-start
 part-result-start c = search needs
 
--- src/lib.rt:46:16
 part-result-end : tie.Need-part-result-end
 part-result-end c = search needs
 
--- src/lib.rt:46:9
 returns : tie.Need-returns
-returns c = ?
+returns c = view-refused _ _ _ _ _ _ _ (c .before .before .view-number .ensures) (c .before .if1 .taken)
 
--- src/lib.rt:48:11
+-- what the lookup found
+found : (c : tie.After-way) → lookupIn (now (c .before .before .before .before .before .before .before .args .tags)) (now (c .before .before .before .before .before .before .before .args .valid)) (c .before .before .before .before .before .before .before .args .address) ≡ At (c .way .given .0 .0)
+found c = sym (c .before .before .lookup .ensures) ∙ c .way .given .1
+
+missing : (c : tie.After-enum-told) → lookupIn (now (c .before .before .before .before .before .before .before .args .tags)) (now (c .before .before .before .before .before .before .before .args .valid)) (c .before .before .before .before .before .before .before .args .address) ≡ Nothing
+missing c = sym (c .before .before .lookup .ensures) ∙ c .enum-told .given .1
+
 lookup-requires : tie.Need-lookup-requires
 lookup-requires c κs = search needs
 
--- src/lib.rt:49:19
 enum-known-way : tie.Need-enum-known-way
 enum-known-way c = search needs
 
--- src/lib.rt:49:41
 slot-of-requires : tie.Need-slot-of-requires
-slot-of-requires c κs = ?
+slot-of-requires c κs = lookup-below _ _ _ _ (found (c .before))
 
--- src/lib.rt:49:27
 sixteen-requires : tie.Need-sixteen-requires
-sixteen-requires c κs = ?
+sixteen-requires c κs = slot-inside _ _ _ _ _ _ _ (c .before .before .before .before .before .before .view-number .ensures) (c .before .before .before .before .before .if1 .left) _ (c .slot-of .ensures .1)
 
--- src/lib.rt:50:41
 enum-told : tie.Need-enum-told
 enum-told c = search needs
 
--- src/lib.rt:50:41
 mul-sixteen : tie.Need-mul-sixteen
 mul-sixteen c = search needs
 
--- src/lib.rt:50:40
 cast-sixteen : tie.Need-cast-sixteen
 cast-sixteen c = search needs
 
--- src/lib.rt:50:27
 sixteen-requires-2 : tie.Need-sixteen-requires-2
-sixteen-requires-2 c κs = ?
+sixteen-requires-2 c κs = line-inside _ _ _ _ _ _ _ (c .before .before .before .before .view-number .ensures) (c .before .before .before .if1 .left)
 
--- src/lib.rt:34:1
 returns-2 : tie.Need-returns-2
-returns-2 c = ?
+returns-2 c = view-held _ _ _ _ _ _ _ (c .before .before .before .before .before .before .before .view-number .ensures) (c .before .before .before .before .before .before .if1 .left) _ (found (c .before .before .before)) _ (c .before .slot-of .ensures .0) _ (c .sixteen .ensures)
 
--- src/lib.rt:34:1
 returns-3 : tie.Need-returns-3
-returns-3 c = ?
+returns-3 c = view-missed _ _ _ _ _ _ _ (c .before .before .before .before .before .view-number .ensures) (c .before .before .before .before .if1 .left) (missing (c .before)) _ (c .sixteen2 .ensures)
 
 pub view-spec : {M : Type 1} → statement M
 view-spec =

@@ -1,0 +1,70 @@
+-- Laws of views: a part of a slice as bytes, and a view that is refused, held or not held.
+use Prim.Native.Nat.{ℕ, zero, suc, _+_, _*_, _/_, _-_, _≤_}
+use mathlib.Core.Path.{_≡_, refl, sym, _∙_, ap}
+use mathlib.Core.Bool.{Bool}
+use mathlib.Core.List.{List, [], _∷_}
+use native.Mathlib.Omega.{arith}
+use lib.ListN.{length, getD, take, drop}
+use lib.Seq.{drop-cons}
+use borrow.Author.Tests.{eq-eqb, ne-eqb}
+use Rattle.laws.proofs.Tests.{cond-true, cond-false}
+use Rattle.directory.specs.declared.ways.Found.{Found}
+use Rattle.directory.specs.declared.ways.Found.the-variants.{At, Nothing}
+use Rattle.directory.specs.Address.{setOf}
+use Rattle.directory.specs.State.{stateIn}
+use Rattle.directory.specs.Ways.{lookupIn}
+use Rattle.bus.specs.Bytes.{bytesAt}
+use Rattle.doubleword.specs.Doubleword.{slotOf}
+use Rattle.access.specs.Refusal.{orElse, viewInputNumber}
+use Rattle.access.proofs.Accepted.{or-zero, zero-or, first-or, GoodView, view-accepted}
+use Rattle.views.specs.View.{viewNumberIn, shown, viewIn}
+
+-- a part that lies within a list
+pub part-bytes : (l : List ℕ) (i n : ℕ) → i + n ≤ length l → take n (drop i l) ≡ bytesAt l i n
+unfolding bytesAt
+part-bytes l i zero h = refl
+part-bytes l i (suc n) h =
+    ap (take (suc n)) (drop-cons l i 0 (omega arith)) ∙ ap (λ (r : List ℕ). getD l i 0 ∷ r) (part-bytes l (suc i) n (omega arith))
+
+pub sixteen-bytes : (l : List ℕ) (from to : ℕ) → to ≡ from + 16 → from + 16 ≤ length l → take (to - from) (drop from l) ≡ bytesAt l from 16
+sixteen-bytes l from to e h =
+    let k : to - from ≡ 16 = omega arith in
+    ap (λ (n : ℕ). take n (drop from l)) k ∙ part-bytes l from 16 h
+
+-- the first of two numbers that is met
+pub number-first : (n a b : ℕ) → n ≡ a → (n ≡ 0 → ⊥) → n ≡ orElse a b
+number-first n a b e h = e ∙ sym (first-or a b (λ z. h (e ∙ z)))
+
+pub number-later : (n k a b : ℕ) → n ≡ a → n ≡ 0 → k ≡ b → k ≡ orElse a b
+number-later n k a b e z f = f ∙ sym (zero-or a b (sym e ∙ z))
+
+-- what an accepted view knows of lengths and address
+module _ (tags : List ℕ) (valid : List Bool) (lru : List ℕ) (ram array address n : ℕ) (en : n ≡ viewNumberIn tags valid lru ram array address) (z : n ≡ 0) where
+  good : GoodView ram array address
+  unfolding viewNumberIn
+  good = view-accepted _ _ _ (or-zero (viewInputNumber ram array address) (stateIn tags valid lru (setOf address)) (sym en ∙ z) .0)
+
+  pub slot-inside : (slot : ℕ) → slot + 16 ≤ 8192 → slot + 16 ≤ array
+  slot-inside slot h = omega (arith, good .lines)
+
+  pub line-inside : address / 16 * 16 + 16 ≤ ram
+  line-inside = omega (arith, good .whole, good .inside)
+
+-- a view by its number
+module _ (tags : List ℕ) (valid : List Bool) (lru ram array : List ℕ) (address n : ℕ) (en : n ≡ viewNumberIn tags valid lru (length ram) (length array) address) where
+  pub view-refused : (n ≡ 0 → ⊥) → [] ≡ viewIn tags valid lru ram array address
+  unfolding viewIn
+  view-refused h = sym (cond-false _ _ _ (ne-eqb _ 0 (λ z. h (en ∙ z))))
+
+  module _ (z : n ≡ 0) where
+    view-done : viewIn tags valid lru ram array address ≡ shown (lookupIn tags valid address) ram array address
+    unfolding viewIn
+    view-done = cond-true _ _ _ (eq-eqb _ 0 (sym en ∙ z))
+
+    pub view-held : (way : ℕ) → lookupIn tags valid address ≡ At way → (slot : ℕ) → slot ≡ slotOf address way → (r : List ℕ) → r ≡ bytesAt array slot 16 → r ≡ viewIn tags valid lru ram array address
+    unfolding shown
+    view-held way e slot s r k = k ∙ rw s (sym (view-done ∙ rw e))
+
+    pub view-missed : lookupIn tags valid address ≡ Nothing → (r : List ℕ) → r ≡ bytesAt ram (address / 16 * 16) 16 → r ≡ viewIn tags valid lru ram array address
+    unfolding shown
+    view-missed e r k = k ∙ sym (view-done ∙ rw e)
