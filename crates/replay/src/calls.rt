@@ -175,13 +175,13 @@ fn directory_line(
 }
 
 // The digests show that a view and its number leave all as it was.
-fn view_line(
-    line: &[u8],
+fn view_line<'a>(
+    line: &'a [u8],
     d: Directory,
-    ram: &[u8],
-    parity: &[u8],
-    data: &[u8],
-    log: &[u32],
+    ram: &'a [u8],
+    parity: &'a [u8],
+    data: &'a [u8],
+    log: &'a [u32],
 ) -> Directory {
     let address = number(line, 1);
     view_answer(&d.tags, &d.valid, &d.lru, ram, data, address.value);
