@@ -16,6 +16,7 @@ from scripts.parity import parity
 from scripts.random_calls import random_scripts
 from scripts.sizing import sizing
 from scripts.states import states
+from scripts.views import views
 from scripts.writer import Script
 
 CRATE = "crates/replay"
@@ -24,8 +25,9 @@ CRATE = "crates/replay"
 @cache
 def scripts() -> tuple[Script, ...]:
     """Tables and examples first, then random calls."""
-    tables = (bench(), sizing(), burst(), ken(), modes(), parity(), numbers(), states(), board())
-    return (*tables, *random_scripts())
+    records = (bench(), sizing(), burst(), ken())
+    rules = (modes(), parity(), numbers(), states(), board(), views())
+    return (*records, *rules, *random_scripts())
 
 
 def arguments() -> str:

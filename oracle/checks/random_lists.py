@@ -128,10 +128,13 @@ class RandomList:
 
     def view(self) -> None:
         address = self.address()
+        before = snapshot(self.unit)
         number, part = view(self.unit, address)
         expected, sixteen = self.plain.view(address)
         self.compared("view", number, expected)
         check("view", access.part_bytes(part, self.unit.ram, self.unit.data), sixteen)
+        check("a view changes nothing", snapshot(self.unit), before)
+        self.seen["view of a held line"] += part.buffer == "data"
 
     def snoop(self) -> None:
         address = self.address()
@@ -167,7 +170,7 @@ def random_lists() -> None:
         check(f"{kind} met", seen[kind] > 50, True)
     for kind in ("read refused", "write refused", "external refused", "view refused"):
         check(f"{kind} met", seen[kind] > 50, True)
-    for kind in ("control refused", "hit", "replaced"):
+    for kind in ("control refused", "hit", "replaced", "view of a held line"):
         check(f"{kind} met", seen[kind] > 50, True)
 
 
@@ -210,7 +213,7 @@ def _any_call(source: random.Random, unit: Unit, log: list[int]) -> int:
     address = source.choice((0, 1, 13, 14, 15, 16, 2046, 2050, 99999))
     width = source.choice((1, 2, 4, 4, 4, 3))
     answers = [source.randrange(8) for _ in range(ANSWERS)] + [0] * (source.random() < 0.1)
-    call = source.randrange(6)
+    call = source.randrange(7)
     if call < 2:
         return read(unit, address, width, answers, False, log).number
     if call == 2:
@@ -220,5 +223,9 @@ def _any_call(source: random.Random, unit: Unit, log: list[int]) -> int:
         return external(unit, address, bytes(source.randrange(18))).number
     if call == 4:
         return access.snoop(unit.directory, address).number
+    if call == 5:
+        number, part = view(unit, address)
+        check("a refused view is empty", part.length, 0 if number else LINE_BYTES)
+        return number
     cd, nw = source.random() < 0.5, source.random() < 0.5
     return access.control(unit.directory, cd, nw).number

@@ -23,6 +23,7 @@ NUMBERS = {
     "F": (0,),
     "C": (0, 9),
     "Z": (0,),
+    "V": (0, 1, 3, 5, 21, 22, 23),
 }
 EVENTS = (
     "read hits",
@@ -32,6 +33,8 @@ EVENTS = (
     "lines replaced",
     "lines snooped",
     "wrong parity",
+    "views of held lines",
+    "views of RAM",
 )
 LENGTHS = (15, 16, 17, 24, 32, 2064, 65_536)
 

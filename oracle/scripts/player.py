@@ -4,7 +4,7 @@ A line is a letter and its fields, a blank before each. Numbers are decimal.
 
     N ram parity data log seed seed   a new unit: four lengths, the seeds of RAM and data array
     T place tag                       the directory's fields, stored without a call
-    V place mark
+    K place mark
     L set number
     M cd nw
     P place mask                      the parity byte, exclusive-or the mask
@@ -17,12 +17,14 @@ A line is a letter and its fields, a blank before each. Numbers are decimal.
     F
     C cd nw
     Z
+    V address                         a line view, with its companion question
     B address width                   the board's answers
 
 A row has the letter and fields with a tab before each. A call's fields are number, value, cycle
 count, three words for each record, and the digests of directory, RAM, parity array, data array
-and log. A new unit's are the digests, those of B the answers as a run of digits. The other lines
-print nothing.
+and log. A view's are its number, the length of the part that it shows, the part's bytes as hex
+pairs in one field, and the digests. A new unit's are the digests, those of B the answers as a run
+of digits. The other lines print nothing.
 """
 
 import struct
@@ -95,10 +97,12 @@ class Player:
         if letter == "B":
             address, width = (int(field) for field in fields)
             return None, _row(letter, "".join(str(a) for a in board.answers(address, width)))
-        if letter in "TVLMP":
+        if letter in "TKLMP":
             self._store(letter, *(int(field) for field in fields))
             return None, ""
         self.log = fresh_log(len(self.log))
+        if letter == "V":
+            return self._view(int(fields[0]))
         result = self._call(letter, fields)
         words = self.log[: RECORD_WORDS * result.cycles]
         row = _row(letter, result.number, result.value, result.cycles, *words, *self.digests())
@@ -108,7 +112,7 @@ class Player:
         directory = self.unit.directory
         if letter == "T":
             directory.tags[place] = value
-        elif letter == "V":
+        elif letter == "K":
             directory.valid[place] = bool(value)
         elif letter == "L":
             directory.lru[place] = value
@@ -133,6 +137,13 @@ class Player:
         assert letter == "Z", letter
         result, self.unit.directory = access.reset()
         return result
+
+    def _view(self, address: int) -> tuple[Result, str]:
+        """A view and its companion question, asked on the same inputs."""
+        lent = (self.unit.directory, self.unit.ram, self.unit.data)
+        number = access.view_number(*lent, address)
+        shown = access.part_bytes(access.line_view(*lent, address), self.unit.ram, self.unit.data)
+        return Result(number), _row("V", number, len(shown), shown.hex(), *self.digests())
 
     def _access(
         self, letter: str, address: int, width: int, third: int, given: list[str]

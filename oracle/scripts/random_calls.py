@@ -38,17 +38,17 @@ class Kind:
 
 
 KINDS = (
-    Kind("tiny", 16, 64, (16, 32), "RRRRRRWWWXSFCM", hostile=0.06, faults=0.3, planted=True),
-    Kind("hot", 14, 80, (12_304, 16_400), "RRRRRRRRRRRRRRWWWWWWXS", hostile=0.01),
-    Kind("masters", 14, 80, (2064, 4128), "RRRRRRRWWWWXXXXSSSFCCMMZ", faults=0.05),
-    Kind("large", 10, 64, (65_536, 20_496), "RRRRRRWWWrrwXXSFC", hostile=0.04, faults=0.002),
-    Kind("long", 2, 560, (2064, 16_400), "RRRRRRRRWWWWrwXXS", hostile=0.02, planted=True),
+    Kind("tiny", 16, 64, (16, 32), "RRRRRRWWWXSFCMV", hostile=0.06, faults=0.3, planted=True),
+    Kind("hot", 14, 80, (12_304, 16_400), "RRRRRRRRRRRRRRWWWWWWXSV", hostile=0.01),
+    Kind("masters", 14, 80, (2064, 4128), "RRRRRRRWWWWXXXXSSSFCCMMZVV", faults=0.05),
+    Kind("large", 10, 64, (65_536, 20_496), "RRRRRRWWWrrwXXSFCV", hostile=0.04, faults=0.002),
+    Kind("long", 2, 560, (2064, 16_400), "RRRRRRRRWWWWrwXXSV", hostile=0.02, planted=True),
     Kind(
         "refused",
         110,
         11,
         (16, 32, 2064),
-        "RRRRRWWWWWXXXSSSCFr",
+        "RRRRRWWWWWXXXSSSCFrVV",
         hostile=0.08,
         planted=True,
         ill_formed=True,
@@ -77,6 +77,7 @@ class RandomCalls:
             "C": self._control,
             "M": self._mode,
             "Z": self._reset,
+            "V": lambda: self.script.view(self._address()),
         }
 
     def made(self) -> Script:

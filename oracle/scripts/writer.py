@@ -82,7 +82,7 @@ class Script:
         self.store("T", place_of(set_index, way), tag)
 
     def mark(self, set_index: int, way: int, valid: bool) -> None:
-        self.store("V", place_of(set_index, way), int(valid))
+        self.store("K", place_of(set_index, way), int(valid))
 
     def plant(self, set_index: int, way: int, tag: int) -> None:
         """Make one line valid; its bytes in the data array stay what they are."""
@@ -133,6 +133,15 @@ class Script:
 
     def reset(self) -> Result:
         return self._call("Z")
+
+    def view(self, address: int) -> tuple[int, bytes]:
+        """A line view: its number and the bytes that it shows, as they are printed."""
+        held = self.held(address) is not None
+        self._call(_fields("V", address))
+        _, number, length, shown, *_ = self.rows[-1].split("\t")
+        assert int(length) == len(shown) // 2
+        self.met["views of held lines" if held else "views of RAM"] += int(number) == 0
+        return int(number), bytes.fromhex(shown)
 
     def board(self, address: int, width: int) -> str:
         """Ask for the board's answers; the field that is printed."""

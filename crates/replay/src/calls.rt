@@ -1,7 +1,9 @@
-// Lines on a unit: calls, each with its row, and the board's answers.
+// Lines on a unit: calls and views, each with its row, and the board's answers.
 ghost use Rattle.io.specs.Counts.{Counts};
 use crate::print::board_row;
 use crate::print::call_row;
+use crate::print::end_with_digests;
+use crate::print::view_fields;
 use crate::script::bytes;
 use crate::script::digits;
 use crate::script::letter_of;
@@ -18,7 +20,7 @@ struct Access {
     next: usize,
 }
 
-// Any letter but a call's and the board's is a store's.
+// Any letter but a call's, a view's and the board's is a store's.
 pub fn run_line(
     line: &[u8],
     d: Directory,
@@ -33,6 +35,7 @@ pub fn run_line(
         b'W' | b'w' => write_line(line, d, ram, parity, data, log),
         b'X' => external_line(line, d, ram, parity, data, log),
         b'S' | b'F' | b'C' | b'Z' => directory_line(line, d, ram, parity, data, log),
+        b'V' => view_line(line, d, ram, parity, data, log),
         b'B' => {
             board_line(line);
             d
@@ -169,6 +172,35 @@ fn directory_line(
     let letter = letter_of(line);
     let done = directory_call(letter, line, d);
     call_row(letter, done, ram, parity, data, log)
+}
+
+// The digests show that a view and its number leave all as it was.
+fn view_line<'a>(
+    line: &'a [u8],
+    d: Directory,
+    ram: &'a [u8],
+    parity: &'a [u8],
+    data: &'a [u8],
+    log: &'a [u32],
+) -> Directory {
+    let address = number(line, 1);
+    view_answer(&d.tags, &d.valid, &d.lru, ram, data, address.value);
+    end_with_digests(d, ram, parity, data, log);
+    d
+}
+
+// The part that a view shows is RAM's or the data array's, so all that it is lent has one lifetime.
+fn view_answer<'a>(
+    tags: &'a [u32; 512],
+    valid: &'a [bool; 512],
+    lru: &'a [u8; 128],
+    ram: &'a [u8],
+    data: &'a [u8],
+    address: u32,
+) {
+    let number = views::view_number(tags, valid, lru, ram, data, address);
+    let shown = views::view(tags, valid, lru, ram, data, address);
+    view_fields(number, shown);
 }
 
 // The last of the letters is Z.

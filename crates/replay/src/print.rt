@@ -38,13 +38,36 @@ pub fn call_row(
     number(done.cycles as u64);
     words(log, done.cycles as usize * 3);
     let d = done.directory;
-    digests(d, ram, parity, data, log);
-    end_row();
+    end_with_digests(d, ram, parity, data, log);
     d
+}
+
+// Number, length and bytes of a view. The bytes are one field, empty where the view is turned away.
+pub fn view_fields(view_number: u32, shown: &[u8]) {
+    label(b"V");
+    number(view_number as u64);
+    number(shown.len() as u64);
+    label(b"\t");
+    pairs(shown);
+}
+
+// Two hexadecimal digits for each byte.
+fn pairs(bytes: &[u8]) {
+    for k in 0..bytes.len() {
+        pair(bytes[k]);
+    }
+}
+
+fn pair(byte: u8) {
+    io::print_hex(STDOUT_FILENO, byte as u64, 2);
 }
 
 pub fn unit_row(d: Directory, ram: &[u8], parity: &[u8], data: &[u8], log: &[u32]) {
     label(b"N");
+    end_with_digests(d, ram, parity, data, log);
+}
+
+pub fn end_with_digests(d: Directory, ram: &[u8], parity: &[u8], data: &[u8], log: &[u32]) {
     digests(d, ram, parity, data, log);
     end_row();
 }

@@ -8,7 +8,7 @@ use directory::Directory;
 pub fn store_line(line: &[u8], d: Directory, parity: &mut [u8]) -> Directory {
     match letter_of(line) {
         b'T' => store_tag(line, d),
-        b'V' => store_mark(line, d),
+        b'K' => store_mark(line, d),
         b'L' => store_lru(line, d),
         b'M' => store_mode(line, d),
         b'P' => {
