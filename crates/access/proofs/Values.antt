@@ -17,7 +17,7 @@ use Rattle.doubleword.specs.Doubleword.{Doubleword, doublewordsOf, readDone, re
 use Rattle.doubleword.proofs.Doublewords.{read-memory}
 use Rattle.access.specs.Access.{State, readOne, allOf}
 
-bytes-length : (l : List ℕ) (i n : ℕ) → length (bytesAt l i n) ≡ n
+pub bytes-length : (l : List ℕ) (i n : ℕ) → length (bytesAt l i n) ≡ n
 unfolding bytesAt
 bytes-length l i zero = refl
 bytes-length l i (suc n) = ap suc (bytes-length l (suc i) n)

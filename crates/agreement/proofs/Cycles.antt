@@ -1,0 +1,319 @@
+-- Laws of cycles: whatever the answers, they move just the wanted bytes, and where parity agrees no record carries 128.
+use Prim.Native.Nat.{ℕ, zero, suc, _+_, _*_, _-_, _/_, _%_, _^_, _≤_, _<_}
+use mathlib.Core.Path.{_≡_, refl, sym, _∙_, ap}
+use mathlib.Core.Bool.{Bool, true, false, cond, _||_, _&&_}
+use mathlib.Core.List.{List, [], _∷_, _++_, map}
+use native.Mathlib.Omega.{arith}
+use native.Mathlib.Decide.{decLe, decLt}
+use native.Mathlib.Nat.{zero-add, add-zero, pow-suc}
+use lib.ListN.{length, getD, replicate}
+use lib.Seq.{sets, length-sets}
+use lib.Dec.{eqb, ltb, leb}
+use borrow.Author.Tests.{eqb-true, eqb-false, leb-true, ltb-true}
+use Rattle.laws.proofs.Below.{four}
+use Rattle.laws.proofs.Tests.{both, by-test, same-or, cond-true, cond-false}
+use Rattle.laws.proofs.Lists.{sets-append}
+use Rattle.bus.specs.Bytes.{bytesAt}
+use Rattle.bus.specs.Parity.{Memory, stored, wrongIn, Agrees}
+use Rattle.bus.specs.Bus.{Run, run, sizeOf, left, Cycle, cyclesOf, burst, through, brought, sent}
+use Rattle.bus.specs.Record.{Record, lanesOf, flagsOf, readRecord, writeRecord, writing, wordsOf, logged}
+use Rattle.bus.proofs.Sizing.{size-some, size-most}
+use Rattle.access.proofs.Values.{bytes-length}
+use Rattle.agreement.proofs.Bytes.{bytes-split, bytes-at, bytes-same, sets-below, sets-above, sets-in, bytes-sets}
+use Rattle.agreement.proofs.Memories.{stored-append, never-wrong}
+
+-- bytes of one doubleword of a line
+pub record Within (r : Run) : Type 0 where
+  pub some : 1 ≤ r .count
+  pub lanes : r .from % 4 + r .count ≤ 4
+  pub line : r .from + r .count ≤ 16
+
+abbrev pub Each : List Run → Type 0
+Each [] = Unit {0}
+Each (w ∷ ws) = Within w × Each ws
+
+abbrev total : List Run → ℕ
+total [] = 0
+total (w ∷ ws) = w .count + total ws
+
+-- the same work on the wanted bytes themselves
+abbrev over : {S : Type 0} → (Run → S → S) → List Run → S → S
+over f [] s = s
+over f (w ∷ ws) s = over f ws (f w s)
+
+-- what is left after a cycle: the other wanted bytes, or the rest of these before them
+left-cases : (P : List Run → Type 0) (x : ℕ) (w : Run) (ws : List Run) → (sizeOf x w ≡ w .count → P ws) →
+    (sizeOf x w < w .count → P (run (w .from + sizeOf x w) (w .count - sizeOf x w) ∷ ws)) → P (left x w ws)
+unfolding left
+left-cases P x w ws f g =
+    let m = size-most x (w .from) (w .count) in
+    by-test (λ b. eqb (sizeOf x w) (w .count) ≡ b → P (cond b ws (run (w .from + sizeOf x w) (w .count - sizeOf x w) ∷ ws)))
+    (eqb (sizeOf x w) (w .count))
+    (λ _ e. f (eqb-true _ _ e))
+    (λ _ e. g (let n = eqb-false (sizeOf x w) (w .count) e in omega arith))
+    refl
+
+left-each : (x : ℕ) (w : Run) (ws : List Run) → Within w → Each ws → Each (left x w ws)
+left-each x w ws g h =
+    left-cases Each x w ws (λ e. h)
+    (λ l. (record { some = omega arith; lanes = omega (arith, g .lanes); line = omega (arith, g .line) }, h))
+
+left-total : (x : ℕ) (w : Run) (ws : List Run) → sizeOf x w + total (left x w ws) ≡ w .count + total ws
+left-total x w ws = left-cases (λ l. sizeOf x w + total l ≡ w .count + total ws) x w ws (λ e. rw e) (λ l. omega arith)
+
+-- cycles do what the wanted bytes ask for, for any work that can be done in parts
+module _ {S : Type 0} (f : Run → S → S) (split : (a m n : ℕ) (s : S) → f (run a (m + n)) s ≡ f (run (a + m) n) (f (run a m) s)) where
+  through-cycles : (xs : List ℕ) (ws : List Run) → Each ws → total ws ≤ length xs → (s : S) → through f (cyclesOf xs ws) s ≡ over f ws s
+  unfolding through cyclesOf
+  through-cycles [] [] g l s = refl
+  through-cycles [] (w ∷ ws) g l s = absurd (omega (arith, g .0 .some))
+  through-cycles (x ∷ xs) [] g l s = refl
+  through-cycles (x ∷ xs) (w ∷ ws) g l s =
+      through-cycles xs (left x w ws) (left-each x w ws (g .0) (g .1)) (omega (arith, left-total x w ws, size-some x (w .from) (w .count) (g .0 .some))) (f (run (w .from) (sizeOf x w)) s)
+      ∙ left-cases (λ l. over f l (f (run (w .from) (sizeOf x w)) s) ≡ over f ws (f w s)) x w ws
+      (λ e. rw e)
+      (λ k.
+      let e : sizeOf x w + (w .count - sizeOf x w) ≡ w .count = omega arith in
+      ap (over f ws) (rw e at (sym (split (w .from) (sizeOf x w) (w .count - sizeOf x w) s))))
+
+-- READS
+
+brought-split : (ram : List ℕ) (line a m n : ℕ) (s : List ℕ) → brought ram line (run a (m + n)) s ≡ brought ram line (run (a + m) n) (brought ram line (run a m) s)
+brought-split ram line a m n s =
+    let e : line + (a + m) ≡ line + a + m = omega arith in
+    rw (bytes-split ram (line + a) m n, sets-append s a (bytesAt ram (line + a) m) (bytesAt ram (line + a + m) n), bytes-length ram (line + a) m, e)
+
+module _ (ram : List ℕ) (line : ℕ) where
+  brought-length : (r : Run) (b : List ℕ) → length b ≡ 16 → length (brought ram line r b) ≡ 16
+  brought-length r b l = length-sets b (r .from) (bytesAt ram (line + r .from) (r .count)) ∙ l
+
+  abbrev Same : List ℕ → ℕ → Type 0
+  Same b o = getD b o 0 ≡ getD ram (line + o) 0
+
+  -- a byte of the line buffer that a cycle brings is RAM's
+  lands : (r : Run) (b : List ℕ) (o : ℕ) → r .from + r .count ≤ length b → r .from ≤ o → o < r .from + r .count → Same (brought ram line r b) o
+  lands r b o l p q =
+      let e : r .from + (o - r .from) ≡ o = omega arith in
+      let f : line + r .from + (o - r .from) ≡ line + o = omega arith in
+      let n = bytes-length ram (line + r .from) (r .count) in
+      rw (e, f) at (sets-in b (r .from) (bytesAt ram (line + r .from) (r .count)) (o - r .from) (rw n (omega arith)) (omega arith) ∙ bytes-at ram (line + r .from) (r .count) (o - r .from) (omega arith))
+
+  -- and one that is RAM's stays so
+  keeps : (r : Run) (b : List ℕ) (o : ℕ) → r .from + r .count ≤ length b → Same b o → Same (brought ram line r b) o
+  keeps r b o l h =
+      let n = bytes-length ram (line + r .from) (r .count) in
+      elim (decLt o (r .from)) [
+        | yes p ↦ sets-below b (r .from) (bytesAt ram (line + r .from) (r .count)) o p ∙ h
+        | no p ↦ elim (decLe (r .from + r .count) o) [
+          | yes q ↦ sets-above b (r .from) (bytesAt ram (line + r .from) (r .count)) o (rw n q) ∙ h
+          | no q ↦ lands r b o l (omega arith) (omega arith)
+        ]
+      ]
+
+  over-keeps : (ws : List Run) → Each ws → (b : List ℕ) → length b ≡ 16 → (o : ℕ) → Same b o → Same (over (brought ram line) ws b) o
+  over-keeps [] g b l o h = h
+  over-keeps (w ∷ ws) g b l o h = over-keeps ws (g .1) _ (brought-length w b l) o (keeps w b o (rw l (g .0 .line)) h)
+
+  abbrev covers : ℕ → List Run → Bool
+  covers o [] = false
+  covers o (w ∷ ws) = (leb (w .from) o && ltb o (w .from + w .count)) || covers o ws
+
+  over-lands : (ws : List Run) → Each ws → (b : List ℕ) → length b ≡ 16 → (o : ℕ) → covers o ws ≡ true → Same (over (brought ram line) ws b) o
+  over-lands [] g b l o h = absurd (let z : _≡_ {A = ℕ} 0 1 = cc in omega arith)
+  over-lands (w ∷ ws) g b l o h =
+      by-test (λ c. (leb (w .from) o && ltb o (w .from + w .count)) ≡ c → (c || covers o ws) ≡ true → Same (over (brought ram line) ws (brought ram line w b)) o)
+      (leb (w .from) o && ltb o (w .from + w .count))
+      (λ _ e _.
+      let p = both (leb (w .from) o) _ e in
+      over-keeps ws (g .1) _ (brought-length w b l) o (lands w b o (rw l (g .0 .line)) (leb-true _ _ (p .0)) (ltb-true _ _ (p .1))))
+      (λ _ e k. over-lands ws (g .1) _ (brought-length w b l) o k)
+      refl
+      h
+
+  brought-cycles : (xs : List ℕ) (ws : List Run) → Each ws → total ws ≤ length xs → (b : List ℕ) → through (brought ram line) (cyclesOf xs ws) b ≡ over (brought ram line) ws b
+  brought-cycles = through-cycles (brought ram line) (brought-split ram line)
+
+-- what the burst order covers, whatever it starts with
+allBelow : (ℕ → Bool) → ℕ → Bool
+allBelow p zero = true
+allBelow p (suc n) = p n && allBelow p n
+
+all-below : (p : ℕ → Bool) (n : ℕ) → allBelow p n ≡ true → (o : ℕ) → o < n → p o ≡ true
+unfolding allBelow
+all-below p zero h o l = absurd (omega arith)
+all-below p (suc n) h o l =
+    let q = both (p n) (allBelow p n) h in
+    same-or _ o n (λ e. rw e (q .0)) (λ k. all-below p n (q .1) o (omega arith))
+
+burst-total : (q : ℕ) → total (burst q) ≡ 16
+unfolding burst
+burst-total zero = refl
+burst-total (suc zero) = refl
+burst-total (suc (suc zero)) = refl
+burst-total (suc (suc (suc q))) = refl
+
+whole : (f : ℕ) → f % 4 ≡ 0 → f + 4 ≤ 16 → Within (run f 4)
+whole f e l = record { some = omega arith; lanes = omega arith; line = l }
+
+pub burst-each : (q : ℕ) → Each (burst q)
+unfolding burst
+burst-each q = by-start q
+  where
+    at0 : Within (run 0 4)
+    at0 = whole 0 refl (omega arith)
+
+    at4 : Within (run 4 4)
+    at4 = whole 4 refl (omega arith)
+
+    at8 : Within (run 8 4)
+    at8 = whole 8 refl (omega arith)
+
+    at12 : Within (run 12 4)
+    at12 = whole 12 refl (omega arith)
+
+    by-start : (q : ℕ) → Each (burst q)
+    by-start zero = (at0, (at4, (at8, (at12, tt))))
+    by-start (suc zero) = (at4, (at0, (at12, (at8, tt))))
+    by-start (suc (suc zero)) = (at8, (at12, (at0, (at4, tt))))
+    by-start (suc (suc (suc q))) = (at12, (at8, (at4, (at0, tt))))
+
+burst-covers : (ram : List ℕ) (line q o : ℕ) → o < 16 → covers ram line o (burst q) ≡ true
+unfolding burst allBelow
+burst-covers ram line zero = all-below (λ o. covers ram line o (burst 0)) 16 refl
+burst-covers ram line (suc zero) = all-below (λ o. covers ram line o (burst 1)) 16 refl
+burst-covers ram line (suc (suc zero)) = all-below (λ o. covers ram line o (burst 2)) 16 refl
+burst-covers ram line (suc (suc (suc q))) = all-below (λ o. covers ram line o (burst 3)) 16 refl
+
+-- a fill brings all of RAM's line
+pub fill-buffer : (ram : List ℕ) (line q : ℕ) (xs : List ℕ) → 16 ≤ length xs → (o : ℕ) → o < 16 →
+    getD (through (brought ram line) (cyclesOf xs (burst q)) (replicate 16 0)) o 0 ≡ getD ram (line + o) 0
+fill-buffer ram line q xs l o k =
+    let t = burst-total q in
+    rw (brought-cycles ram line xs (burst q) (burst-each q) (omega arith) (replicate 16 0))
+    (over-lands ram line (burst q) (burst-each q) (replicate 16 0) refl o (burst-covers ram line q o k))
+
+-- a plain read brings the wanted bytes
+pub own-bytes : (ram : List ℕ) (line : ℕ) (w : Run) → Within w → (xs : List ℕ) → 16 ≤ length xs →
+    bytesAt (through (brought ram line) (cyclesOf xs (w ∷ [])) (replicate 16 0)) (w .from) (w .count) ≡ bytesAt ram (line + w .from) (w .count)
+own-bytes ram line w g xs l =
+    rw (brought-cycles ram line xs (w ∷ []) (g, tt) (omega (arith, g .line)) (replicate 16 0))
+    (bytes-same _ ram (w .from) (line + w .from) (w .count) λ o b.
+    let e : line + (w .from + o) ≡ line + w .from + o = omega arith in
+    rw e at (lands ram line w (replicate 16 0) (w .from + o) (g .line) (omega arith) (omega arith)))
+
+-- WRITES
+
+sent-split : (buffer : List ℕ) (line a m n : ℕ) (s : Memory) → sent buffer line (run a (m + n)) s ≡ sent buffer line (run (a + m) n) (sent buffer line (run a m) s)
+sent-split buffer line a m n s =
+    let e : line + (a + m) ≡ line + a + m = omega arith in
+    rw (bytes-split buffer a m n, stored-append s (line + a) (bytesAt buffer a m) (bytesAt buffer (a + m) n), bytes-length buffer a m, e)
+
+-- write cycles store the wanted bytes
+pub own-stored : (x : List ℕ) (line : ℕ) (w : Run) → Within w → length x ≡ w .count → (xs : List ℕ) → 16 ≤ length xs → (m : Memory) →
+    through (sent (sets (replicate 16 0) (w .from) x) line) (cyclesOf xs (w ∷ [])) m ≡ stored m (line + w .from) x
+own-stored x line w g e xs l m =
+    let buffer = sets (replicate 16 0) (w .from) x in
+    through-cycles (sent buffer line) (sent-split buffer line) xs (w ∷ []) (g, tt) (omega (arith, g .line)) m
+    ∙ ap (stored m (line + w .from)) (rw e at (bytes-sets (replicate 16 0) (w .from) x (rw e (g .line))))
+
+-- RECORDS
+
+abbrev pub EachCycle : List Cycle → Type 0
+EachCycle [] = Unit {0}
+EachCycle (c ∷ cs) = Within (c .moved) × EachCycle cs
+
+moved-within : (x : ℕ) (w : Run) → Within w → Within (run (w .from) (sizeOf x w))
+moved-within x w g =
+    let a = size-some x (w .from) (w .count) (g .some) in
+    let b = size-most x (w .from) (w .count) in
+    record { some = a; lanes = omega (arith, g .lanes); line = omega (arith, g .line) }
+
+pub cycles-within : (xs : List ℕ) (ws : List Run) → Each ws → EachCycle (cyclesOf xs ws)
+unfolding cyclesOf
+cycles-within [] ws g = tt
+cycles-within (x ∷ xs) [] g = tt
+cycles-within (x ∷ xs) (w ∷ ws) g = (moved-within x w (g .0), cycles-within xs (left x w ws) (left-each x w ws (g .0) (g .1)))
+
+-- no record carries 128
+abbrev carries : Record → ℕ
+carries r = r .flags / 128 % 2
+
+abbrev pub Sound : List Record → Type 0
+Sound [] = Unit {0}
+Sound (r ∷ rs) = (carries r ≡ 0) × Sound rs
+
+pub sound-append : (a b : List Record) → Sound a → Sound b → Sound (a ++ b)
+sound-append [] b p q = q
+sound-append (r ∷ rs) b p q = (p .0, sound-append rs b (p .1) q)
+
+sound-map : (make : Cycle → Record) → ((c : Cycle) → Within (c .moved) → carries (make c) ≡ 0) → (cs : List Cycle) → EachCycle cs → Sound (map make cs)
+sound-map make h [] g = tt
+sound-map make h (c ∷ cs) g = (h c (g .0), sound-map make h cs (g .1))
+
+-- the flags of moved bytes stay below 16
+lanes-power : (n lane : ℕ) → lanesOf lane n + 2 ^ lane ≡ 2 ^ (lane + n)
+unfolding lanesOf
+lanes-power zero lane = rw (add-zero lane, zero-add)
+lanes-power (suc n) lane =
+    let e : lane + suc n ≡ suc lane + n = omega arith in
+    let h = lanes-power n (suc lane) in
+    rw e (omega (arith, pow-suc 2 lane, h))
+
+power-some : (k : ℕ) → 1 ≤ 2 ^ k
+power-some zero = omega arith
+power-some (suc k) = omega (arith, pow-suc 2 k, power-some k)
+
+power-most : (k : ℕ) → k ≤ 4 → 2 ^ k ≤ 16
+power-most k h = same-or _ k 4 (λ e. rw e (omega arith)) (λ n. four (λ j. 2 ^ j ≤ 16) (omega arith) (omega arith) (omega arith) (omega arith) k (omega arith))
+
+lanes-below : (lane n : ℕ) → lane + n ≤ 4 → lanesOf lane n ≤ 15
+lanes-below lane n h =
+    let a = lanes-power n lane in
+    let b = power-some lane in
+    let c = power-most (lane + n) h in
+    omega arith
+
+cond-most : (b : Bool) → cond b 64 0 ≤ 64
+cond-most true = omega arith
+cond-most false = omega arith
+
+sound-flags : (lane n kind : ℕ) → kind ≤ 32 → lane + n ≤ 4 → (last : Bool) → flagsOf lane n kind last false / 128 % 2 ≡ 0
+unfolding flagsOf
+sound-flags lane n kind k h last = omega (arith, lanes-below lane n h, cond-most last)
+
+pub sound-reads : (kind : ℕ) → kind ≤ 32 → (m : Memory) → Agrees m → (line : ℕ) → line + 16 ≤ length (m .ram) → (cs : List Cycle) → EachCycle cs → Sound (map (readRecord kind m line) cs)
+unfolding readRecord
+sound-reads kind k m a line l =
+    sound-map (readRecord kind m line) λ c g.
+    rw (never-wrong m a (line + c .moved .from) (c .moved .count) (omega (arith, g .line)))
+    (sound-flags (c .moved .from % 4) (c .moved .count) kind k (g .lanes) (c .last))
+
+pub sound-writes : (buffer : List ℕ) (line : ℕ) (cs : List Cycle) → EachCycle cs → Sound (map (writeRecord buffer line) cs)
+unfolding writeRecord
+sound-writes buffer line =
+    sound-map (writeRecord buffer line) λ c g. sound-flags (c .moved .from % 4) (c .moved .count) writing (omega arith) (g .lanes) (c .last)
+
+-- the flags that a log has for the records put into it
+words-at : (rs : List Record) (k : ℕ) → Sound rs → getD (wordsOf rs) (3 * k + 1) 0 / 128 % 2 ≡ 0
+unfolding wordsOf
+words-at [] k h = refl
+words-at (r ∷ rs) zero h = h .0
+words-at (r ∷ rs) (suc k) h = let e : 3 * suc k + 1 ≡ suc (suc (suc (3 * k + 1))) = omega arith in rw e (words-at rs k (h .1))
+
+words-length : (rs : List Record) → length (wordsOf rs) ≡ 3 * length rs
+unfolding wordsOf
+words-length [] = refl
+words-length (r ∷ rs) = omega (arith, words-length rs)
+
+getD-out : (l : List ℕ) (i : ℕ) → length l ≤ i → getD l i 0 ≡ 0
+getD-out [] i h = refl
+getD-out (x ∷ l) zero h = absurd (omega arith)
+getD-out (x ∷ l) (suc i) h = getD-out l i (omega arith)
+
+pub logged-sound : (log : List ℕ) (rs : List Record) → Sound rs → (k : ℕ) → k < length rs → getD (logged log 0 rs) (3 * k + 1) 0 / 128 % 2 ≡ 0
+logged-sound log rs h k l =
+    let n = words-length rs in
+    elim (decLt (3 * k + 1) (length log)) [
+      | yes p ↦ let e = sets-in log 0 (wordsOf rs) (3 * k + 1) (omega arith) (rw (zero-add (3 * k + 1)) p) in rw (zero-add (3 * k + 1)) at (ap (λ (x : ℕ). x / 128 % 2) e ∙ words-at rs k h)
+      | no p ↦ rw (getD-out (logged log 0 rs) (3 * k + 1) (rw (length-sets log 0 (wordsOf rs)) (omega arith)))
+    ]

@@ -1,0 +1,4 @@
+-- The proof of demand 3, from the bytes up. `Demand` and `Program` have the theorems.
+mod Bytes
+mod Memories
+mod Cycles

@@ -1,0 +1,69 @@
+-- Demand 3: what is compared after each call of a list, the premises, and the claim.
+use Prim.Native.Nat.{ℕ, _+_, _*_, _/_, _%_, _≤_, _<_}
+use mathlib.Core.Path.{_≡_}
+use mathlib.Core.Bool.{Bool, false, not, _&&_}
+use mathlib.Core.List.{List, [], _∷_}
+use mathlib.Core.Logic.{_⊎_}
+use lib.ListN.{length, getD}
+use Rattle.directory.specs.Steps.{afterReset, controlRefused}
+use Rattle.bus.specs.Parity.{Memory, Agrees}
+use Rattle.access.specs.Access.{State, state, After}
+use Rattle.access.specs.Refusal.{lentNumber}
+use Rattle.agreement.specs.Calls.{Call, read, write, external, snoop, flush, control, view, reset, Step, step, stateAfter}
+use Rattle.agreement.specs.Plain.{Plain, plain}
+
+-- "No record that a call of the list leaves carries 128.": of the records that a call counts, whose flags are the second of three words each.
+abbrev pub NoParityError : After → Type 0
+NoParityError a =
+    (k : ℕ) → k < a .outcome .cycles → getD (a .log) (3 * k + 1) 0 / 128 % 2 ≡ 0
+
+-- "Compared after each call": numbers, values, views, "and all of RAM".
+pub record Matches (x : Step) (p : Plain) : Type 0 where
+  pub numbers : x .left .outcome .number ≡ p .number
+  pub values : x .left .outcome .value ≡ p .value
+  pub views : x .shown ≡ p .shown
+  pub rams : x .left .memory .ram ≡ p .memory
+  pub sound : NoParityError (x .left)
+
+-- After each call of a list, of the unit in a state and the plain memory beside it.
+unfoldable pub AgreesAll : State → List ℕ → List Call → Type 0
+AgreesAll s m [] = Unit {0}
+AgreesAll s m (c ∷ cs) = Matches (step s c) (plain m c) × AgreesAll (stateAfter (step s c)) (plain m c .memory) cs
+
+-- "no accepted control call sets NW to 1"
+abbrev pub setsNw : Call → Bool
+setsNw (read address width pcd answers log) = false
+setsNw (write address width value answers log) = false
+setsNw (external address bytes) = false
+setsNw (snoop address) = false
+setsNw flush = false
+setsNw (control cd nw) = not (controlRefused cd nw) && nw
+setsNw (view address) = false
+setsNw reset = false
+
+abbrev pub NeverSetsNw : List Call → Type 0
+NeverSetsNw [] = Unit {0}
+NeverSetsNw (c ∷ cs) = (setsNw c ≡ false) × NeverSetsNw cs
+
+-- "document 01's lengths, parity agreeing at the start"
+pub record Legal (m : Memory) (array : List ℕ) : Type 0 where
+  pub lengths : lentNumber (length (m .ram)) (length (m .parity)) (length array) ≡ 0
+  pub agrees : Agrees m
+
+-- "The list starts from the directory that a reset gives, any RAM with which parity agrees, and any bytes in the data array."
+abbrev pub Demand3 : Type 0
+Demand3 =
+    (m : Memory) (array : List ℕ) (cs : List Call) → Legal m array → NeverSetsNw cs →
+    AgreesAll (state afterReset m array) (m .ram) cs
+
+-- "Under demand 3's premises 1 to 3 and 21 to 23 never arise.": each number of a list is 0 or one of 4 to 10.
+abbrev pub Arises : ℕ → Type 0
+Arises n = (n ≡ 0) ⊎ ((4 ≤ n) × (n ≤ 10))
+
+unfoldable pub ArisesAll : State → List Call → Type 0
+ArisesAll s [] = Unit {0}
+ArisesAll s (c ∷ cs) = Arises (step s c .left .outcome .number) × ArisesAll (stateAfter (step s c)) cs
+
+abbrev pub NumbersThatArise : Type 0
+NumbersThatArise =
+    (m : Memory) (array : List ℕ) (cs : List Call) → Legal m array → NeverSetsNw cs → ArisesAll (state afterReset m array) cs

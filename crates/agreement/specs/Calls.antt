@@ -1,0 +1,55 @@
+-- Document 01, 'Other masters, views, and the plain memory': the calls of a list, and one step of the unit.
+use Prim.Native.Nat.{ℕ}
+use mathlib.Core.Bool.{Bool}
+use mathlib.Core.List.{List, []}
+use Rattle.access.specs.declared.outcome.Outcome.{Outcome}
+use Rattle.access.specs.Access.{State, state, After, after, outcome, readCall, writeCall}
+use Rattle.access.specs.Masters.{Written, externalCall, snoopOutcome, controlOutcome, flushOutcome, resetOutcome}
+use Rattle.views.specs.View.{viewNumberOf, viewOf}
+
+-- "the calls' arguments except directory, RAM, parity and data array": "The log, the board's answers and an external write's bytes are each call's own and may be anything."
+pub data Call : Type 0 where
+  read : (address width : ℕ) → (pcd : Bool) → (answers log : List ℕ) → Call
+  write : (address width value : ℕ) → (answers log : List ℕ) → Call
+  external : (address : ℕ) → (bytes : List ℕ) → Call
+  snoop : (address : ℕ) → Call
+  flush : Call
+  control : (cd nw : Bool) → Call
+  view : (address : ℕ) → Call
+  reset : Call
+
+-- What a step leaves: the answer with the directory, every buffer, and the bytes that a view shows.
+pub record Step : Type 0 where
+  pub left : After
+  pub shown : List ℕ
+
+-- A call other than a view shows nothing.
+abbrev pub done : After → Step
+done a = record { left = a; shown = [] }
+
+-- "A buffer that a call doesn't receive passes on as it was.": an external write has no data array and no log, a call on the directory alone no buffer.
+abbrev pub externalLeft : State → Written → Step
+externalLeft s w = done (after (w .outcome) (w .memory) (s .array) [])
+
+abbrev pub directoryLeft : State → Outcome → Step
+directoryLeft s o = done (after o (s .memory) (s .array) [])
+
+-- "the number (a view's is its companion question's)"; views change nothing.
+abbrev pub viewLeft : State → ℕ → List ℕ → Step
+viewLeft s number bytes =
+    record { left = after (outcome (s .directory) number 0 0) (s .memory) (s .array) []; shown = bytes }
+
+-- One step of the unit, by the definitions that the contracts of the calls cite.
+unfoldable pub step : State → Call → Step
+step s (read address width pcd answers log) = done (readCall s address width pcd answers log)
+step s (write address width value answers log) = done (writeCall s address width value answers log)
+step s (external address bytes) = externalLeft s (externalCall (s .directory) (s .memory) address bytes)
+step s (snoop address) = directoryLeft s (snoopOutcome (s .directory) address)
+step s flush = directoryLeft s (flushOutcome (s .directory))
+step s (control cd nw) = directoryLeft s (controlOutcome (s .directory) cd nw)
+step s (view address) = viewLeft s (viewNumberOf s address) (viewOf s address)
+step s reset = directoryLeft s resetOutcome
+
+-- The state that the next call meets.
+abbrev pub stateAfter : Step → State
+stateAfter x = state (x .left .outcome .directory) (x .left .memory) (x .left .array)

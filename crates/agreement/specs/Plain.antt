@@ -1,0 +1,51 @@
+-- Document 01, 'Other masters, views, and the plain memory': "The plain memory is a list of bytes", and has no cache.
+use Prim.Native.Nat.{ℕ, _*_, _/_}
+use mathlib.Core.Bool.{cond}
+use mathlib.Core.List.{List, []}
+use lib.Dec.{eqb}
+use lib.ListN.{length}
+use lib.Seq.{sets}
+use Rattle.directory.specs.Steps.{controlRefused}
+use Rattle.bus.specs.Bytes.{bytesAt, valueOf, bytesOf}
+use Rattle.access.specs.Refusal.{when, orElse, argumentNumber, valueNumber, externalNumber, viewAddressNumber}
+use Rattle.agreement.specs.Calls.{Call, read, write, external, snoop, flush, control, view, reset}
+
+-- What it answers to a call, and its bytes afterwards.
+pub record Plain : Type 0 where
+  pub number : ℕ
+  pub value : ℕ
+  pub shown : List ℕ
+  pub memory : List ℕ
+
+-- The number of a call that meets 4 to 10, from its own arguments; "Any other call answers 0."
+unfoldable pub plainNumber : List ℕ → Call → ℕ
+plainNumber m (read address width pcd answers log) = argumentNumber (length m) address width answers (length log)
+plainNumber m (write address width value answers log) =
+    orElse (argumentNumber (length m) address width answers (length log)) (valueNumber width value)
+plainNumber m (external address bytes) = externalNumber (length m) address (length bytes)
+plainNumber m (snoop address) = 0
+plainNumber m flush = 0
+plainNumber m (control cd nw) = when (controlRefused cd nw) 9
+plainNumber m (view address) = viewAddressNumber (length m) address
+plainNumber m reset = 0
+
+abbrev pub plainly : ℕ → List ℕ → List ℕ → Plain
+plainly value bytes m = record { number = 0; value = value; shown = bytes; memory = m }
+
+-- "A write or external write replaces its bytes; a read gives its bytes; a view gives its sixteen; snoop, flush, control and reset do nothing".
+-- "with the bytes taken little-endian"
+unfoldable pub plainDone : List ℕ → Call → Plain
+plainDone m (read address width pcd answers log) = plainly (valueOf (bytesAt m address width)) [] m
+plainDone m (write address width value answers log) = plainly 0 [] (sets m address (bytesOf width value))
+plainDone m (external address bytes) = plainly 0 [] (sets m address bytes)
+plainDone m (snoop address) = plainly 0 [] m
+plainDone m flush = plainly 0 [] m
+plainDone m (control cd nw) = plainly 0 [] m
+plainDone m (view address) = plainly 0 (bytesAt m (address / 16 * 16) 16) m
+plainDone m reset = plainly 0 [] m
+
+-- "a call meeting 4 to 10 does nothing and answers that number."
+unfoldable pub plain : List ℕ → Call → Plain
+plain m c =
+    cond (eqb (plainNumber m c) 0) (plainDone m c)
+    (record { number = plainNumber m c; value = 0; shown = []; memory = m })
