@@ -6,7 +6,7 @@ use mathlib.Core.List.{List, [], _∷_, _++_, map}
 use native.Mathlib.Omega.{arith}
 use native.Mathlib.Decide.{decLe, decLt}
 use native.Mathlib.Nat.{zero-add, add-zero, pow-suc}
-use lib.ListN.{length, getD, replicate}
+use lib.ListN.{length, getD, replicate, List·getD-eq-default}
 use lib.Seq.{sets, length-sets}
 use lib.Dec.{eqb, ltb, leb}
 use borrow.Author.Tests.{eqb-true, eqb-false, leb-true, ltb-true}
@@ -305,15 +305,10 @@ unfolding wordsOf
 words-length [] = refl
 words-length (r ∷ rs) = omega (arith, words-length rs)
 
-getD-out : (l : List ℕ) (i : ℕ) → length l ≤ i → getD l i 0 ≡ 0
-getD-out [] i h = refl
-getD-out (x ∷ l) zero h = absurd (omega arith)
-getD-out (x ∷ l) (suc i) h = getD-out l i (omega arith)
-
 pub logged-sound : (log : List ℕ) (rs : List Record) → Sound rs → (k : ℕ) → k < length rs → getD (logged log 0 rs) (3 * k + 1) 0 / 128 % 2 ≡ 0
 logged-sound log rs h k l =
     let n = words-length rs in
     elim (decLt (3 * k + 1) (length log)) [
       | yes p ↦ let e = sets-in log 0 (wordsOf rs) (3 * k + 1) (omega arith) (rw (zero-add (3 * k + 1)) p) in rw (zero-add (3 * k + 1)) at (ap (λ (x : ℕ). x / 128 % 2) e ∙ words-at rs k h)
-      | no p ↦ rw (getD-out (logged log 0 rs) (3 * k + 1) (rw (length-sets log 0 (wordsOf rs)) (omega arith)))
+      | no p ↦ rw (List·getD-eq-default (logged log 0 rs) 0 {n = 3 * k + 1} (rw (length-sets log 0 (wordsOf rs)) (omega arith)))
     ]

@@ -2,3 +2,6 @@
 mod Bytes
 mod Memories
 mod Cycles
+mod Coherence
+mod Parts
+mod Reading

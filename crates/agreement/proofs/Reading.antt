@@ -1,0 +1,155 @@
+-- Reads keep the invariant beside the same plain memory, and give its bytes.
+use Prim.Native.Nat.{ℕ, _+_, _/_, _%_, _≤_, _<_}
+use mathlib.Core.Path.{_≡_, refl, sym, _∙_, ap}
+use mathlib.Core.Bool.{Bool, true, false, cond, not, _&&_}
+use mathlib.Core.List.{List, [], _∷_, _++_}
+use native.Mathlib.Omega.{arith}
+use lib.ListN.{length, getD}
+use lib.Seq.{sets, length-sets}
+use borrow.Author.Tests.{not-true}
+use Rattle.laws.proofs.Tests.{both, differ, by-test}
+use Rattle.directory.specs.declared.steps.Directory.{Directory}
+use Rattle.directory.specs.declared.ways.Found.{Found}
+use Rattle.directory.specs.declared.ways.Found.the-variants.{At, Nothing}
+use Rattle.directory.specs.Address.{setOf, tagOf}
+use Rattle.directory.specs.Steps.{lookupOf, victimOf, afterUse, afterFill}
+use Rattle.directory.specs.WellFormed.{WellFormed}
+use Rattle.directory.proofs.FourWays.{victim-below}
+use Rattle.directory.proofs.Laws.{lookup-at, use-held, use-control, use-well-formed, fill-control, fill-address-well-formed}
+use Rattle.bus.specs.Bytes.{bytesAt}
+use Rattle.bus.specs.Parity.{Memory}
+use Rattle.bus.specs.Bus.{ken, burst, lastAnswer}
+use Rattle.bus.specs.Record.{plainRead, filling}
+use Rattle.doubleword.specs.declared.change.Change.{Change}
+use Rattle.doubleword.specs.declared.change.Change.the-variants.{Keep, Use, Fill}
+use Rattle.doubleword.specs.Doubleword.{Doubleword, Done, changed, slotOf, ownCycles, fillCycles, bufferOf, readHit, readPlain, readFill, readDone}
+use Rattle.access.specs.Access.{State, state, Progress, readOne, next, allOf}
+use Rattle.access.proofs.Values.{bytes-length}
+use Rattle.agreement.proofs.Bytes.{bytes-at, bytes-same}
+use Rattle.agreement.proofs.Cycles.{Sound, sound-append, sound-reads, cycles-within, burst-each, fill-buffer, own-bytes}
+use Rattle.agreement.proofs.Coherence.{Lines, Off, Coherent, fewer-lines, held-bytes, filled-lines}
+use Rattle.agreement.proofs.Parts.{Proper, EachProper, wantedOf, allWanted}
+
+-- another directory and data array beside the same memory
+pub coherent-with : (s : State) (m : List ℕ) → Coherent s m → (d : Directory) → WellFormed d → Off d → (array : List ℕ) → length array ≡ 8192 → Lines d m array → Coherent (state d (s .memory) array) m
+coherent-with s m c d g o array a l =
+    record { formed = g; lent = c .lent; lines-lent = a; agrees = c .agrees; rams = c .rams; lines = l; off = o }
+
+-- a use of a way
+pub use-off : (d : Directory) (r w : ℕ) → Off d → Off (afterUse d r w)
+use-off d r w o =
+    let k = use-control d r w in
+    record {
+      disabled = λ h. k .0 ∙ o .disabled (sym (k .1) ∙ h);
+      empty = λ h s v tag sl vl q. o .empty (sym (k .1) ∙ h) s v tag sl vl (use-held d r w s v tag q);
+    }
+
+pub use-lines : (d : Directory) (r w : ℕ) (m array : List ℕ) → Lines d m array → Lines (afterUse d r w) m array
+use-lines d r w m array = fewer-lines d (afterUse d r w) m array (λ s v tag sl vl h. use-held d r w s v tag h)
+
+-- what a doubleword of a read leaves
+pub record ReadGood (s : State) (m : List ℕ) (w : Doubleword) (done : Done) : Type 0 where
+  pub coherent : Coherent (next s w done) m
+  pub gives : done .bytes ≡ wantedOf m w
+  pub sound : Sound (done .records)
+
+module _ (s : State) (m : List ℕ) (c : Coherent s m) (w : Doubleword) (ok : Proper (length m) w) where
+  abbrev d : Directory
+  d = s .directory
+
+  fits : w .line + 16 ≤ length (s .memory .ram)
+  fits = rw (c .rams) (ok .inside)
+
+  read-hit : (way : ℕ) → lookupOf d (w .line) ≡ At way → ReadGood s m w (readHit way (s .memory) (s .array) w)
+  unfolding readHit changed
+  read-hit way e =
+      let k = lookup-at d (w .line) way e in
+      record {
+        coherent = coherent-with s m c (afterUse d (setOf (w .line)) way) (use-well-formed d (c .formed) (setOf (w .line)) way (omega arith) (k .0)) (use-off d (setOf (w .line)) way (c .off)) (s .array) (c .lines-lent) (use-lines d (setOf (w .line)) way m (s .array) (c .lines));
+        gives = held-bytes d m (s .array) (c .lines) (w .line) way (ok .aligned) (k .0) (k .1) (w .wanted .from) (w .wanted .count) (ok .within .line);
+        sound = tt;
+      }
+
+  read-plain : ReadGood s m w (readPlain (s .memory) (s .array) w)
+  unfolding readPlain changed
+  read-plain =
+      record {
+        coherent = coherent-with s m c d (c .formed) (c .off) (s .array) (c .lines-lent) (c .lines);
+        gives = own-bytes (s .memory .ram) (w .line) (w .wanted) (ok .within) (w .answers) (ok .enough) ∙ ap (λ (l : List ℕ). wantedOf l w) (c .rams);
+        sound = sound-reads plainRead (omega arith) (s .memory) (c .agrees) (w .line) fits (ownCycles w) (cycles-within (w .answers) (w .wanted ∷ []) (ok .within, tt));
+      }
+
+  -- the line buffer after a fill has the memory's line
+  abbrev buffer : List ℕ
+  buffer = bufferOf (s .memory) w (fillCycles w)
+
+  buffer-is : (o : ℕ) → o < 16 → getD buffer o 0 ≡ getD m (w .line + o) 0
+  buffer-is o l =
+      fill-buffer (s .memory .ram) (w .line) (w .wanted .from / 4) (w .answers) (ok .enough) o l
+      ∙ ap (λ (z : List ℕ). getD z (w .line + o) 0) (c .rams)
+
+  abbrev victim : ℕ
+  victim = victimOf d (setOf (w .line))
+
+  -- a kept fill: only with CD = 0, so NW = 0
+  kept-coherent : lookupOf d (w .line) ≡ Nothing → d .cd ≡ false →
+      Coherent (state (afterFill d (setOf (w .line)) victim (tagOf (w .line))) (s .memory) (sets (s .array) (slotOf (w .line) victim) (bytesAt buffer 0 16))) m
+  kept-coherent e enabled =
+      let vl = victim-below (d .valid) (d .lru) (setOf (w .line)) in
+      let k = fill-control d (setOf (w .line)) victim (tagOf (w .line)) in
+      let never : afterFill d (setOf (w .line)) victim (tagOf (w .line)) .nw ≡ true → ⊥ = λ h. differ (c .off .disabled (sym (k .1) ∙ h)) enabled in
+      coherent-with s m c (afterFill d (setOf (w .line)) victim (tagOf (w .line)))
+      (fill-address-well-formed d (c .formed) (w .line) victim (omega (arith, fits, c .lent .most)) vl e)
+      (record { disabled = λ h. absurd (never h); empty = λ h. absurd (never h) })
+      (sets (s .array) (slotOf (w .line) victim) (bytesAt buffer 0 16))
+      (length-sets (s .array) (slotOf (w .line) victim) (bytesAt buffer 0 16) ∙ c .lines-lent)
+      (filled-lines d (c .formed) m (s .array) (c .lines) (w .line) victim (ok .aligned) (ok .inside) (c .lines-lent) vl (bytesAt buffer 0 16) (bytes-length buffer 0 16)
+      (λ o l. bytes-at buffer 0 16 o l ∙ buffer-is (0 + o) (omega arith) ∙ ap (λ (i : ℕ). getD m (w .line + i) 0) (omega arith)))
+
+  read-fill : lookupOf d (w .line) ≡ Nothing → d .cd ≡ false → ReadGood s m w (readFill victim (s .memory) (s .array) w)
+  unfolding readFill changed
+  read-fill e enabled =
+      record {
+        coherent =
+            by-test (λ b. Coherent (state (changed d (w .line) (cond b (Fill victim) Keep)) (s .memory) (cond b (sets (s .array) (slotOf (w .line) victim) (bytesAt buffer 0 16)) (s .array))) m)
+            (ken (lastAnswer 0 (fillCycles w)))
+            (λ _. kept-coherent e enabled)
+            (λ _. coherent-with s m c d (c .formed) (c .off) (s .array) (c .lines-lent) (c .lines));
+        gives = bytes-same buffer m (w .wanted .from) (w .line + w .wanted .from) (w .wanted .count) (λ o l.
+            let f : w .line + w .wanted .from + o ≡ w .line + (w .wanted .from + o) = omega arith in
+            rw f (buffer-is (w .wanted .from + o) (omega (arith, ok .within .line))));
+        sound = sound-reads filling (omega arith) (s .memory) (c .agrees) (w .line) fits (fillCycles w) (cycles-within (w .answers) (burst (w .wanted .from / 4)) (burst-each _));
+      }
+
+  read-found : (may : Bool) → (may ≡ true → d .cd ≡ false) → (f : Found) → lookupOf d (w .line) ≡ f → ReadGood s m w (readDone f victim may (s .memory) (s .array) w)
+  unfolding readDone
+  read-found may enabled (At way) e = read-hit way e
+  read-found may enabled Nothing e =
+      by-test (λ b. (may && ken (getD (w .answers) 0 0)) ≡ b → ReadGood s m w (cond b (readFill victim (s .memory) (s .array) w) (readPlain (s .memory) (s .array) w)))
+      (may && ken (getD (w .answers) 0 0))
+      (λ _ h. read-fill e (enabled (both may _ h .0)))
+      (λ _ _. read-plain)
+      refl
+
+  pub read-one : (pcd : Bool) → ReadGood s m w (readOne pcd s w)
+  unfolding readOne
+  read-one pcd =
+      read-found (not (d .cd) && not pcd) (λ h. not-true _ (both (not (d .cd)) (not pcd) h .0)) (lookupOf d (w .line)) refl
+
+-- what a whole read leaves
+pub record ReadsGood (m bytes : List ℕ) (p : Progress) : Type 0 where
+  pub coherent : Coherent (p .state) m
+  pub gives : p .bytes ≡ bytes
+  pub sound : Sound (p .records)
+
+pub read-all : (ws : List Doubleword) (s : State) (m : List ℕ) → Coherent s m → (pcd : Bool) → EachProper (length m) ws → ReadsGood m (allWanted m ws) (allOf (readOne pcd) s ws)
+unfolding allOf
+read-all [] s m c pcd g = record { coherent = c; gives = refl; sound = tt }
+read-all (w ∷ ws) s m c pcd g =
+    let h = read-one s m c w (g .0) pcd in
+    let r = read-all ws (next s w (readOne pcd s w)) m (h .coherent) pcd (g .1) in
+    record {
+      coherent = r .coherent;
+      gives = rw (h .gives, r .gives);
+      sound = sound-append (readOne pcd s w .records) _ (h .sound) (r .sound);
+    }
