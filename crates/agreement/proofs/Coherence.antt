@@ -72,8 +72,11 @@ line-set s tag line l e = let k : line / 16 ≡ tag * 128 + s = omega arith in r
 pub line-tag : (s tag line : ℕ) → s < 128 → addressOf s tag ≡ line → tag ≡ tagOf line
 line-tag s tag line l e = omega arith
 
-pub line-back : (line : ℕ) → line % 16 ≡ 0 → addressOf (setOf line) (tagOf line) ≡ line
-line-back line h = let k : line / 2048 ≡ line / 16 / 128 = omega arith in rw k (omega arith)
+pub line-around : (a : ℕ) → addressOf (setOf a) (tagOf a) ≡ a / 16 * 16
+line-around a = let k : a / 2048 ≡ a / 16 / 128 = omega arith in rw k (omega arith)
+
+line-back : (line : ℕ) → line % 16 ≡ 0 → addressOf (setOf line) (tagOf line) ≡ line
+line-back line h = line-around line ∙ omega arith
 
 -- the bytes of a held line
 pub held-bytes : (d : Directory) (m array : List ℕ) → Lines d m array → (line w : ℕ) → line % 16 ≡ 0 → w < 4 → Held d (setOf line) w (tagOf line) → (from n : ℕ) → from + n ≤ 16 →

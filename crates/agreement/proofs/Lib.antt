@@ -5,3 +5,9 @@ mod Cycles
 mod Coherence
 mod Parts
 mod Reading
+mod Writing
+mod Snooping
+mod Numbers
+mod Steps
+pub mod Demand
+pub mod Columns

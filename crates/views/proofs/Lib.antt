@@ -1,2 +1,2 @@
--- Laws that the proofs of the functions cite.
-mod Viewing
+-- Laws that several proofs cite.
+pub mod Viewing

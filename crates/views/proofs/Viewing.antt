@@ -57,7 +57,7 @@ module _ (tags : List ℕ) (valid : List Bool) (lru ram array : List ℕ) (addre
   view-refused h = sym (cond-false _ _ _ (ne-eqb _ 0 (λ z. h (en ∙ z))))
 
   module _ (z : n ≡ 0) where
-    view-done : viewIn tags valid lru ram array address ≡ shown (lookupIn tags valid address) ram array address
+    pub view-done : viewIn tags valid lru ram array address ≡ shown (lookupIn tags valid address) ram array address
     unfolding viewIn
     view-done = cond-true _ _ _ (eq-eqb _ 0 (sym en ∙ z))
 

@@ -1,0 +1,107 @@
+-- Demand 3 carried to the program: the answer and value columns are the plain memory's.
+use Prim.Native.Nat.{ℕ, zero, suc, _/_, _%_, _<_}
+use mathlib.Core.Path.{_≡_, refl, sym, _∙_, ap}
+use mathlib.Core.Bool.{false}
+use mathlib.Core.List.{List, [], _∷_, _++_}
+use native.Mathlib.Omega.{arith}
+use lib.ListN.{getD, drop, replicate, length-replicate}
+use Rattle.laws.proofs.Below.{four}
+use Rattle.bus.specs.Parity.{memory, Agrees, dpAt, laneBit, dpOf, onesOf}
+use Rattle.access.specs.Access.{State}
+use Rattle.access.specs.Board.{boardAnswers}
+use Rattle.access.specs.Refusal.{lentNumber, memoryNumber}
+use Rattle.lines.specs.declared.scanning.Event.{Event}
+use Rattle.lines.specs.declared.scanning.Event.the-variants.{Malformed, Read, Write, External, Snoop, Flush, Control, Reset}
+use Rattle.lines.specs.Fields.{bytesOf, linesOf}
+use Rattle.lines.specs.Scan.{scanned}
+use Rattle.events.specs.Perform.{Performed, blank, eventDone, lineDone}
+use Rattle.events.specs.Output.{stateAfter, rowsOf, start, outputOf}
+use Rattle.agreement.specs.Calls.{read, write, external, snoop, flush, control, reset, step}
+use Rattle.agreement.specs.Plain.{Plain, plain}
+use Rattle.agreement.specs.Agreement.{Legal}
+use Rattle.agreement.specs.Program.{plainEvent, plainLine, plainRows, countsOf, plainOutput, eventSetsNw, NoLineSetsNw, Columns}
+use Rattle.agreement.proofs.Coherence.{Coherent}
+use Rattle.agreement.proofs.Reading.{coherent-with}
+use Rattle.agreement.proofs.Steps.{Good, call-good}
+use Rattle.agreement.proofs.Demand.{start-coherent}
+
+-- what a line leaves beside what the plain memory answers
+record LineGood (u : Performed) (p : Plain) : Type 0 where
+  coherent : Coherent (stateAfter u) (p .memory)
+  numbers : u .outcome .number ≡ p .number
+  values : u .outcome .value ≡ p .value
+
+module _ (s : State) (m : List ℕ) (c : Coherent s m) where
+  event-good : (line : List ℕ) (e : Event) → eventSetsNw e ≡ false → LineGood (eventDone s line e) (plainEvent m line e)
+  unfolding eventDone plainEvent step
+  event-good line Malformed q =
+      record {
+        coherent = coherent-with s m c (s .directory) (c .formed) (c .off) (s .array) (c .lines-lent) (c .lines);
+        numbers = refl;
+        values = refl;
+      }
+  event-good line (Read a w pcd) q =
+      let g = call-good s m c (read a w pcd (boardAnswers a w) blank) refl in
+      record { coherent = g .coherent; numbers = g .numbers; values = g .values }
+  event-good line (Write a w v) q =
+      let g = call-good s m c (write a w v (boardAnswers a w) blank) refl in
+      record { coherent = g .coherent; numbers = g .numbers; values = g .values }
+  event-good line (External a from) q =
+      let g = call-good s m c (external a (bytesOf (drop from line))) refl in
+      record { coherent = g .coherent; numbers = g .numbers; values = g .values }
+  event-good line (Snoop a) q =
+      let g = call-good s m c (snoop a) refl in
+      record { coherent = g .coherent; numbers = g .numbers; values = g .values }
+  event-good line Flush q =
+      let g = call-good s m c flush refl in
+      record { coherent = g .coherent; numbers = g .numbers; values = g .values }
+  event-good line (Control cd nw) q =
+      let g = call-good s m c (control cd nw) q in
+      record { coherent = g .coherent; numbers = g .numbers; values = g .values }
+  event-good line Reset q =
+      let g = call-good s m c reset refl in
+      record { coherent = g .coherent; numbers = g .numbers; values = g .values }
+
+  line-good : (line : List ℕ) → eventSetsNw (scanned line) ≡ false → LineGood (lineDone s line) (plainLine m line)
+  unfolding lineDone
+  line-good line q = event-good line (scanned line) q
+
+rows-agree : (lines : List (List ℕ)) (s : State) (m : List ℕ) (event : ℕ) → Coherent s m → NoLineSetsNw lines → rowsOf s event lines ≡ plainRows m event lines (countsOf s lines)
+unfolding rowsOf plainRows countsOf
+rows-agree [] s m event c n = refl
+rows-agree (line ∷ lines) s m event c n =
+    let g = line-good s m c line (n .0) in
+    rw (g .numbers, g .values, rows-agree lines (stateAfter (lineDone s line)) (plainLine m line .memory) (suc event) (g .coherent) (n .1))
+
+-- zeros have parity that agrees
+zeros-at : (n i : ℕ) → _≡_ {A = ℕ} (getD (replicate n 0) i 0) 0
+zeros-at zero i = refl
+zeros-at (suc n) zero = refl
+zeros-at (suc n) (suc i) = zeros-at n i
+
+no-bit : (lane : ℕ) → lane < 4 → laneBit 0 lane ≡ dpOf 0
+unfolding laneBit dpOf onesOf
+no-bit = four (λ k. laneBit 0 k ≡ dpOf 0) refl refl refl refl
+
+zeros-agree : (ram parity : ℕ) → Agrees (memory (replicate ram 0) (replicate parity 0))
+unfolding dpAt
+zeros-agree ram parity =
+    record { agree = λ a l. rw (zeros-at parity (a / 4), zeros-at ram a) (no-bit (a % 4) (omega arith)) }
+
+zeros-legal : (ram parity array : ℕ) → lentNumber ram parity array ≡ 0 → Legal (memory (replicate ram 0) (replicate parity 0)) (replicate array 0)
+zeros-legal ram parity array e =
+    record {
+      lengths = rw (length-replicate {A = ℕ} ram 0, length-replicate {A = ℕ} parity 0, length-replicate {A = ℕ} array 0) e;
+      agrees = zeros-agree ram parity;
+    }
+
+-- the program's start has document 01's lengths
+start-lengths : lentNumber 65536 16384 8192 ≡ 0
+unfolding lentNumber memoryNumber
+start-lengths = refl
+
+pub columns : Columns
+unfolding outputOf plainOutput start
+columns input n =
+    let c = start-coherent (memory (replicate 65536 0) (replicate 16384 0)) (replicate 8192 0) (zeros-legal 65536 16384 8192 start-lengths) in
+    rw (rows-agree (linesOf input) start (replicate 65536 0) 1 c n)

@@ -1,0 +1,80 @@
+-- Demand 3: every list of calls from a reset agrees with the plain memory. By induction over the list, with `Coherent` as the invariant.
+use Prim.Native.Nat.{ℕ}
+use mathlib.Core.Path.{_≡_, refl, sym, _∙_}
+use mathlib.Core.Bool.{cond}
+use mathlib.Core.List.{List, [], _∷_}
+use lib.ListN.{length}
+use lib.Dec.{eqb}
+use borrow.Author.Tests.{eqb-true}
+use Rattle.laws.proofs.Tests.{by-test}
+use Rattle.directory.specs.Steps.{afterReset}
+use Rattle.directory.proofs.Laws.{reset-none, reset-control, reset-well-formed}
+use Rattle.bus.specs.Parity.{Memory}
+use Rattle.access.specs.Access.{State, state}
+use Rattle.access.proofs.Accepted.{lent-accepted}
+use Rattle.agreement.specs.Calls.{Call, read, write, external, snoop, flush, control, view, reset, step, stateAfter}
+use Rattle.agreement.specs.Plain.{Plain, plainNumber, plainDone, plain}
+use Rattle.agreement.specs.Agreement.{Matches, AgreesAll, NeverSetsNw, Legal, Demand3, Arises, ArisesAll, NumbersThatArise}
+use Rattle.agreement.proofs.Coherence.{Coherent, no-lines}
+use Rattle.agreement.proofs.Numbers.{plain-arises}
+use Rattle.agreement.proofs.Steps.{Good, call-good}
+
+pub start-coherent : (m : Memory) (array : List ℕ) → Legal m array → Coherent (state afterReset m array) (m .ram)
+start-coherent m array g =
+    let l = lent-accepted _ _ _ (g .lengths) in
+    record {
+      formed = reset-well-formed;
+      lent = l .0;
+      lines-lent = l .1;
+      agrees = g .agrees;
+      rams = refl;
+      lines = no-lines afterReset (m .ram) array reset-none;
+      off = record { disabled = λ _. reset-control .0; empty = λ _. reset-none };
+    }
+
+agrees-from : (cs : List Call) (s : State) (m : List ℕ) → Coherent s m → NeverSetsNw cs → AgreesAll s m cs
+unfolding AgreesAll
+agrees-from [] s m c n = tt
+agrees-from (x ∷ cs) s m c n =
+    let g = call-good s m c x (n .0) in
+    let h = g .coherent in (
+      record { numbers = g .numbers; values = g .values; views = g .views; rams = h .rams; sound = g .sound },
+      agrees-from cs (stateAfter (step s x)) (plain m x .memory) h (n .1),
+    )
+
+pub demand3 : Demand3
+demand3 m array cs g n = agrees-from cs (state afterReset m array) (m .ram) (start-coherent m array g) n
+
+-- 1 to 3 and 21 to 23 never arise
+done-number : (m : List ℕ) (x : Call) → plainDone m x .number ≡ 0
+unfolding plainDone
+done-number m (read a w pcd xs log) = refl
+done-number m (write a w v xs log) = refl
+done-number m (external a x) = refl
+done-number m (snoop a) = refl
+done-number m flush = refl
+done-number m (control cd nw) = refl
+done-number m (view a) = refl
+done-number m reset = refl
+
+answer-number : (m : List ℕ) (x : Call) → plain m x .number ≡ plainNumber m x
+unfolding plain
+answer-number m x =
+    by-test (λ b. eqb (plainNumber m x) 0 ≡ b → cond b (plainDone m x) (record { number = plainNumber m x; value = 0; shown = []; memory = m }) .number ≡ plainNumber m x)
+    (eqb (plainNumber m x) 0)
+    (λ _ e. done-number m x ∙ sym (eqb-true _ 0 e))
+    (λ _ _. refl)
+    refl
+
+answer-arises : (m : List ℕ) (x : Call) → Arises (plain m x .number)
+answer-arises m x = rw (answer-number m x) (plain-arises m x)
+
+arises-from : (cs : List Call) (s : State) (m : List ℕ) → Coherent s m → NeverSetsNw cs → ArisesAll s cs
+unfolding ArisesAll
+arises-from [] s m c n = tt
+arises-from (x ∷ cs) s m c n =
+    let g = call-good s m c x (n .0) in
+    (rw (g .numbers) (answer-arises m x), arises-from cs (stateAfter (step s x)) (plain m x .memory) (g .coherent) (n .1))
+
+pub numbers-that-arise : NumbersThatArise
+numbers-that-arise m array cs g n = arises-from cs (state afterReset m array) (m .ram) (start-coherent m array g) n

@@ -1,0 +1,111 @@
+-- Numbers under the invariant: 1 to 3 and 21 to 23 are not met, so each call's number is the plain memory's.
+use Prim.Native.Nat.{ℕ, _+_, _-_, _/_, _%_, _^_, _≤_, _<_}
+use mathlib.Core.Path.{_≡_, refl, sym, _∙_, ap}
+use mathlib.Core.Bool.{Bool, true, false, not, _||_}
+use mathlib.Core.List.{List}
+use mathlib.Core.Logic.{_⊎_, inl, inr, ⊎-elim}
+use native.Mathlib.Omega.{arith}
+use lib.Dec.{eqb, ltb}
+use lib.ListN.{length}
+use borrow.Author.Tests.{eq-eqb, le-ltb}
+use Rattle.laws.proofs.Tests.{same-or, cond-true, cond-false, by-test}
+use Rattle.directory.specs.Address.{setOf}
+use Rattle.directory.specs.Steps.{stateOf, controlRefused}
+use Rattle.directory.proofs.Laws.{good-state-zero}
+use Rattle.access.specs.Access.{State, readNumber, writeNumber}
+use Rattle.access.specs.Masters.{masterNumber}
+use Rattle.access.specs.Refusal.{when, orElse, badRam, ramNumber, memoryNumber, arrayNumber, lentNumber, badWidth, badAnswers, argumentNumber, valueNumber, externalNumber, viewAddressNumber, viewInputNumber, statesIn, statesOf}
+use Rattle.access.proofs.Accepted.{zero-or, first-or, GoodMemory}
+use Rattle.views.specs.View.{viewNumberIn, viewNumberOf}
+use Rattle.agreement.specs.Calls.{Call, read, write, external, snoop, flush, control, view, reset}
+use Rattle.agreement.specs.Plain.{plainNumber}
+use Rattle.agreement.specs.Agreement.{Arises}
+use Rattle.agreement.proofs.Coherence.{Coherent}
+
+-- a second number that is not met
+or-nothing : (a b : ℕ) → b ≡ 0 → orElse a b ≡ a
+or-nothing a b z = same-or _ a 0 (λ e. zero-or a b e ∙ z ∙ sym e) (λ n. first-or a b n)
+
+-- 1 to 3 are not met by document 01's lengths
+module _ (ram parity : ℕ) (g : GoodMemory ram parity) where
+  pub ram-clear : ramNumber ram ≡ 0
+  ram-clear = rw (le-ltb ram 16 (g .least), le-ltb 16777216 ram (g .most), eq-eqb (ram % 16) 0 (g .whole))
+
+  memory-clear : memoryNumber ram parity ≡ 0
+  unfolding memoryNumber
+  memory-clear = zero-or (ramNumber ram) _ ram-clear ∙ rw (eq-eqb parity (ram / 4) (g .bits))
+
+  lent-clear : (array : ℕ) → array ≡ 8192 → lentNumber ram parity array ≡ 0
+  unfolding lentNumber
+  lent-clear array e = zero-or (memoryNumber ram parity) _ memory-clear ∙ array-clear array e
+    where
+      array-clear : (array : ℕ) → array ≡ 8192 → arrayNumber array ≡ 0
+      array-clear array e = rw (eq-eqb array 8192 e)
+
+module _ (s : State) (m : List ℕ) (c : Coherent s m) where
+  -- 21 to 23 are not met in any set
+  pub state-clear : (a : ℕ) → stateOf (s .directory) (setOf a) ≡ 0
+  state-clear a = good-state-zero (s .directory) (setOf a) (c .formed .sets (setOf a) (omega arith))
+
+  states-clear : (a n : ℕ) → statesOf (s .directory) a n ≡ 0
+  unfolding statesIn
+  states-clear a n = zero-or (stateOf (s .directory) (setOf a)) _ (state-clear a) ∙ state-clear (a + n - 1)
+
+  pub read-number : (a w : ℕ) (xs log : List ℕ) → readNumber s a w xs log ≡ argumentNumber (length m) a w xs (length log)
+  unfolding readNumber
+  read-number a w xs log =
+      zero-or (lentNumber (length (s .memory .ram)) (length (s .memory .parity)) (length (s .array))) _ (lent-clear _ _ (c .lent) _ (c .lines-lent))
+      ∙ or-nothing (argumentNumber (length (s .memory .ram)) a w xs (length log)) _ (states-clear a w)
+      ∙ ap (λ (l : List ℕ). argumentNumber (length l) a w xs (length log)) (c .rams)
+
+  pub write-number : (a w v : ℕ) (xs log : List ℕ) → writeNumber s a w v xs log ≡ orElse (argumentNumber (length m) a w xs (length log)) (valueNumber w v)
+  unfolding writeNumber
+  write-number a w v xs log =
+      zero-or (lentNumber (length (s .memory .ram)) (length (s .memory .parity)) (length (s .array))) _ (lent-clear _ _ (c .lent) _ (c .lines-lent))
+      ∙ ap (orElse (argumentNumber (length (s .memory .ram)) a w xs (length log))) (or-nothing (valueNumber w v) _ (states-clear a w))
+      ∙ ap (λ (l : List ℕ). orElse (argumentNumber (length l) a w xs (length log)) (valueNumber w v)) (c .rams)
+
+  pub master-number : (a : ℕ) (x : List ℕ) → masterNumber (s .directory) (s .memory) a x ≡ externalNumber (length m) a (length x)
+  unfolding masterNumber
+  master-number a x =
+      zero-or (memoryNumber (length (s .memory .ram)) (length (s .memory .parity))) _ (memory-clear _ _ (c .lent))
+      ∙ or-nothing (externalNumber (length (s .memory .ram)) a (length x)) _ (states-clear a (length x))
+      ∙ ap (λ (l : List ℕ). externalNumber (length l) a (length x)) (c .rams)
+
+  pub view-number : (a : ℕ) → viewNumberOf s a ≡ viewAddressNumber (length m) a
+  unfolding viewNumberIn viewInputNumber
+  view-number a =
+      or-nothing (viewInputNumber (length (s .memory .ram)) (length (s .array)) a) _ (state-clear a)
+      ∙ zero-or (ramNumber (length (s .memory .ram))) _ (ram-clear _ _ (c .lent))
+      ∙ zero-or (arrayNumber (length (s .array))) _ (rw (eq-eqb (length (s .array)) 8192 (c .lines-lent)))
+      ∙ ap (λ (l : List ℕ). viewAddressNumber (length l) a) (c .rams)
+
+-- the plain memory's numbers are 0 and 4 to 10
+when-arises : (b : Bool) (n : ℕ) → 4 ≤ n → n ≤ 10 → Arises (when b n)
+when-arises true n l h = inr (l, h)
+when-arises false n l h = inl refl
+
+or-arises : (a b : ℕ) → Arises a → Arises b → Arises (orElse a b)
+or-arises a b h k = same-or _ a 0 (λ e. rw (zero-or a b e) k) (λ n. rw (first-or a b n) h)
+
+argument-arises : (ram a w : ℕ) (xs : List ℕ) (log : ℕ) → Arises (argumentNumber ram a w xs log)
+unfolding argumentNumber
+argument-arises ram a w xs log =
+    or-arises (when (badWidth w) 4) _ (when-arises (badWidth w) 4 (omega arith) (omega arith))
+    (or-arises (when (ltb ram (a + w)) 5) _ (when-arises (ltb ram (a + w)) 5 (omega arith) (omega arith))
+    (or-arises (when (badAnswers xs) 6) _ (when-arises (badAnswers xs) 6 (omega arith) (omega arith)) (when-arises (ltb log 96) 7 (omega arith) (omega arith))))
+
+pub plain-arises : (m : List ℕ) (c : Call) → Arises (plainNumber m c)
+unfolding plainNumber valueNumber externalNumber
+plain-arises m (read a w pcd xs log) = argument-arises (length m) a w xs (length log)
+plain-arises m (write a w v xs log) =
+    or-arises (argumentNumber (length m) a w xs (length log)) (valueNumber w v) (argument-arises (length m) a w xs (length log))
+    (when-arises (not (ltb v (256 ^ w))) 8 (omega arith) (omega arith))
+plain-arises m (external a x) =
+    let n = length x in
+    when-arises (eqb n 0 || ltb 16 n || ltb 16 (a % 16 + n) || ltb (length m) (a + n)) 10 (omega arith) (omega arith)
+plain-arises m (snoop a) = inl refl
+plain-arises m flush = inl refl
+plain-arises m (control cd nw) = when-arises (controlRefused cd nw) 9 (omega arith) (omega arith)
+plain-arises m (view a) = when-arises (not (ltb a (length m))) 5 (omega arith) (omega arith)
+plain-arises m reset = inl refl

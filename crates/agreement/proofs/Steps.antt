@@ -1,0 +1,221 @@
+-- Each call keeps the invariant and matches the plain memory.
+use Prim.Native.Nat.{ℕ, _+_, _*_, _-_, _/_, _%_, _≤_, _<_}
+use mathlib.Core.Path.{_≡_, refl, sym, _∙_, ap}
+use mathlib.Core.Bool.{Bool, true, false, cond, not, _&&_}
+use mathlib.Core.List.{List, []}
+use native.Mathlib.Omega.{arith}
+use lib.ListN.{length}
+use lib.Seq.{sets}
+use borrow.Author.Tests.{eq-eqb, ne-eqb}
+use Rattle.laws.proofs.Tests.{differ, cond-true, cond-false, by-test, same-or}
+use Rattle.directory.specs.declared.steps.Directory.{Directory}
+use Rattle.directory.specs.declared.ways.Found.{Found}
+use Rattle.directory.specs.declared.ways.Found.the-variants.{At, Nothing}
+use Rattle.directory.specs.Address.{setOf, tagOf}
+use Rattle.directory.specs.Steps.{lookupOf, afterReset, afterFlush, afterControl, afterSnoop, controlRefused}
+use Rattle.directory.specs.WellFormed.{WellFormed}
+use Rattle.directory.proofs.Laws.{lookup-at, reset-none, reset-control, reset-well-formed, flush-none, flush-control, flush-well-formed, control-held, control-set, control-well-formed, control-accepted, control-refused, snoop-well-formed, snoop-accepted}
+use Rattle.bus.specs.Bytes.{bytesAt, valueOf, bytesOf}
+use Rattle.bus.specs.Parity.{Memory, stored}
+use Rattle.bus.specs.Groups.{groups}
+use Rattle.doubleword.specs.Doubleword.{slotOf, doublewordsOf}
+use Rattle.access.specs.Access.{State, state, After, after, outcome, refused, accepted, Progress, operandOf, readNumber, writeNumber, readAll, writeAll, readCall, writeCall}
+use Rattle.access.specs.Masters.{masterNumber, written, externalCall}
+use Rattle.access.specs.Refusal.{when, argumentNumber, valueNumber}
+use Rattle.access.proofs.Accepted.{or-zero, GoodArguments, arguments-accepted, external-accepted}
+use Rattle.access.proofs.Calls.{external-refused, external-done}
+use Rattle.views.specs.View.{shown, viewNumberOf, viewOf}
+use Rattle.views.proofs.Viewing.{view-refused, view-done}
+use Rattle.agreement.specs.Calls.{Call, read, write, external, snoop, flush, control, view, reset, Step, done, directoryLeft, viewLeft, step, stateAfter}
+use Rattle.agreement.specs.Plain.{Plain, plainly, plainNumber, plainDone, plain}
+use Rattle.agreement.specs.Agreement.{NoParityError, setsNw}
+use Rattle.agreement.proofs.Bytes.{bytes-same, operand-bytes}
+use Rattle.agreement.proofs.Cycles.{Sound, logged-sound}
+use Rattle.agreement.proofs.Coherence.{Lines, Empty, Off, Coherent, fewer-lines, no-lines, line-around}
+use Rattle.agreement.proofs.Parts.{parts-proper, parts-wanted, parts-written}
+use Rattle.agreement.proofs.Reading.{coherent-with, read-all}
+use Rattle.agreement.proofs.Writing.{write-all}
+use Rattle.agreement.proofs.Snooping.{snooped-off, snooped-lines, external-coherent}
+use Rattle.agreement.proofs.Numbers.{state-clear, read-number, write-number, master-number, view-number}
+
+-- what a step leaves beside what the plain memory answers
+pub record Good (x : Step) (p : Plain) : Type 0 where
+  pub coherent : Coherent (stateAfter x) (p .memory)
+  pub numbers : x .left .outcome .number ≡ p .number
+  pub values : x .left .outcome .value ≡ p .value
+  pub views : x .shown ≡ p .shown
+  pub sound : NoParityError (x .left)
+
+-- a call by its number: refused and nothing changed, or done
+module _ (s : State) (m : List ℕ) (c : Coherent s m) (x : Call) where
+  abbrev unchanged : ℕ → List ℕ → Step
+  unchanged n log = done (after (outcome (s .directory) n 0 0) (s .memory) (s .array) log)
+
+  by-number : (n : ℕ) → n ≡ plainNumber m x → (log : List ℕ) → ((n ≡ 0 → ⊥) → step s x ≡ unchanged n log) →
+      (n ≡ 0 → Good (step s x) (plainDone m x)) → Good (step s x) (plain m x)
+  unfolding plain
+  by-number n e log f g =
+      same-or _ n 0
+      (λ z. let k : plainNumber m x ≡ 0 = sym e ∙ z in rw (cond-true _ (plainDone m x) (record { number = plainNumber m x; value = 0; shown = []; memory = m }) (eq-eqb _ 0 k)) (g z))
+      (λ h.
+      let k : plainNumber m x ≡ 0 → ⊥ = λ q. h (e ∙ q) in
+      rw (cond-false _ (plainDone m x) (record { number = plainNumber m x; value = 0; shown = []; memory = m }) (ne-eqb _ 0 k), f h)
+      (record {
+        coherent = coherent-with s m c (s .directory) (c .formed) (c .off) (s .array) (c .lines-lent) (c .lines);
+        numbers = e;
+        values = refl;
+        views = refl;
+        sound = λ i l. absurd (omega arith);
+      }))
+
+module _ (s : State) (m : List ℕ) (c : Coherent s m) where
+  whole : length m % 16 ≡ 0
+  whole = rw (c .rams) at (c .lent .whole)
+
+  -- READ AND WRITE
+
+  read-good : (a w : ℕ) (pcd : Bool) (xs log : List ℕ) → Good (step s (read a w pcd xs log)) (plain m (read a w pcd xs log))
+  unfolding step plainNumber plainDone readCall readAll
+  read-good a w pcd xs log =
+      by-number s m c (read a w pcd xs log) (readNumber s a w xs log) (read-number s m c a w xs log) log
+      (λ h. ap done (cond-false _ _ _ (ne-eqb _ 0 h)))
+      (λ z.
+      let k = arguments-accepted (length m) a w xs (length log) (sym (read-number s m c a w xs log) ∙ z) in
+      let b : w ≤ 4 * groups - a % 4 = omega (arith, k .four) in
+      let r = read-all (doublewordsOf groups xs a w 0) s m c pcd (parts-proper groups xs a w 0 (length m) (k .served) b (k .inside) whole) in
+      rw (cond-true _ (accepted (valueOf (readAll s a w pcd xs .bytes)) (readAll s a w pcd xs) log) (refused (readNumber s a w xs log) s log) (eq-eqb _ 0 z))
+      (record {
+        coherent = r .coherent;
+        numbers = refl;
+        values = ap valueOf (r .gives ∙ parts-wanted groups m xs a w 0 b);
+        views = refl;
+        sound = logged-sound log (readAll s a w pcd xs .records) (r .sound);
+      }))
+
+  write-good : (a w v : ℕ) (xs log : List ℕ) → Good (step s (write a w v xs log)) (plain m (write a w v xs log))
+  unfolding step plainNumber plainDone writeCall writeAll
+  write-good a w v xs log =
+      by-number s m c (write a w v xs log) (writeNumber s a w v xs log) (write-number s m c a w v xs log) log
+      (λ h. ap done (cond-false _ _ _ (ne-eqb _ 0 h)))
+      (λ z.
+      let q = or-zero (argumentNumber (length m) a w xs (length log)) (valueNumber w v) (sym (write-number s m c a w v xs log) ∙ z) in
+      let k = arguments-accepted (length m) a w xs (length log) (q .0) in
+      let b : w ≤ 4 * groups - a % 4 = omega (arith, k .four) in
+      let r = write-all (operandOf v) (doublewordsOf groups xs a w 0) s m c (parts-proper groups xs a w 0 (length m) (k .served) b (k .inside) whole) in
+      rw (cond-true _ (accepted 0 (writeAll s a w v xs) log) (refused (writeNumber s a w v xs log) s log) (eq-eqb _ 0 z))
+      (record {
+        coherent = rw (parts-written groups (operandOf v) m xs a w 0 b, operand-bytes v w (k .four)) at (r .coherent);
+        numbers = refl;
+        values = refl;
+        views = refl;
+        sound = logged-sound log (writeAll s a w v xs .records) (r .sound);
+      }))
+
+  -- OTHER MASTERS
+
+  external-good : (a : ℕ) (x : List ℕ) → Good (step s (external a x)) (plain m (external a x))
+  unfolding step plainNumber plainDone
+  external-good a x =
+      let n = masterNumber (s .directory) (s .memory) a x in
+      by-number s m c (external a x) n (master-number s m c a x) []
+      (λ h. rw (external-refused (s .directory) (s .memory) a x n refl h))
+      (λ z.
+      rw (external-done (s .directory) (s .memory) a x z)
+      (record {
+        coherent = external-coherent s m c a x (external-accepted (length m) a (length x) (sym (master-number s m c a x) ∙ z));
+        numbers = refl;
+        values = refl;
+        views = refl;
+        sound = λ i l. absurd (omega arith);
+      }))
+
+  -- THE DIRECTORY ALONE
+
+  -- a call that changes nothing but the directory
+  changed-good : (d : Directory) → WellFormed d → Off d → Lines d m (s .array) → Good (directoryLeft s (outcome d 0 0 0)) (plainly 0 [] m)
+  changed-good d g o l =
+      record {
+        coherent = coherent-with s m c d g o (s .array) (c .lines-lent) l;
+        numbers = refl;
+        values = refl;
+        views = refl;
+        sound = λ i l. absurd (omega arith);
+      }
+
+  -- a directory that holds no line
+  emptied-good : (d : Directory) → WellFormed d → (d .nw ≡ true → d .cd ≡ true) → Empty d → Good (directoryLeft s (outcome d 0 0 0)) (plainly 0 [] m)
+  emptied-good d g e n = changed-good d g (record { disabled = e; empty = λ _. n }) (no-lines d m (s .array) n)
+
+  snoop-good : (a : ℕ) → Good (step s (snoop a)) (plain m (snoop a))
+  unfolding step plain plainNumber plainDone
+  snoop-good a =
+      rw (snoop-accepted (s .directory) a (state-clear s m c a))
+      (changed-good (afterSnoop (s .directory) a) (snoop-well-formed (s .directory) (c .formed) a) (snooped-off s m c a) (snooped-lines s m c a))
+
+  flush-good : Good (step s flush) (plain m flush)
+  unfolding step plain plainNumber plainDone
+  flush-good =
+      let k = flush-control (s .directory) in
+      emptied-good (afterFlush (s .directory)) (flush-well-formed (s .directory) (c .formed)) (λ h. k .0 ∙ c .off .disabled (sym (k .1) ∙ h)) (flush-none (s .directory))
+
+  reset-good : Good (step s reset) (plain m reset)
+  unfolding step plain plainNumber plainDone
+  reset-good = emptied-good afterReset reset-well-formed (λ _. reset-control .0) reset-none
+
+  -- an accepted control call that does not set NW leaves NW = 0
+  control-good : (cd nw : Bool) → setsNw (control cd nw) ≡ false → Good (step s (control cd nw)) (plain m (control cd nw))
+  unfolding step plain plainNumber plainDone
+  control-good cd nw q =
+      by-test (λ b. controlRefused cd nw ≡ b → Good (step s (control cd nw)) (plain m (control cd nw))) (controlRefused cd nw)
+      (λ _ e.
+      rw (control-refused (s .directory) cd nw e, e)
+      (record {
+        coherent = coherent-with s m c (s .directory) (c .formed) (c .off) (s .array) (c .lines-lent) (c .lines);
+        numbers = refl;
+        values = refl;
+        views = refl;
+        sound = λ i l. absurd (omega arith);
+      }))
+      (λ _ e.
+      let k = control-set (s .directory) cd nw in
+      let never : afterControl (s .directory) cd nw .nw ≡ true → ⊥ = λ h. differ h (k .1 ∙ rw e at q) in
+      rw (control-accepted (s .directory) cd nw e, e)
+      (changed-good (afterControl (s .directory) cd nw) (control-well-formed (s .directory) cd nw (c .formed))
+      (record { disabled = λ h. absurd (never h); empty = λ h. absurd (never h) })
+      (fewer-lines (s .directory) (afterControl (s .directory) cd nw) m (s .array) (λ r v tag rl vl h. control-held (s .directory) cd nw r v tag h) (c .lines))))
+      refl
+
+  -- VIEWS
+
+  shown-is : (a : ℕ) (f : Found) → lookupOf (s .directory) a ≡ f → shown f (s .memory .ram) (s .array) a ≡ bytesAt m (a / 16 * 16) 16
+  unfolding shown
+  shown-is a (At w) e =
+      let k = lookup-at (s .directory) a w e in
+      bytes-same (s .array) m (slotOf a w) (a / 16 * 16) 16 λ o b.
+      rw (line-around a) at (c .lines .same (setOf a) w (tagOf a) (omega arith) (k .0) (k .1) o b)
+  shown-is a Nothing e = ap (λ (l : List ℕ). bytesAt l (a / 16 * 16) 16) (c .rams)
+
+  view-good : (a : ℕ) → Good (step s (view a)) (plain m (view a))
+  unfolding step plainNumber plainDone
+  view-good a =
+      let n = viewNumberOf s a in
+      by-number s m c (view a) n (view-number s m c a) []
+      (λ h. rw (← view-refused (s .directory .tags) (s .directory .valid) (s .directory .lru) (s .memory .ram) (s .array) a n refl h))
+      (λ z.
+      record {
+        coherent = coherent-with s m c (s .directory) (c .formed) (c .off) (s .array) (c .lines-lent) (c .lines);
+        numbers = z;
+        values = refl;
+        views = view-done (s .directory .tags) (s .directory .valid) (s .directory .lru) (s .memory .ram) (s .array) a n refl z ∙ shown-is a (lookupOf (s .directory) a) refl;
+        sound = λ i l. absurd (omega arith);
+      })
+
+  pub call-good : (x : Call) → setsNw x ≡ false → Good (step s x) (plain m x)
+  call-good (read a w pcd xs log) q = read-good a w pcd xs log
+  call-good (write a w v xs log) q = write-good a w v xs log
+  call-good (external a x) q = external-good a x
+  call-good (snoop a) q = snoop-good a
+  call-good flush q = flush-good
+  call-good (control cd nw) q = control-good cd nw q
+  call-good (view a) q = view-good a
+  call-good reset q = reset-good

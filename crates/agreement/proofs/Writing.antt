@@ -1,0 +1,128 @@
+-- Writes keep the invariant beside the plain memory with their bytes put in.
+use Prim.Native.Nat.{ℕ, _+_, _*_, _/_, _%_, _≤_, _<_}
+use mathlib.Core.Path.{_≡_, refl, sym, _∙_, ap}
+use mathlib.Core.Bool.{Bool, true, false, cond, _&&_}
+use mathlib.Core.List.{List, [], _∷_, map}
+use native.Mathlib.Omega.{arith}
+use lib.ListN.{length}
+use lib.Seq.{sets, length-sets}
+use Rattle.laws.proofs.Tests.{both, by-test}
+use Rattle.directory.specs.declared.steps.Directory.{Directory}
+use Rattle.directory.specs.declared.ways.Found.{Found}
+use Rattle.directory.specs.declared.ways.Found.the-variants.{At, Nothing}
+use Rattle.directory.specs.Address.{setOf}
+use Rattle.directory.specs.Steps.{lookupOf, afterUse}
+use Rattle.directory.specs.WellFormed.{WellFormed}
+use Rattle.directory.proofs.Laws.{lookup-at, lookup-nothing, use-kept, use-well-formed}
+use Rattle.bus.specs.Parity.{Memory, stored}
+use Rattle.bus.specs.Bus.{sent, through}
+use Rattle.bus.specs.Record.{writeRecord}
+use Rattle.doubleword.specs.declared.change.Change.the-variants.{Keep, Use}
+use Rattle.doubleword.specs.Doubleword.{Doubleword, Done, changed, slotOf, ownCycles, laid, writeThrough, hitArray, writeDone}
+use Rattle.access.specs.Access.{State, state, Progress, writeOne, next, allOf}
+use Rattle.access.proofs.Accepted.{GoodMemory}
+use Rattle.access.proofs.Values.{bytes-length}
+use Rattle.agreement.proofs.Memories.{stored-ram, stored-parity, stored-agrees}
+use Rattle.agreement.proofs.Cycles.{Sound, sound-append, sound-writes, cycles-within, own-stored}
+use Rattle.agreement.proofs.Coherence.{Lines, Off, Coherent, line-set, line-tag, stored-miss, stored-hit}
+use Rattle.agreement.proofs.Parts.{Proper, EachProper, givenOf, written, allWritten}
+use Rattle.agreement.proofs.Reading.{use-off, use-lines}
+
+-- bytes stored in RAM with their parity, and in the plain memory, beside a directory whose lines have them
+pub coherent-stored : (s : State) (m : List ℕ) → Coherent s m → (a : ℕ) (x : List ℕ) → a + length x ≤ length m →
+    (d : Directory) → WellFormed d → Off d → (array : List ℕ) → length array ≡ 8192 → Lines d (sets m a x) array →
+    Coherent (state d (stored (s .memory) a x) array) (sets m a x)
+coherent-stored s m c a x fits d g o array al l =
+    let e = stored-ram (s .memory) a x in
+    let k : length (stored (s .memory) a x .ram) ≡ length (s .memory .ram) = rw e (length-sets (s .memory .ram) a x) in
+    let p = stored-parity (s .memory) a x in
+    record {
+      formed = g;
+      lent = rw (k, p) (c .lent);
+      lines-lent = al;
+      agrees = stored-agrees (s .memory) a x (rw (c .rams) fits) (omega (arith, c .lent .whole, c .lent .bits)) (c .agrees);
+      rams = e ∙ ap (λ (z : List ℕ). sets z a x) (c .rams);
+      lines = l;
+      off = o;
+    }
+
+-- what a doubleword of a write leaves
+pub record WriteGood (s : State) (m : List ℕ) (w : Doubleword) (done : Done) : Type 0 where
+  pub coherent : Coherent (next s w done) m
+  pub sound : Sound (done .records)
+
+module _ (operand : List ℕ) (s : State) (m : List ℕ) (c : Coherent s m) (w : Doubleword) (ok : Proper (length m) w) where
+  abbrev d : Directory
+  d = s .directory
+
+  abbrev x : List ℕ
+  x = givenOf operand w
+
+  size : length x ≡ w .wanted .count
+  size = bytes-length operand (w .place) (w .wanted .count)
+
+  sent-own : through (sent (laid operand w) (w .line)) (ownCycles w) (s .memory) ≡ stored (s .memory) (w .line + w .wanted .from) x
+  sent-own = own-stored x (w .line) (w .wanted) (ok .within) size (w .answers) (ok .enough) (s .memory)
+
+  own-sound : Sound (map (writeRecord (laid operand w) (w .line)) (ownCycles w))
+  own-sound = sound-writes (laid operand w) (w .line) (ownCycles w) (cycles-within (w .answers) (w .wanted ∷ []) (ok .within, tt))
+
+  in-line : w .wanted .from + length x ≤ 16
+  in-line = rw size (ok .within .line)
+
+  in-memory : w .line + w .wanted .from + length x ≤ length m
+  in-memory = omega (arith, in-line, ok .inside)
+
+  write-miss : lookupOf d (w .line) ≡ Nothing → WriteGood s (written operand m w) w (writeThrough Keep (s .memory) (s .array) operand w)
+  unfolding writeThrough changed
+  write-miss e =
+      let none = lookup-nothing d (w .line) e in
+      record {
+        coherent = rw sent-own (coherent-stored s m c (w .line + w .wanted .from) x in-memory d (c .formed) (c .off) (s .array) (c .lines-lent)
+            (stored-miss d m (s .array) (c .lines) (w .line) (w .wanted .from) x (ok .aligned) in-line
+            (λ r v tag rl vl h q. none v vl (rw (line-set r tag (w .line) rl q, line-tag r tag (w .line) rl q) at h))));
+        sound = own-sound;
+      }
+
+  write-hit : (way : ℕ) → lookupOf d (w .line) ≡ At way → WriteGood s (written operand m w) w (writeThrough (Use way) (s .memory) (hitArray way (s .array) operand w) operand w)
+  unfolding writeThrough hitArray changed
+  write-hit way e =
+      let k = lookup-at d (w .line) way e in
+      let g = use-well-formed d (c .formed) (setOf (w .line)) way (omega arith) (k .0) in
+      record {
+        coherent = rw sent-own (coherent-stored s m c (w .line + w .wanted .from) x in-memory (afterUse d (setOf (w .line)) way) g (use-off d (setOf (w .line)) way (c .off))
+            (sets (s .array) (slotOf (w .line) way + w .wanted .from) x)
+            (length-sets (s .array) (slotOf (w .line) way + w .wanted .from) x ∙ c .lines-lent)
+            (stored-hit (afterUse d (setOf (w .line)) way) m (s .array) (use-lines d (setOf (w .line)) way m (s .array) (c .lines)) (w .line) (w .wanted .from) x (ok .aligned) in-line g (c .lines-lent) (ok .inside) way (k .0)
+            (use-kept d (setOf (w .line)) way (setOf (w .line)) way _ (k .1))));
+        sound = own-sound;
+      }
+
+  write-found : (f : Found) → lookupOf d (w .line) ≡ f → WriteGood s (written operand m w) w (writeDone f (d .cd && d .nw) (s .memory) (s .array) operand w)
+  unfolding writeDone
+  write-found (At way) e =
+      let k = lookup-at d (w .line) way e in
+      by-test (λ b. (d .cd && d .nw) ≡ b → WriteGood s (written operand m w) w (cond b (record { change = Use way; memory = s .memory; array = hitArray way (s .array) operand w; bytes = []; records = [] }) (writeThrough (Use way) (s .memory) (hitArray way (s .array) operand w) operand w)))
+      (d .cd && d .nw)
+      (λ _ h. absurd (c .off .empty (both (d .cd) (d .nw) h .1) (setOf (w .line)) way _ (omega arith) (k .0) (k .1)))
+      (λ _ _. write-hit way e)
+      refl
+  write-found Nothing e = write-miss e
+
+  pub write-one : WriteGood s (written operand m w) w (writeOne operand s w)
+  unfolding writeOne
+  write-one = write-found (lookupOf d (w .line)) refl
+
+-- what a whole write leaves
+pub record WritesGood (m : List ℕ) (p : Progress) : Type 0 where
+  pub coherent : Coherent (p .state) m
+  pub sound : Sound (p .records)
+
+pub write-all : (operand : List ℕ) (ws : List Doubleword) (s : State) (m : List ℕ) → Coherent s m → EachProper (length m) ws → WritesGood (allWritten operand m ws) (allOf (writeOne operand) s ws)
+unfolding allOf
+write-all operand [] s m c g = record { coherent = c; sound = tt }
+write-all operand (w ∷ ws) s m c g =
+    let h = write-one operand s m c w (g .0) in
+    let k = length-sets m (w .line + w .wanted .from) (givenOf operand w) in
+    let r = write-all operand ws (next s w (writeOne operand s w)) (written operand m w) (h .coherent) (rw k (g .1)) in
+    record { coherent = r .coherent; sound = sound-append (writeOne operand s w .records) _ (h .sound) (r .sound) }
