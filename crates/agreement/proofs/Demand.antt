@@ -12,7 +12,7 @@ use Rattle.directory.proofs.Laws.{reset-none, reset-control, reset-well-formed}
 use Rattle.bus.specs.Parity.{Memory}
 use Rattle.access.specs.Access.{State, state}
 use Rattle.access.proofs.Accepted.{lent-accepted}
-use Rattle.agreement.specs.Calls.{Call, read, write, external, snoop, flush, control, view, reset, step, stateAfter}
+use Rattle.agreement.specs.Calls.{Call, read, write, external, snoop, flush, control, view, reset, step, nextState}
 use Rattle.agreement.specs.Plain.{Plain, plainNumber, plainDone, plain}
 use Rattle.agreement.specs.Agreement.{Matches, AgreesAll, NeverSetsNw, Legal, Demand3, Arises, ArisesAll, NumbersThatArise}
 use Rattle.agreement.proofs.Coherence.{Coherent, no-lines}
@@ -39,7 +39,7 @@ agrees-from (x ∷ cs) s m c n =
     let g = call-good s m c x (n .0) in
     let h = g .coherent in (
       record { numbers = g .numbers; values = g .values; views = g .views; rams = h .rams; sound = g .sound },
-      agrees-from cs (stateAfter (step s x)) (plain m x .memory) h (n .1),
+      agrees-from cs (nextState (step s x)) (plain m x .memory) h (n .1),
     )
 
 pub demand3 : Demand3
@@ -74,7 +74,7 @@ unfolding ArisesAll
 arises-from [] s m c n = tt
 arises-from (x ∷ cs) s m c n =
     let g = call-good s m c x (n .0) in
-    (rw (g .numbers) (answer-arises m x), arises-from cs (stateAfter (step s x)) (plain m x .memory) (g .coherent) (n .1))
+    (rw (g .numbers) (answer-arises m x), arises-from cs (nextState (step s x)) (plain m x .memory) (g .coherent) (n .1))
 
 pub numbers-that-arise : NumbersThatArise
 numbers-that-arise m array cs g n = arises-from cs (state afterReset m array) (m .ram) (start-coherent m array g) n

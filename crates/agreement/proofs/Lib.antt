@@ -1,4 +1,5 @@
--- The proof of demand 3, from the bytes up. `Demand` and `Program` have the theorems.
+-- The proof of demand 3, from the bytes up. The theorems are `demand3` and `numbers-that-arise` in `Demand`, `columns` in `Columns`; the laws of
+-- `Drops` stand beside them.
 mod Bytes
 mod Memories
 mod Cycles
@@ -11,3 +12,4 @@ mod Numbers
 mod Steps
 pub mod Demand
 pub mod Columns
+pub mod Drops

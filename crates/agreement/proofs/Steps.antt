@@ -26,7 +26,7 @@ use Rattle.access.proofs.Accepted.{or-zero, GoodArguments, arguments-accepted, 
 use Rattle.access.proofs.Calls.{external-refused, external-done}
 use Rattle.views.specs.View.{shown, viewNumberOf, viewOf}
 use Rattle.views.proofs.Viewing.{view-refused, view-done}
-use Rattle.agreement.specs.Calls.{Call, read, write, external, snoop, flush, control, view, reset, Step, done, directoryLeft, viewLeft, step, stateAfter}
+use Rattle.agreement.specs.Calls.{Call, read, write, external, snoop, flush, control, view, reset, Step, leaving, directoryStep, viewStep, step, nextState}
 use Rattle.agreement.specs.Plain.{Plain, plainly, plainNumber, plainDone, plain}
 use Rattle.agreement.specs.Agreement.{NoParityError, setsNw}
 use Rattle.agreement.proofs.Bytes.{bytes-same, operand-bytes}
@@ -40,16 +40,16 @@ use Rattle.agreement.proofs.Numbers.{state-clear, read-number, write-nu
 
 -- what a step leaves beside what the plain memory answers
 pub record Good (x : Step) (p : Plain) : Type 0 where
-  pub coherent : Coherent (stateAfter x) (p .memory)
-  pub numbers : x .left .outcome .number ≡ p .number
-  pub values : x .left .outcome .value ≡ p .value
+  pub coherent : Coherent (nextState x) (p .memory)
+  pub numbers : x .leaves .outcome .number ≡ p .number
+  pub values : x .leaves .outcome .value ≡ p .value
   pub views : x .shown ≡ p .shown
-  pub sound : NoParityError (x .left)
+  pub sound : NoParityError (x .leaves)
 
 -- a call by its number: refused and nothing changed, or done
 module _ (s : State) (m : List ℕ) (c : Coherent s m) (x : Call) where
   abbrev unchanged : ℕ → List ℕ → Step
-  unchanged n log = done (after (outcome (s .directory) n 0 0) (s .memory) (s .array) log)
+  unchanged n log = leaving (after (outcome (s .directory) n 0 0) (s .memory) (s .array) log)
 
   by-number : (n : ℕ) → n ≡ plainNumber m x → (log : List ℕ) → ((n ≡ 0 → ⊥) → step s x ≡ unchanged n log) →
       (n ≡ 0 → Good (step s x) (plainDone m x)) → Good (step s x) (plain m x)
@@ -78,7 +78,7 @@ module _ (s : State) (m : List ℕ) (c : Coherent s m) where
   unfolding step plainNumber plainDone readCall readAll
   read-good a w pcd xs log =
       by-number s m c (read a w pcd xs log) (readNumber s a w xs log) (read-number s m c a w xs log) log
-      (λ h. ap done (cond-false _ _ _ (ne-eqb _ 0 h)))
+      (λ h. ap leaving (cond-false _ _ _ (ne-eqb _ 0 h)))
       (λ z.
       let k = arguments-accepted (length m) a w xs (length log) (sym (read-number s m c a w xs log) ∙ z) in
       let b : w ≤ 4 * groups - a % 4 = omega (arith, k .four) in
@@ -96,7 +96,7 @@ module _ (s : State) (m : List ℕ) (c : Coherent s m) where
   unfolding step plainNumber plainDone writeCall writeAll
   write-good a w v xs log =
       by-number s m c (write a w v xs log) (writeNumber s a w v xs log) (write-number s m c a w v xs log) log
-      (λ h. ap done (cond-false _ _ _ (ne-eqb _ 0 h)))
+      (λ h. ap leaving (cond-false _ _ _ (ne-eqb _ 0 h)))
       (λ z.
       let q = or-zero (argumentNumber (length m) a w xs (length log)) (valueNumber w v) (sym (write-number s m c a w v xs log) ∙ z) in
       let k = arguments-accepted (length m) a w xs (length log) (q .0) in
@@ -132,7 +132,7 @@ module _ (s : State) (m : List ℕ) (c : Coherent s m) where
   -- THE DIRECTORY ALONE
 
   -- a call that changes nothing but the directory
-  changed-good : (d : Directory) → WellFormed d → Off d → Lines d m (s .array) → Good (directoryLeft s (outcome d 0 0 0)) (plainly 0 [] m)
+  changed-good : (d : Directory) → WellFormed d → Off d → Lines d m (s .array) → Good (directoryStep s (outcome d 0 0 0)) (plainly 0 [] m)
   changed-good d g o l =
       record {
         coherent = coherent-with s m c d g o (s .array) (c .lines-lent) l;
@@ -143,7 +143,7 @@ module _ (s : State) (m : List ℕ) (c : Coherent s m) where
       }
 
   -- a directory that holds no line
-  emptied-good : (d : Directory) → WellFormed d → (d .nw ≡ true → d .cd ≡ true) → Empty d → Good (directoryLeft s (outcome d 0 0 0)) (plainly 0 [] m)
+  emptied-good : (d : Directory) → WellFormed d → (d .nw ≡ true → d .cd ≡ true) → Empty d → Good (directoryStep s (outcome d 0 0 0)) (plainly 0 [] m)
   emptied-good d g e n = changed-good d g (record { disabled = e; empty = λ _. n }) (no-lines d m (s .array) n)
 
   snoop-good : (a : ℕ) → Good (step s (snoop a)) (plain m (snoop a))

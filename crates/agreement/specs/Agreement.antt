@@ -9,7 +9,7 @@ use Rattle.directory.specs.Steps.{afterReset, controlRefused}
 use Rattle.bus.specs.Parity.{Memory, Agrees}
 use Rattle.access.specs.Access.{State, state, After}
 use Rattle.access.specs.Refusal.{lentNumber}
-use Rattle.agreement.specs.Calls.{Call, read, write, external, snoop, flush, control, view, reset, Step, step, stateAfter}
+use Rattle.agreement.specs.Calls.{Call, read, write, external, snoop, flush, control, view, reset, Step, step, nextState}
 use Rattle.agreement.specs.Plain.{Plain, plain}
 
 -- "No record that a call of the list leaves carries 128.": of the records that a call counts, whose flags are the second of three words each.
@@ -19,16 +19,16 @@ NoParityError a =
 
 -- "Compared after each call": numbers, values, views, "and all of RAM".
 pub record Matches (x : Step) (p : Plain) : Type 0 where
-  pub numbers : x .left .outcome .number ≡ p .number
-  pub values : x .left .outcome .value ≡ p .value
+  pub numbers : x .leaves .outcome .number ≡ p .number
+  pub values : x .leaves .outcome .value ≡ p .value
   pub views : x .shown ≡ p .shown
-  pub rams : x .left .memory .ram ≡ p .memory
-  pub sound : NoParityError (x .left)
+  pub rams : x .leaves .memory .ram ≡ p .memory
+  pub sound : NoParityError (x .leaves)
 
 -- After each call of a list, of the unit in a state and the plain memory beside it.
 unfoldable pub AgreesAll : State → List ℕ → List Call → Type 0
 AgreesAll s m [] = Unit {0}
-AgreesAll s m (c ∷ cs) = Matches (step s c) (plain m c) × AgreesAll (stateAfter (step s c)) (plain m c .memory) cs
+AgreesAll s m (c ∷ cs) = Matches (step s c) (plain m c) × AgreesAll (nextState (step s c)) (plain m c .memory) cs
 
 -- "no accepted control call sets NW to 1"
 abbrev pub setsNw : Call → Bool
@@ -62,7 +62,7 @@ Arises n = (n ≡ 0) ⊎ ((4 ≤ n) × (n ≤ 10))
 
 unfoldable pub ArisesAll : State → List Call → Type 0
 ArisesAll s [] = Unit {0}
-ArisesAll s (c ∷ cs) = Arises (step s c .left .outcome .number) × ArisesAll (stateAfter (step s c)) cs
+ArisesAll s (c ∷ cs) = Arises (step s c .leaves .outcome .number) × ArisesAll (nextState (step s c)) cs
 
 abbrev pub NumbersThatArise : Type 0
 NumbersThatArise =

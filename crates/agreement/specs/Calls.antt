@@ -20,36 +20,36 @@ pub data Call : Type 0 where
 
 -- What a step leaves: the answer with the directory, every buffer, and the bytes that a view shows.
 pub record Step : Type 0 where
-  pub left : After
+  pub leaves : After
   pub shown : List ℕ
 
 -- A call other than a view shows nothing.
-abbrev pub done : After → Step
-done a = record { left = a; shown = [] }
+abbrev pub leaving : After → Step
+leaving a = record { leaves = a; shown = [] }
 
 -- "A buffer that a call doesn't receive passes on as it was.": an external write has no data array and no log, a call on the directory alone no buffer.
-abbrev pub externalLeft : State → Written → Step
-externalLeft s w = done (after (w .outcome) (w .memory) (s .array) [])
+abbrev pub externalStep : State → Written → Step
+externalStep s w = leaving (after (w .outcome) (w .memory) (s .array) [])
 
-abbrev pub directoryLeft : State → Outcome → Step
-directoryLeft s o = done (after o (s .memory) (s .array) [])
+abbrev pub directoryStep : State → Outcome → Step
+directoryStep s o = leaving (after o (s .memory) (s .array) [])
 
 -- "the number (a view's is its companion question's)"; views change nothing.
-abbrev pub viewLeft : State → ℕ → List ℕ → Step
-viewLeft s number bytes =
-    record { left = after (outcome (s .directory) number 0 0) (s .memory) (s .array) []; shown = bytes }
+abbrev pub viewStep : State → ℕ → List ℕ → Step
+viewStep s number bytes =
+    record { leaves = after (outcome (s .directory) number 0 0) (s .memory) (s .array) []; shown = bytes }
 
 -- One step of the unit, by the definitions that the contracts of the calls cite.
 unfoldable pub step : State → Call → Step
-step s (read address width pcd answers log) = done (readCall s address width pcd answers log)
-step s (write address width value answers log) = done (writeCall s address width value answers log)
-step s (external address bytes) = externalLeft s (externalCall (s .directory) (s .memory) address bytes)
-step s (snoop address) = directoryLeft s (snoopOutcome (s .directory) address)
-step s flush = directoryLeft s (flushOutcome (s .directory))
-step s (control cd nw) = directoryLeft s (controlOutcome (s .directory) cd nw)
-step s (view address) = viewLeft s (viewNumberOf s address) (viewOf s address)
-step s reset = directoryLeft s resetOutcome
+step s (read address width pcd answers log) = leaving (readCall s address width pcd answers log)
+step s (write address width value answers log) = leaving (writeCall s address width value answers log)
+step s (external address bytes) = externalStep s (externalCall (s .directory) (s .memory) address bytes)
+step s (snoop address) = directoryStep s (snoopOutcome (s .directory) address)
+step s flush = directoryStep s (flushOutcome (s .directory))
+step s (control cd nw) = directoryStep s (controlOutcome (s .directory) cd nw)
+step s (view address) = viewStep s (viewNumberOf s address) (viewOf s address)
+step s reset = directoryStep s resetOutcome
 
 -- The state that the next call meets.
-abbrev pub stateAfter : Step → State
-stateAfter x = state (x .left .outcome .directory) (x .left .memory) (x .left .array)
+abbrev pub nextState : Step → State
+nextState x = state (x .leaves .outcome .directory) (x .leaves .memory) (x .leaves .array)
