@@ -51,10 +51,10 @@ module _ (s : State) (m : List ℕ) (c : Coherent s m) (x : Call) where
   abbrev unchanged : ℕ → List ℕ → Step
   unchanged n log = leaving (after (outcome (s .directory) n 0 0) (s .memory) (s .array) log)
 
-  by-number : (n : ℕ) → n ≡ plainNumber m x → (log : List ℕ) → ((n ≡ 0 → ⊥) → step s x ≡ unchanged n log) →
-      (n ≡ 0 → Good (step s x) (plainDone m x)) → Good (step s x) (plain m x)
+  by-number : (n : ℕ) → n ≡ plainNumber m x → (n ≡ 0 → Good (step s x) (plainDone m x)) → (log : List ℕ) → ((n ≡ 0 → ⊥) → step s x ≡ unchanged n log) →
+      Good (step s x) (plain m x)
   unfolding plain
-  by-number n e log f g =
+  by-number n e g log f =
       same-or _ n 0
       (λ z. let k : plainNumber m x ≡ 0 = sym e ∙ z in rw (cond-true _ (plainDone m x) (record { number = plainNumber m x; value = 0; shown = []; memory = m }) (eq-eqb _ 0 k)) (g z))
       (λ h.
@@ -74,16 +74,23 @@ module _ (s : State) (m : List ℕ) (c : Coherent s m) where
 
   -- READ AND WRITE
 
+  read-refused : (a w : ℕ) (pcd : Bool) (xs log : List ℕ) → (readNumber s a w xs log ≡ 0 → ⊥) → readCall s a w pcd xs log ≡ refused (readNumber s a w xs log) s log
+  unfolding readCall
+  read-refused a w pcd xs log h = cond-false _ _ _ (ne-eqb _ 0 h)
+
+  read-done : (a w : ℕ) (pcd : Bool) (xs log : List ℕ) → readNumber s a w xs log ≡ 0 → readCall s a w pcd xs log ≡ accepted (valueOf (readAll s a w pcd xs .bytes)) (readAll s a w pcd xs) log
+  unfolding readCall
+  read-done a w pcd xs log z = cond-true _ _ _ (eq-eqb _ 0 z)
+
   read-good : (a w : ℕ) (pcd : Bool) (xs log : List ℕ) → Good (step s (read a w pcd xs log)) (plain m (read a w pcd xs log))
-  unfolding step plainNumber plainDone readCall readAll
+  unfolding step plainNumber plainDone readAll
   read-good a w pcd xs log =
-      by-number s m c (read a w pcd xs log) (readNumber s a w xs log) (read-number s m c a w xs log) log
-      (λ h. ap leaving (cond-false _ _ _ (ne-eqb _ 0 h)))
+      by-number s m c (read a w pcd xs log) (readNumber s a w xs log) (read-number s m c a w xs log)
       (λ z.
       let k = arguments-accepted (length m) a w xs (length log) (sym (read-number s m c a w xs log) ∙ z) in
       let b : w ≤ 4 * groups - a % 4 = omega (arith, k .four) in
       let r = read-all (doublewordsOf groups xs a w 0) s m c pcd (parts-proper groups xs a w 0 (length m) (k .served) b (k .inside) whole) in
-      rw (cond-true _ (accepted (valueOf (readAll s a w pcd xs .bytes)) (readAll s a w pcd xs) log) (refused (readNumber s a w xs log) s log) (eq-eqb _ 0 z))
+      rw (read-done a w pcd xs log z)
       (record {
         coherent = r .coherent;
         numbers = refl;
@@ -91,18 +98,27 @@ module _ (s : State) (m : List ℕ) (c : Coherent s m) where
         views = refl;
         sound = logged-sound log (readAll s a w pcd xs .records) (r .sound);
       }))
+      log
+      (λ h. rw (read-refused a w pcd xs log h))
+
+  write-refused : (a w v : ℕ) (xs log : List ℕ) → (writeNumber s a w v xs log ≡ 0 → ⊥) → writeCall s a w v xs log ≡ refused (writeNumber s a w v xs log) s log
+  unfolding writeCall
+  write-refused a w v xs log h = cond-false _ _ _ (ne-eqb _ 0 h)
+
+  write-done : (a w v : ℕ) (xs log : List ℕ) → writeNumber s a w v xs log ≡ 0 → writeCall s a w v xs log ≡ accepted 0 (writeAll s a w v xs) log
+  unfolding writeCall
+  write-done a w v xs log z = cond-true _ _ _ (eq-eqb _ 0 z)
 
   write-good : (a w v : ℕ) (xs log : List ℕ) → Good (step s (write a w v xs log)) (plain m (write a w v xs log))
-  unfolding step plainNumber plainDone writeCall writeAll
+  unfolding step plainNumber plainDone writeAll
   write-good a w v xs log =
-      by-number s m c (write a w v xs log) (writeNumber s a w v xs log) (write-number s m c a w v xs log) log
-      (λ h. ap leaving (cond-false _ _ _ (ne-eqb _ 0 h)))
+      by-number s m c (write a w v xs log) (writeNumber s a w v xs log) (write-number s m c a w v xs log)
       (λ z.
       let q = or-zero (argumentNumber (length m) a w xs (length log)) (valueNumber w v) (sym (write-number s m c a w v xs log) ∙ z) in
       let k = arguments-accepted (length m) a w xs (length log) (q .0) in
       let b : w ≤ 4 * groups - a % 4 = omega (arith, k .four) in
       let r = write-all (operandOf v) (doublewordsOf groups xs a w 0) s m c (parts-proper groups xs a w 0 (length m) (k .served) b (k .inside) whole) in
-      rw (cond-true _ (accepted 0 (writeAll s a w v xs) log) (refused (writeNumber s a w v xs log) s log) (eq-eqb _ 0 z))
+      rw (write-done a w v xs log z)
       (record {
         coherent = rw (parts-written groups (operandOf v) m xs a w 0 b, operand-bytes v w (k .four)) at (r .coherent);
         numbers = refl;
@@ -110,6 +126,8 @@ module _ (s : State) (m : List ℕ) (c : Coherent s m) where
         views = refl;
         sound = logged-sound log (writeAll s a w v xs .records) (r .sound);
       }))
+      log
+      (λ h. rw (write-refused a w v xs log h))
 
   -- OTHER MASTERS
 
@@ -117,8 +135,7 @@ module _ (s : State) (m : List ℕ) (c : Coherent s m) where
   unfolding step plainNumber plainDone
   external-good a x =
       let n = masterNumber (s .directory) (s .memory) a x in
-      by-number s m c (external a x) n (master-number s m c a x) []
-      (λ h. rw (external-refused (s .directory) (s .memory) a x n refl h))
+      by-number s m c (external a x) n (master-number s m c a x)
       (λ z.
       rw (external-done (s .directory) (s .memory) a x z)
       (record {
@@ -128,6 +145,8 @@ module _ (s : State) (m : List ℕ) (c : Coherent s m) where
         views = refl;
         sound = λ i l. absurd (omega arith);
       }))
+      []
+      (λ h. rw (external-refused (s .directory) (s .memory) a x n refl h))
 
   -- THE DIRECTORY ALONE
 
@@ -199,8 +218,7 @@ module _ (s : State) (m : List ℕ) (c : Coherent s m) where
   unfolding step plainNumber plainDone
   view-good a =
       let n = viewNumberOf s a in
-      by-number s m c (view a) n (view-number s m c a) []
-      (λ h. rw (← view-refused (s .directory .tags) (s .directory .valid) (s .directory .lru) (s .memory .ram) (s .array) a n refl h))
+      by-number s m c (view a) n (view-number s m c a)
       (λ z.
       record {
         coherent = coherent-with s m c (s .directory) (c .formed) (c .off) (s .array) (c .lines-lent) (c .lines);
@@ -209,6 +227,8 @@ module _ (s : State) (m : List ℕ) (c : Coherent s m) where
         views = view-done (s .directory .tags) (s .directory .valid) (s .directory .lru) (s .memory .ram) (s .array) a n refl z ∙ shown-is a (lookupOf (s .directory) a) refl;
         sound = λ i l. absurd (omega arith);
       })
+      []
+      (λ h. rw (← view-refused (s .directory .tags) (s .directory .valid) (s .directory .lru) (s .memory .ram) (s .array) a n refl h))
 
   pub call-good : (x : Call) → setsNw x ≡ false → Good (step s x) (plain m x)
   call-good (read a w pcd xs log) q = read-good a w pcd xs log
