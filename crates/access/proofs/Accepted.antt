@@ -9,7 +9,7 @@ use lib.ListN.{length}
 use borrow.Author.Tests.{eq-eqb, ne-eqb, eqb-true, eqb-false, ltb-true, ltb-false, not-false}
 use Rattle.laws.proofs.Tests.{neither, cond-true, cond-false, same-or, by-test}
 use Rattle.bus.specs.Groups.{group, groups}
-use Rattle.access.specs.Refusal.{when, orElse, badRam, memoryNumber, lentNumber, badWidth, badAnswers, argumentNumber, ramNumber, arrayNumber, viewAddressNumber, viewInputNumber, externalNumber}
+use Rattle.access.specs.Refusal.{when, orElse, badRam, memoryNumber, lentNumber, badWidth, badAnswers, argumentNumber, ramNumber, arrayNumber, viewInputNumber, externalNumber}
 
 -- neither of two numbers is met
 pub or-zero : (a b : ℕ) → orElse a b ≡ 0 → (a ≡ 0) × (b ≡ 0)

@@ -27,6 +27,7 @@ ramNumber ram = when (badRam ram) 1
 abbrev pub arrayNumber : ℕ → ℕ
 arrayNumber array = when (not (eqb array 8192)) 3
 
+-- 1 and 2, for a call that receives RAM with its parity.
 unfoldable pub memoryNumber : ℕ → ℕ → ℕ
 memoryNumber ram parity = orElse (ramNumber ram) (when (not (eqb parity (ram / 4))) 2)
 

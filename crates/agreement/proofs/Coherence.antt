@@ -1,6 +1,6 @@
 -- The invariant of demand 3, beside the plain memory: every held line lies in memory and has its bytes.
 use Prim.Native.Nat.{ℕ, _+_, _*_, _-_, _/_, _%_, _≤_, _<_}
-use mathlib.Core.Path.{_≡_, refl, sym, _∙_, ap}
+use mathlib.Core.Path.{_≡_, sym, _∙_}
 use mathlib.Core.Bool.{true}
 use mathlib.Core.List.{List}
 use mathlib.Core.Logic.{_⊎_, ⊎-elim}
@@ -15,7 +15,7 @@ use Rattle.directory.specs.Steps.{afterFill}
 use Rattle.directory.specs.WellFormed.{Held, Same, WellFormed}
 use Rattle.directory.proofs.Laws.{fill-held}
 use Rattle.bus.specs.Bytes.{bytesAt}
-use Rattle.bus.specs.Parity.{Memory, Agrees}
+use Rattle.bus.specs.Parity.{Agrees}
 use Rattle.doubleword.specs.Doubleword.{slotOf}
 use Rattle.access.specs.Access.{State}
 use Rattle.access.proofs.Accepted.{GoodMemory}

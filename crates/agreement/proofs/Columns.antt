@@ -1,8 +1,8 @@
 -- Demand 3 carried to the program: the answer and value columns are the plain memory's.
 use Prim.Native.Nat.{ℕ, zero, suc, _/_, _%_, _<_}
-use mathlib.Core.Path.{_≡_, refl, sym, _∙_, ap}
+use mathlib.Core.Path.{_≡_, refl}
 use mathlib.Core.Bool.{false}
-use mathlib.Core.List.{List, [], _∷_, _++_}
+use mathlib.Core.List.{List, [], _∷_}
 use native.Mathlib.Omega.{arith}
 use lib.ListN.{getD, drop, replicate, length-replicate}
 use Rattle.laws.proofs.Below.{four}
@@ -17,12 +17,12 @@ use Rattle.lines.specs.Scan.{scanned}
 use Rattle.events.specs.Perform.{Performed, blank, eventDone, lineDone}
 use Rattle.events.specs.Output.{stateAfter, rowsOf, start, outputOf}
 use Rattle.agreement.specs.Calls.{read, write, external, snoop, flush, control, reset, step}
-use Rattle.agreement.specs.Plain.{Plain, plain}
+use Rattle.agreement.specs.Plain.{Plain}
 use Rattle.agreement.specs.Agreement.{Legal}
 use Rattle.agreement.specs.Program.{plainEvent, plainLine, plainRows, countsOf, plainOutput, eventSetsNw, NoLineSetsNw, Columns}
 use Rattle.agreement.proofs.Coherence.{Coherent}
 use Rattle.agreement.proofs.Reading.{coherent-with}
-use Rattle.agreement.proofs.Steps.{Good, call-good}
+use Rattle.agreement.proofs.Steps.{call-good}
 use Rattle.agreement.proofs.Demand.{start-coherent}
 
 -- what a line leaves beside what the plain memory answers

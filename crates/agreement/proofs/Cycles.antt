@@ -11,10 +11,10 @@ use lib.Seq.{sets, length-sets}
 use lib.Dec.{eqb, ltb, leb}
 use borrow.Author.Tests.{eqb-true, eqb-false, leb-true, ltb-true}
 use Rattle.laws.proofs.Below.{four}
-use Rattle.laws.proofs.Tests.{both, by-test, same-or, cond-true, cond-false}
+use Rattle.laws.proofs.Tests.{both, by-test, same-or}
 use Rattle.laws.proofs.Lists.{sets-append}
 use Rattle.bus.specs.Bytes.{bytesAt}
-use Rattle.bus.specs.Parity.{Memory, stored, wrongIn, Agrees}
+use Rattle.bus.specs.Parity.{Memory, stored, Agrees}
 use Rattle.bus.specs.Bus.{Run, run, sizeOf, left, Cycle, cyclesOf, burst, through, brought, sent}
 use Rattle.bus.specs.Record.{Record, lanesOf, flagsOf, readRecord, writeRecord, writing, wordsOf, logged}
 use Rattle.bus.proofs.Sizing.{size-some, size-most}

@@ -3,7 +3,6 @@ use Prim.Native.Nat.{ℕ}
 use mathlib.Core.Path.{_≡_, refl, sym, _∙_}
 use mathlib.Core.Bool.{cond}
 use mathlib.Core.List.{List, [], _∷_}
-use lib.ListN.{length}
 use lib.Dec.{eqb}
 use borrow.Author.Tests.{eqb-true}
 use Rattle.laws.proofs.Tests.{by-test}
@@ -13,11 +12,11 @@ use Rattle.bus.specs.Parity.{Memory}
 use Rattle.access.specs.Access.{State, state}
 use Rattle.access.proofs.Accepted.{lent-accepted}
 use Rattle.agreement.specs.Calls.{Call, read, write, external, snoop, flush, control, view, reset, step, nextState}
-use Rattle.agreement.specs.Plain.{Plain, plainNumber, plainDone, plain}
-use Rattle.agreement.specs.Agreement.{Matches, AgreesAll, NeverSetsNw, Legal, Demand3, Arises, ArisesAll, NumbersThatArise}
+use Rattle.agreement.specs.Plain.{plainNumber, plainDone, plain}
+use Rattle.agreement.specs.Agreement.{AgreesAll, NeverSetsNw, Legal, Demand3, Arises, ArisesAll, NumbersThatArise}
 use Rattle.agreement.proofs.Coherence.{Coherent, no-lines}
 use Rattle.agreement.proofs.Numbers.{plain-arises}
-use Rattle.agreement.proofs.Steps.{Good, call-good}
+use Rattle.agreement.proofs.Steps.{call-good}
 
 pub start-coherent : (m : Memory) (array : List ℕ) → Legal m array → Coherent (state afterReset m array) (m .ram)
 start-coherent m array g =

@@ -6,7 +6,7 @@ use native.Mathlib.Omega.{arith}
 use Rattle.directory.specs.declared.ways.Found.{Found}
 use Rattle.directory.specs.declared.ways.Found.the-variants.{Nothing}
 use Rattle.directory.specs.Address.{setOf}
-use Rattle.directory.specs.Steps.{lookupOf, stateOf}
+use Rattle.directory.specs.Steps.{lookupOf}
 use Rattle.directory.specs.WellFormed.{WellFormed}
 use Rattle.directory.proofs.Laws.{snoop-accepted, snoop-lookup, flush-lookup, reset-lookup, good-state-zero}
 use Rattle.access.specs.Access.{State}

@@ -1,20 +1,20 @@
 -- Numbers under the invariant: 1 to 3 and 21 to 23 are not met, so each call's number is the plain memory's.
-use Prim.Native.Nat.{ℕ, _+_, _-_, _/_, _%_, _^_, _≤_, _<_}
+use Prim.Native.Nat.{ℕ, _+_, _-_, _/_, _%_, _^_, _≤_}
 use mathlib.Core.Path.{_≡_, refl, sym, _∙_, ap}
 use mathlib.Core.Bool.{Bool, true, false, not, _||_}
 use mathlib.Core.List.{List}
-use mathlib.Core.Logic.{_⊎_, inl, inr, ⊎-elim}
+use mathlib.Core.Logic.{inl, inr}
 use native.Mathlib.Omega.{arith}
 use lib.Dec.{eqb, ltb}
 use lib.ListN.{length}
 use borrow.Author.Tests.{eq-eqb, le-ltb}
-use Rattle.laws.proofs.Tests.{same-or, cond-true, cond-false, by-test}
+use Rattle.laws.proofs.Tests.{same-or}
 use Rattle.directory.specs.Address.{setOf}
 use Rattle.directory.specs.Steps.{stateOf, controlRefused}
 use Rattle.directory.proofs.Laws.{good-state-zero}
 use Rattle.access.specs.Access.{State, readNumber, writeNumber}
 use Rattle.access.specs.Masters.{masterNumber}
-use Rattle.access.specs.Refusal.{when, orElse, badRam, ramNumber, memoryNumber, arrayNumber, lentNumber, badWidth, badAnswers, argumentNumber, valueNumber, externalNumber, viewAddressNumber, viewInputNumber, statesIn, statesOf}
+use Rattle.access.specs.Refusal.{when, orElse, ramNumber, memoryNumber, arrayNumber, lentNumber, badWidth, badAnswers, argumentNumber, valueNumber, externalNumber, viewAddressNumber, viewInputNumber, statesIn, statesOf}
 use Rattle.access.proofs.Accepted.{zero-or, first-or, GoodMemory}
 use Rattle.views.specs.View.{viewNumberIn, viewNumberOf}
 use Rattle.agreement.specs.Calls.{Call, read, write, external, snoop, flush, control, view, reset}

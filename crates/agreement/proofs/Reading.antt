@@ -1,8 +1,8 @@
 -- Reads keep the invariant beside the same plain memory, and give its bytes.
-use Prim.Native.Nat.{ℕ, _+_, _/_, _%_, _≤_, _<_}
+use Prim.Native.Nat.{ℕ, _+_, _/_, _≤_, _<_}
 use mathlib.Core.Path.{_≡_, refl, sym, _∙_, ap}
 use mathlib.Core.Bool.{Bool, true, false, cond, not, _&&_}
-use mathlib.Core.List.{List, [], _∷_, _++_}
+use mathlib.Core.List.{List, [], _∷_}
 use native.Mathlib.Omega.{arith}
 use lib.ListN.{length, getD}
 use lib.Seq.{sets, length-sets}
@@ -17,11 +17,9 @@ use Rattle.directory.specs.WellFormed.{WellFormed}
 use Rattle.directory.proofs.FourWays.{victim-below}
 use Rattle.directory.proofs.Laws.{lookup-at, use-held, use-control, use-well-formed, fill-control, fill-address-well-formed}
 use Rattle.bus.specs.Bytes.{bytesAt}
-use Rattle.bus.specs.Parity.{Memory}
 use Rattle.bus.specs.Bus.{ken, burst, lastAnswer}
 use Rattle.bus.specs.Record.{plainRead, filling}
-use Rattle.doubleword.specs.declared.change.Change.{Change}
-use Rattle.doubleword.specs.declared.change.Change.the-variants.{Keep, Use, Fill}
+use Rattle.doubleword.specs.declared.change.Change.the-variants.{Keep, Fill}
 use Rattle.doubleword.specs.Doubleword.{Doubleword, Done, changed, slotOf, ownCycles, fillCycles, bufferOf, readHit, readPlain, readFill, readDone}
 use Rattle.access.specs.Access.{State, state, Progress, readOne, next, allOf}
 use Rattle.access.proofs.Values.{bytes-length}

@@ -1,7 +1,6 @@
 -- Snoops and external writes keep the invariant.
-use Prim.Native.Nat.{ℕ, _+_, _*_, _/_, _%_, _≤_, _<_}
+use Prim.Native.Nat.{ℕ, _+_, _*_, _/_, _%_, _<_}
 use mathlib.Core.Path.{_≡_, refl, sym, _∙_}
-use mathlib.Core.Bool.{true, false}
 use mathlib.Core.List.{List}
 use native.Mathlib.Omega.{arith}
 use lib.ListN.{length}
@@ -14,7 +13,7 @@ use Rattle.directory.proofs.Laws.{snoop-held, snoop-control, snoop-none, snoop-
 use Rattle.bus.specs.Parity.{stored}
 use Rattle.access.specs.Access.{State, state}
 use Rattle.access.proofs.Accepted.{GoodExternal}
-use Rattle.agreement.proofs.Coherence.{addressOf, Lines, Off, Coherent, fewer-lines, line-set, line-tag, stored-miss}
+use Rattle.agreement.proofs.Coherence.{addressOf, Lines, Off, Coherent, fewer-lines, line-set, stored-miss}
 use Rattle.agreement.proofs.Writing.{coherent-stored}
 
 module _ (s : State) (m : List ℕ) (c : Coherent s m) (a : ℕ) where

@@ -1,11 +1,10 @@
 -- Each call keeps the invariant and matches the plain memory.
-use Prim.Native.Nat.{ℕ, _+_, _*_, _-_, _/_, _%_, _≤_, _<_}
+use Prim.Native.Nat.{ℕ, _*_, _-_, _/_, _%_, _≤_}
 use mathlib.Core.Path.{_≡_, refl, sym, _∙_, ap}
-use mathlib.Core.Bool.{Bool, true, false, cond, not, _&&_}
+use mathlib.Core.Bool.{Bool, true, false}
 use mathlib.Core.List.{List, []}
 use native.Mathlib.Omega.{arith}
 use lib.ListN.{length}
-use lib.Seq.{sets}
 use borrow.Author.Tests.{eq-eqb, ne-eqb}
 use Rattle.laws.proofs.Tests.{differ, cond-true, cond-false, by-test, same-or}
 use Rattle.directory.specs.declared.steps.Directory.{Directory}
@@ -15,22 +14,21 @@ use Rattle.directory.specs.Address.{setOf, tagOf}
 use Rattle.directory.specs.Steps.{lookupOf, afterReset, afterFlush, afterControl, afterSnoop, controlRefused}
 use Rattle.directory.specs.WellFormed.{WellFormed}
 use Rattle.directory.proofs.Laws.{lookup-at, reset-none, reset-control, reset-well-formed, flush-none, flush-control, flush-well-formed, control-held, control-set, control-well-formed, control-accepted, control-refused, snoop-well-formed, snoop-accepted}
-use Rattle.bus.specs.Bytes.{bytesAt, valueOf, bytesOf}
-use Rattle.bus.specs.Parity.{Memory, stored}
+use Rattle.bus.specs.Bytes.{bytesAt, valueOf}
 use Rattle.bus.specs.Groups.{groups}
 use Rattle.doubleword.specs.Doubleword.{slotOf, doublewordsOf}
-use Rattle.access.specs.Access.{State, state, After, after, outcome, refused, accepted, Progress, operandOf, readNumber, writeNumber, readAll, writeAll, readCall, writeCall}
-use Rattle.access.specs.Masters.{masterNumber, written, externalCall}
-use Rattle.access.specs.Refusal.{when, argumentNumber, valueNumber}
-use Rattle.access.proofs.Accepted.{or-zero, GoodArguments, arguments-accepted, external-accepted}
+use Rattle.access.specs.Access.{State, after, outcome, refused, accepted, operandOf, readNumber, writeNumber, readAll, writeAll, readCall, writeCall}
+use Rattle.access.specs.Masters.{masterNumber}
+use Rattle.access.specs.Refusal.{argumentNumber, valueNumber}
+use Rattle.access.proofs.Accepted.{or-zero, arguments-accepted, external-accepted}
 use Rattle.access.proofs.Calls.{external-refused, external-done}
-use Rattle.views.specs.View.{shown, viewNumberOf, viewOf}
+use Rattle.views.specs.View.{shown, viewNumberOf}
 use Rattle.views.proofs.Viewing.{view-refused, view-done}
-use Rattle.agreement.specs.Calls.{Call, read, write, external, snoop, flush, control, view, reset, Step, leaving, directoryStep, viewStep, step, nextState}
+use Rattle.agreement.specs.Calls.{Call, read, write, external, snoop, flush, control, view, reset, Step, leaving, directoryStep, step, nextState}
 use Rattle.agreement.specs.Plain.{Plain, plainly, plainNumber, plainDone, plain}
 use Rattle.agreement.specs.Agreement.{NoParityError, setsNw}
 use Rattle.agreement.proofs.Bytes.{bytes-same, operand-bytes}
-use Rattle.agreement.proofs.Cycles.{Sound, logged-sound}
+use Rattle.agreement.proofs.Cycles.{logged-sound}
 use Rattle.agreement.proofs.Coherence.{Lines, Empty, Off, Coherent, fewer-lines, no-lines, line-around}
 use Rattle.agreement.proofs.Parts.{parts-proper, parts-wanted, parts-written}
 use Rattle.agreement.proofs.Reading.{coherent-with, read-all}

@@ -1,7 +1,7 @@
 -- Writes keep the invariant beside the plain memory with their bytes put in.
-use Prim.Native.Nat.{ℕ, _+_, _*_, _/_, _%_, _≤_, _<_}
-use mathlib.Core.Path.{_≡_, refl, sym, _∙_, ap}
-use mathlib.Core.Bool.{Bool, true, false, cond, _&&_}
+use Prim.Native.Nat.{ℕ, _+_, _≤_}
+use mathlib.Core.Path.{_≡_, refl, _∙_, ap}
+use mathlib.Core.Bool.{cond, _&&_}
 use mathlib.Core.List.{List, [], _∷_, map}
 use native.Mathlib.Omega.{arith}
 use lib.ListN.{length}
@@ -14,13 +14,12 @@ use Rattle.directory.specs.Address.{setOf}
 use Rattle.directory.specs.Steps.{lookupOf, afterUse}
 use Rattle.directory.specs.WellFormed.{WellFormed}
 use Rattle.directory.proofs.Laws.{lookup-at, lookup-nothing, use-kept, use-well-formed}
-use Rattle.bus.specs.Parity.{Memory, stored}
+use Rattle.bus.specs.Parity.{stored}
 use Rattle.bus.specs.Bus.{sent, through}
 use Rattle.bus.specs.Record.{writeRecord}
 use Rattle.doubleword.specs.declared.change.Change.the-variants.{Keep, Use}
 use Rattle.doubleword.specs.Doubleword.{Doubleword, Done, changed, slotOf, ownCycles, laid, writeThrough, hitArray, writeDone}
 use Rattle.access.specs.Access.{State, state, Progress, writeOne, next, allOf}
-use Rattle.access.proofs.Accepted.{GoodMemory}
 use Rattle.access.proofs.Values.{bytes-length}
 use Rattle.agreement.proofs.Memories.{stored-ram, stored-parity, stored-agrees}
 use Rattle.agreement.proofs.Cycles.{Sound, sound-append, sound-writes, cycles-within, own-stored}

@@ -60,6 +60,7 @@ Demand3 =
 abbrev pub Arises : ℕ → Type 0
 Arises n = (n ≡ 0) ⊎ ((4 ≤ n) × (n ≤ 10))
 
+-- After each call of a list.
 unfoldable pub ArisesAll : State → List Call → Type 0
 ArisesAll s [] = Unit {0}
 ArisesAll s (c ∷ cs) = Arises (step s c .leaves .outcome .number) × ArisesAll (nextState (step s c)) cs

@@ -12,7 +12,7 @@ use Rattle.lines.specs.declared.scanning.Event.the-variants.{Malformed, Read, W
 use Rattle.lines.specs.Fields.{bytesOf, linesOf}
 use Rattle.lines.specs.Scan.{scanned}
 use Rattle.lines.specs.Row.{header, rowOf}
-use Rattle.events.specs.Perform.{Performed, blank, lineDone}
+use Rattle.events.specs.Perform.{blank, lineDone}
 use Rattle.events.specs.Output.{stateAfter, start, outputOf}
 use Rattle.agreement.specs.Calls.{read, write, external, snoop, flush, control, reset}
 use Rattle.agreement.specs.Plain.{Plain, plain}
