@@ -3,3 +3,4 @@ pub mod FourWays
 mod Lines
 mod SetState
 pub mod Laws
+mod Lent

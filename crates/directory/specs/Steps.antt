@@ -1,6 +1,7 @@
 -- Document 01, 'The directory': the steps, each as the whole directory that it hands back.
 use Prim.Native.Nat.{ℕ}
 use mathlib.Core.Bool.{Bool, true, false, cond, not, _&&_}
+use mathlib.Core.List.{List}
 use lib.Dec.{eqb}
 use lib.ListN.{getD, set, replicate}
 use Rattle.directory.specs.declared.steps.Directory.{Directory}
@@ -11,6 +12,13 @@ use Rattle.directory.specs.Address.{setOf, lineOf}
 use Rattle.directory.specs.Lru.{lruAfter}
 use Rattle.directory.specs.Ways.{markAt, tagIn, lookupIn, victimIn}
 use Rattle.directory.specs.State.{stateIn}
+
+-- "The directory holds 512 tags, 512 valid marks and 128 LRU numbers, with CD and NW.": a directory of these, and what a call answers.
+abbrev pub directoryOf : List ℕ → List Bool → List ℕ → Bool → Bool → Directory
+directoryOf tags valid lru cd nw = record { tags = tags; valid = valid; lru = lru; cd = cd; nw = nw }
+
+abbrev pub answer : Directory → ℕ → Answer
+answer d number = record { directory = d; number = number }
 
 -- What a directory has of a line and of a set, and the questions asked of it.
 abbrev pub validAt : Directory → ℕ → ℕ → Bool

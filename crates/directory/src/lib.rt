@@ -1,6 +1,7 @@
 // The directory of the 486's cache: which line each way of each set holds, and which way is replaced next.
 // It knows nothing of RAM, of the data array or of bus cycles.
 mod address;
+mod in_place;
 mod lru;
 mod state;
 mod steps;
@@ -8,6 +9,11 @@ mod ways;
 
 pub use address::set_of;
 pub use address::tag_of;
+pub use in_place::drop_in_place;
+pub use in_place::fill_in_place;
+pub use in_place::flush_in_place;
+pub use in_place::snoop_in_place;
+pub use in_place::use_in_place;
 pub use state::state_number;
 pub use steps::Answer;
 pub use steps::Directory;

@@ -1,6 +1,8 @@
 // What a doubleword wants, and what it does to the directory.
 ghost use mathlib.Core.Path.{_≡_};
+ghost use mathlib.Core.Bool.{Bool};
 ghost use Prim.Native.Nat.{_+_, _≤_, _<_};
+ghost use Rattle.directory.specs.Steps.{directoryOf};
 ghost use Rattle.doubleword.specs.Doubleword.{changed, slotOf};
 ghost use Rattle.doubleword.specs.Moves.{BelowFour};
 use directory::Directory;
@@ -44,6 +46,34 @@ pub fn changed_by(directory: Directory, line: u32, change: Change) -> Directory
         Change::Use(way) => directory.used(directory::set_of(line), way),
         Change::Fill(way) => {
             directory.filled(directory::set_of(line), way, directory::tag_of(line))
+        }
+    }
+}
+
+// The same change of lent arrays, in place.
+pub fn change_in_place(
+    tags: &mut [u32; 512],
+    valid: &mut [bool; 512],
+    lru: &mut [u8; 128],
+    line: u32,
+    change: Change,
+)
+    requires { ⌜ BelowFour change ⌝ }
+    ensures { λ _. ⌜ ((cd nw : Bool) → directoryOf (now (tags .exit)) (now (valid .exit)) (now (lru .exit)) cd nw
+        ≡ changed (directoryOf (now (tags .entry)) (now (valid .entry)) (now (lru .entry)) cd nw) line change) ⌝ }
+{
+    match change {
+        Change::Keep => {}
+        Change::Use(way) => directory::use_in_place(lru, directory::set_of(line), way),
+        Change::Fill(way) => {
+            directory::fill_in_place(
+                tags,
+                valid,
+                lru,
+                directory::set_of(line),
+                way,
+                directory::tag_of(line),
+            )
         }
     }
 }

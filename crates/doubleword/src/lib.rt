@@ -7,6 +7,7 @@ mod writing;
 pub use change::Change;
 pub use change::Moved;
 pub use change::Wanted;
+pub use change::change_in_place;
 pub use change::changed_by;
 pub use change::slot_of;
 pub use reading::read_doubleword;

@@ -1,0 +1,38 @@
+use Rattle.directory.specs.Steps.{afterFill, afterUse}
+use borrow.Author.Needs.{needs}
+use Rattle.directory.proofs.in_place.fill_in_place.Statement.{statement}
+use Rattle.directory.proofs.in_place.fill_in_place.Tie as tie
+
+mul-line : tie.Need-mul-line
+mul-line c = search needs
+
+add-line : tie.Need-add-line
+add-line c = search needs
+
+mul-tags : tie.Need-mul-tags
+mul-tags c = search needs
+
+element-write-tags : tie.Need-element-write-tags
+element-write-tags c = search needs
+
+element-write-valid : tie.Need-element-write-valid
+element-write-valid c = search needs
+
+use-in-place-requires : tie.Need-use-in-place-requires
+use-in-place-requires c κs = search needs
+
+returns : tie.Need-returns
+unfolding afterFill afterUse
+returns c cd nw = c .use-in-place .ensures _ _ cd nw
+
+pub fill-in-place-spec : {M : Type 1} → statement M
+fill-in-place-spec =
+    tie.close
+    (tie.spec
+    mul-line
+    add-line
+    mul-tags
+    element-write-tags
+    element-write-valid
+    use-in-place-requires
+    returns)

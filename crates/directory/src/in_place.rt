@@ -1,0 +1,87 @@
+// The steps on a directory whose arrays are lent: the same rules, and nothing is copied. A caller that owns the directory
+// lends it field by field; what a contract says holds whatever the fields are that a step is not lent.
+ghost use mathlib.Core.Path.{_≡_};
+ghost use mathlib.Core.Bool.{Bool};
+ghost use mathlib.Core.List.{List};
+ghost use Prim.Native.Nat.{ℕ, _<_};
+ghost use Rattle.directory.specs.Steps.{afterFill, afterFlush, afterSnoop, afterUse, answer, directoryOf, snoopCall};
+use crate::address::set_of;
+use crate::lru::lru_after;
+use crate::state::state_number;
+use crate::ways::Found;
+use crate::ways::lookup;
+
+// A use of a way.
+pub fn use_in_place(lru: &mut [u8; 128], set: usize, way: usize)
+    requires { ⌜ (set < 128) × (way < 4) ⌝ }
+    ensures { λ _. ⌜ ((tags : List ℕ) (valid : List Bool) (cd nw : Bool) → directoryOf tags valid (now (lru .exit)) cd nw
+        ≡ afterUse (directoryOf tags valid (now (lru .entry)) cd nw) set way) ⌝ }
+{
+    let old = lru[set];
+    lru[set] = lru_after(old, way);
+}
+
+// A kept fill of a way, which is a use of it.
+pub fn fill_in_place(
+    tags: &mut [u32; 512],
+    valid: &mut [bool; 512],
+    lru: &mut [u8; 128],
+    set: usize,
+    way: usize,
+    tag: u32,
+)
+    requires { ⌜ (set < 128) × (way < 4) ⌝ }
+    ensures { λ _. ⌜ ((cd nw : Bool) → directoryOf (now (tags .exit)) (now (valid .exit)) (now (lru .exit)) cd nw
+        ≡ afterFill (directoryOf (now (tags .entry)) (now (valid .entry)) (now (lru .entry)) cd nw) set way tag) ⌝ }
+{
+    let line = set * 4 + way;
+    tags[line] = tag;
+    valid[line] = true;
+    use_in_place(lru, set, way);
+}
+
+pub fn flush_in_place(valid: &mut [bool; 512])
+    ensures { λ _. ⌜ ((tags lru : List ℕ) (cd nw : Bool) → directoryOf tags (now (valid .exit)) lru cd nw
+        ≡ afterFlush (directoryOf tags (now (valid .entry)) lru cd nw)) ⌝ }
+{
+    *valid = [false; 512];
+}
+
+// The plain snoop step.
+pub fn drop_in_place<'a>(
+    tags: &'a [u32; 512],
+    valid: &'a mut [bool; 512],
+    nw: bool,
+    address: u32,
+)
+    ensures { λ _. ⌜ ((lru : List ℕ) (cd : Bool) → directoryOf (now (tags .entry)) (now (valid .exit)) lru cd nw
+        ≡ afterSnoop (directoryOf (now (tags .entry)) (now (valid .entry)) lru cd nw) address) ⌝ }
+{
+    if nw {
+        return;
+    }
+    let Found::At(way) = lookup(tags, valid, address) else {
+        return;
+    };
+    let line = set_of(address) * 4 + way;
+    valid[line] = false;
+}
+
+// The snoop call: the state of the address's set is checked first, whatever NW is.
+pub fn snoop_in_place<'a>(
+    tags: &'a [u32; 512],
+    valid: &'a mut [bool; 512],
+    lru: &'a [u8; 128],
+    nw: bool,
+    address: u32,
+) -> u32
+    ensures { λ r. ⌜ ((cd : Bool) → answer (directoryOf (now (tags .entry)) (now (valid .exit)) (now (lru .entry)) cd nw) r
+        ≡ snoopCall (directoryOf (now (tags .entry)) (now (valid .entry)) (now (lru .entry)) cd nw) address) ⌝ }
+{
+    let number = state_number(tags, valid, lru, set_of(address));
+    if number != 0 {
+        return number;
+    }
+    drop_in_place(tags, valid, nw, address);
+    0
+}
