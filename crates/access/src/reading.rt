@@ -21,7 +21,7 @@ use doubleword::changed_by;
 use doubleword::read_doubleword;
 
 // The next doubleword of a read, by lent fields of the directory.
-fn read_step<'a>(
+pub fn read_step<'a>(
     tags: &'a [u32; 512],
     valid: &'a [bool; 512],
     lru: &'a [u8; 128],

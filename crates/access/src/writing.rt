@@ -22,7 +22,7 @@ use doubleword::changed_by;
 use doubleword::write_doubleword;
 
 // The next doubleword of a write, by lent fields of the directory.
-fn write_step<'a>(
+pub fn write_step<'a>(
     tags: &'a [u32; 512],
     valid: &'a [bool; 512],
     stays: bool,

@@ -48,12 +48,7 @@ pub fn flush_in_place(valid: &mut [bool; 512])
 }
 
 // The plain snoop step.
-pub fn drop_in_place<'a>(
-    tags: &'a [u32; 512],
-    valid: &'a mut [bool; 512],
-    nw: bool,
-    address: u32,
-)
+pub fn drop_in_place<'a>(tags: &'a [u32; 512], valid: &'a mut [bool; 512], nw: bool, address: u32)
     ensures { λ _. ⌜ ((lru : List ℕ) (cd : Bool) → directoryOf (now (tags .entry)) (now (valid .exit)) lru cd nw
         ≡ afterSnoop (directoryOf (now (tags .entry)) (now (valid .entry)) lru cd nw) address) ⌝ }
 {
