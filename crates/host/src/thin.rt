@@ -1,0 +1,14 @@
+ghost use mathlib.Core.Path.{_≡_};
+ghost use Rattle.directory.specs.Steps.{snoopCall};
+use directory::Directory;
+
+// The thin call: drops one snooped line of the directory in the caller's hands, and answers the snoop's number.
+#[no_mangle]
+pub extern "C" fn unit486_drop_line(directory: &mut Directory, address: u32) -> u32
+    ensures { λ r. ⌜ record { directory = now (directory .exit); number = r } ≡ snoopCall (now (directory .entry)) address ⌝ }
+{
+    let given = *directory;
+    let answer = given.snoop(address);
+    *directory = answer.directory;
+    answer.number
+}
