@@ -1,13 +1,15 @@
 -- Laws of views: a part of a slice as bytes, and a view that is refused, held or not held.
 use Prim.Native.Nat.{ℕ, zero, suc, _+_, _*_, _/_, _-_, _≤_}
 use mathlib.Core.Path.{_≡_, refl, sym, _∙_, ap}
-use mathlib.Core.Bool.{Bool}
+use mathlib.Core.Bool.{Bool, cond}
 use mathlib.Core.List.{List, [], _∷_}
 use native.Mathlib.Omega.{arith}
+use lib.Dec.{eqb}
 use lib.ListN.{length, getD, take, drop}
 use lib.Seq.{drop-cons}
 use borrow.Author.Tests.{eq-eqb, ne-eqb}
-use Rattle.laws.proofs.Tests.{cond-true, cond-false}
+use Rattle.laws.proofs.Tests.{cond-true, cond-false, by-test}
+use Rattle.directory.specs.declared.ways.Found.{Found}
 use Rattle.directory.specs.declared.ways.Found.the-variants.{At, Nothing}
 use Rattle.directory.specs.Address.{setOf}
 use Rattle.directory.specs.State.{stateIn}
@@ -15,6 +17,7 @@ use Rattle.directory.specs.Ways.{lookupIn}
 use Rattle.bus.specs.Bytes.{bytesAt}
 use Rattle.doubleword.specs.Doubleword.{slotOf}
 use Rattle.access.specs.Refusal.{orElse, viewInputNumber}
+use Rattle.access.proofs.Values.{bytes-length}
 use Rattle.access.proofs.Accepted.{or-zero, zero-or, first-or, GoodView, view-accepted}
 use Rattle.views.specs.View.{viewNumberIn, shown, viewIn}
 
@@ -67,3 +70,17 @@ module _ (tags : List ℕ) (valid : List Bool) (lru ram array : List ℕ) (addre
     pub view-missed : lookupIn tags valid address ≡ Nothing → (r : List ℕ) → r ≡ bytesAt ram (address / 16 * 16) 16 → r ≡ viewIn tags valid lru ram array address
     unfolding shown
     view-missed e r k = k ∙ sym (view-done ∙ rw e)
+
+-- a view has at most sixteen bytes
+shown-length : (f : Found) (ram array : List ℕ) (address : ℕ) → length (shown f ram array address) ≡ 16
+unfolding shown
+shown-length (At way) ram array address = bytes-length array (slotOf address way) 16
+shown-length Nothing ram array address = bytes-length ram (address / 16 * 16) 16
+
+pub view-most : (tags : List ℕ) (valid : List Bool) (lru ram array : List ℕ) (address : ℕ) → length (viewIn tags valid lru ram array address) ≤ 16
+unfolding viewIn
+view-most tags valid lru ram array address =
+    by-test (λ b. length (cond b (shown (lookupIn tags valid address) ram array address) []) ≤ 16)
+    (eqb (viewNumberIn tags valid lru (length ram) (length array) address) 0)
+    (λ _. omega (arith, shown-length (lookupIn tags valid address) ram array address))
+    (λ _. omega arith)
