@@ -1,6 +1,6 @@
 -- What the accepted case of a call knows: number 0 turned into facts.
 use Prim.Native.Nat.{ℕ, _+_, _*_, _/_, _%_, _≤_, _<_}
-use mathlib.Core.Path.{_≡_, refl, sym, _∙_}
+use mathlib.Core.Path.{_≡_, refl, sym, _∙_, ap}
 use mathlib.Core.Bool.{Bool, true, false, not, _&&_, _||_}
 use mathlib.Core.List.{List}
 use native.Mathlib.Omega.{arith}
@@ -31,6 +31,21 @@ or-grouped a b c =
     same-or _ a 0
     (λ z. let e = zero-or a b z in let k = zero-or a (orElse b c) z in rw (e, k))
     (λ n. let e = first-or a b n in let k = first-or a (orElse b c) n in rw (e, k) (first-or a c n))
+
+-- the numbers of two sets, of which the second is looked at only where the first answers 0 and is another
+module _ (at : ℕ → ℕ) (first last number : ℕ) (en : number ≡ at first) where
+  pub states-first : (not (eqb number 0) || eqb first last) ≡ true → number ≡ orElse (at first) (at last)
+  states-first h =
+      same-or _ number 0
+      (λ z.
+      let same : first ≡ last = eqb-true first last (rw (eq-eqb number 0 z) at h) in
+      en ∙ ap at same ∙ sym (zero-or (at first) (at last) (sym en ∙ z)))
+      (λ n. en ∙ sym (first-or (at first) (at last) (λ z. n (en ∙ z))))
+
+  pub states-last : (not (eqb number 0) || eqb first last) ≡ false → (later : ℕ) → later ≡ at last → later ≡ orElse (at first) (at last)
+  states-last h later e =
+      let z = eqb-true number 0 (not-false _ (neither (not (eqb number 0)) (eqb first last) h .0)) in
+      e ∙ sym (zero-or (at first) (at last) (sym en ∙ z))
 
 when-zero : (b : Bool) (n : ℕ) → 0 < n → when b n ≡ 0 → b ≡ false
 when-zero true n h e = absurd (omega arith)

@@ -152,7 +152,7 @@ fn last_set(address: u32, count: u32) -> usize
     last / 16 % 128
 }
 
-// Numbers 21 to 23 of every touched set, the lower address's set first.
+// Numbers 21 to 23 of every touched set, the lower address's set first. Most accesses touch one set, which is checked once.
 pub fn states_number<'a>(
     tags: &'a [u32; 512],
     valid: &'a [bool; 512],
@@ -162,8 +162,11 @@ pub fn states_number<'a>(
 ) -> u32
     ensures { λ r. ⌜ r ≡ statesIn (now (tags .entry)) (now (valid .entry)) (now (lru .entry)) address count ⌝ }
 {
-    or_else(
-        directory::state_number(tags, valid, lru, directory::set_of(address)),
-        directory::state_number(tags, valid, lru, last_set(address, count)),
-    )
+    let first = directory::set_of(address);
+    let last = last_set(address, count);
+    let number = directory::state_number(tags, valid, lru, first);
+    if (number != 0) | (first == last) {
+        return number;
+    }
+    directory::state_number(tags, valid, lru, last)
 }

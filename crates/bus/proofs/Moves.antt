@@ -22,3 +22,17 @@ pub copy-next : (src dst : List ℕ) (s d n k : ℕ) → k < n
 copy-next src dst s d n k h =
     let f : d + (k + 1) ≡ suc (d + k) = omega arith in
     rw (f, bytes-next src s n k h)
+
+-- Four bytes copied at once.
+pub four-copied : (src dst : List ℕ) (s d : ℕ) →
+    set (set (set (set dst d (getD src s 0)) (d + 1) (getD src (s + 1) 0)) (d + 2) (getD src (s + 2) 0)) (d + 3) (getD src (s + 3) 0)
+    ≡ sets dst d (bytesAt src s 4)
+unfolding bytesAt
+four-copied src dst s d =
+    let d1 : d + 1 ≡ suc d = omega arith in
+    let d2 : d + 2 ≡ suc (suc d) = omega arith in
+    let d3 : d + 3 ≡ suc (suc (suc d)) = omega arith in
+    let s1 : s + 1 ≡ suc s = omega arith in
+    let s2 : s + 2 ≡ suc (suc s) = omega arith in
+    let s3 : s + 3 ≡ suc (suc (suc s)) = omega arith in
+    rw (d1, d2, d3, s1, s2, s3)

@@ -5,8 +5,29 @@ ghost use lib.ListN.{length};
 ghost use lib.Seq.{sets};
 ghost use Rattle.bus.specs.Bytes.{bytesAt, bytesOf, valueOf, wordIn};
 
-// So many bytes of src from a place on, put into dst.
+// So many bytes of src from a place on, put into dst. A whole doubleword is moved at once.
 pub fn copy_bytes(src: &[u8], s: usize, dst: &mut [u8], d: usize, count: usize)
+    requires { ⌜ (s + count ≤ length (now src)) × (d + count ≤ length (now dst)) ⌝ }
+    ensures { λ _. ⌜ now (dst .exit) ≡ sets (now (dst .entry)) d (bytesAt (now (src .entry)) s count) ⌝ }
+{
+    if count == 4 {
+        copy_four(src, s, dst, d);
+    } else {
+        copy_each(src, s, dst, d, count);
+    }
+}
+
+fn copy_four(src: &[u8], s: usize, dst: &mut [u8], d: usize)
+    requires { ⌜ (s + 4 ≤ length (now src)) × (d + 4 ≤ length (now dst)) ⌝ }
+    ensures { λ _. ⌜ now (dst .exit) ≡ sets (now (dst .entry)) d (bytesAt (now (src .entry)) s 4) ⌝ }
+{
+    dst[d] = src[s];
+    dst[d + 1] = src[s + 1];
+    dst[d + 2] = src[s + 2];
+    dst[d + 3] = src[s + 3];
+}
+
+fn copy_each(src: &[u8], s: usize, dst: &mut [u8], d: usize, count: usize)
     requires { ⌜ (s + count ≤ length (now src)) × (d + count ≤ length (now dst)) ⌝ }
     ensures { λ _. ⌜ now (dst .exit) ≡ sets (now (dst .entry)) d (bytesAt (now (src .entry)) s count) ⌝ }
 {

@@ -17,12 +17,7 @@ fn lane_bit(p: u8, lane: usize) -> u8
     requires { ⌜ lane < 4 ⌝ }
     ensures { λ r. ⌜ r ≡ laneBit p lane ⌝ }
 {
-    match lane {
-        0 => p % 2,
-        1 => p / 2 % 2,
-        2 => p / 4 % 2,
-        _ => p / 8 % 2,
-    }
+    (p >> lane) % 2
 }
 
 // A parity byte with the bit of one lane replaced.
