@@ -260,13 +260,14 @@ module _ (pcd : Bool) (xs : List ℕ) where
       }
 
   -- the next doubleword of the code, read by the rules
-  pub reading-next : {p : Progress} {log₀ operand₀ : List ℕ} (walk : Walk) (d : Directory) (m : Memory) (array log operand : List ℕ) (r : Stepped) (d′ : Directory) (array′ log′ operand′ : List ℕ) →
+  pub reading-next : {p : Progress} {log₀ operand₀ : List ℕ} (walk : Walk) (d : Directory) (m : Memory) (array log operand : List ℕ) (r : Stepped) (d′ : Directory) (array′ log′ operand′ : List ℕ) (u : Walk) →
       0 < walk .left → walk .group < groups →
       ReadGoing p log₀ operand₀ walk (state d m array) log operand →
       ReadStep (readOne pcd (state d m array) (nextDoubleword walk xs)) walk log operand r array′ log′ operand′ →
       d′ ≡ changed d (r .line) (r .change) →
-      ReadGoing p log₀ operand₀ (r .walk) (state d′ m array′) log′ operand′
-  reading-next {p} {log₀} {operand₀} walk d m array log operand r d′ array′ log′ operand′ some more g k ed =
+      u ≡ nextWalk walk (r .count) (r .records) →
+      ReadGoing p log₀ operand₀ u (state d′ m array′) log′ operand′
+  reading-next {p} {log₀} {operand₀} walk d m array log operand r d′ array′ log′ operand′ u some more g k ed eu =
       let here = nextDoubleword walk xs in
       let s = state d m array in
       let done = readOne pcd s here in
@@ -275,20 +276,21 @@ module _ (pcd : Bool) (xs : List ℕ) where
       ap (λ (x : Directory). state x m array′) c
       ∙ ap (λ (x : Memory). state (changed d (here .line) (done .change)) x array′) (sym (one-memory pcd s here))
       ∙ ap (λ (x : List ℕ). state (changed d (here .line) (done .change)) (done .memory) x) (k .arrays) in
-      rw (k .moves)
+      rw (eu, k .counts, k .made)
       (record {
         going = going-next (readOne pcd) xs walk s log some more (state d′ m array′) log′ (length (done .records)) (g .going) es (k .logs) refl;
         bytes = bytes-next (readOne pcd) xs walk s log some more p operand operand′ operand₀ (state d′ m array′) (length (done .records)) (g .bytes) es (k .bytes) (one-length pcd s here);
       })
 
 -- the next doubleword of the code, written by the rules
-pub writing-next : (operand xs : List ℕ) {p : Progress} {log₀ : List ℕ} (walk : Walk) (d : Directory) (m : Memory) (array log : List ℕ) (r : Stepped) (d′ : Directory) (m′ : Memory) (array′ log′ : List ℕ) →
+pub writing-next : (operand xs : List ℕ) {p : Progress} {log₀ : List ℕ} (walk : Walk) (d : Directory) (m : Memory) (array log : List ℕ) (r : Stepped) (d′ : Directory) (m′ : Memory) (array′ log′ : List ℕ) (u : Walk) →
     0 < walk .left → walk .group < groups →
     Going (writeOne operand) xs p log₀ walk (state d m array) log →
     WriteStep (writeOne operand (state d m array) (nextDoubleword walk xs)) walk log r m′ array′ log′ →
     d′ ≡ changed d (r .line) (r .change) →
-    Going (writeOne operand) xs p log₀ (r .walk) (state d′ m′ array′) log′
-writing-next operand xs walk d m array log r d′ m′ array′ log′ some more g k ed =
+    u ≡ nextWalk walk (r .count) (r .records) →
+    Going (writeOne operand) xs p log₀ u (state d′ m′ array′) log′
+writing-next operand xs walk d m array log r d′ m′ array′ log′ u some more g k ed eu =
     let here = nextDoubleword walk xs in
     let s = state d m array in
     let done = writeOne operand s here in
@@ -297,7 +299,7 @@ writing-next operand xs walk d m array log r d′ m′ array′ log′ some more
     ap (λ (x : Directory). state x m′ array′) c
     ∙ ap (λ (x : Memory). state (changed d (here .line) (done .change)) x array′) (k .memories)
     ∙ ap (λ (x : List ℕ). state (changed d (here .line) (done .change)) (done .memory) x) (k .arrays) in
-    rw (k .moves) (going-next (writeOne operand) xs walk s log some more (state d′ m′ array′) log′ (length (done .records)) g es (k .logs) refl)
+    rw (eu, k .counts, k .made) (going-next (writeOne operand) xs walk s log some more (state d′ m′ array′) log′ (length (done .records)) g es (k .logs) refl)
 
 -- where nothing is left the loops have left what all doublewords leave
 pub reading-end : (pcd : Bool) (xs : List ℕ) {p : Progress} {log₀ operand₀ : List ℕ} (walk : Walk) (s : State) (log operand : List ℕ) →
@@ -306,36 +308,26 @@ unfolding allOf
 reading-end pcd xs walk s log operand z g = let r = rest-done walk xs z in rw r at (g .bytes)
 
 -- the walk after a doubleword
-module _ (walk u : Walk) (n : ℕ) (some : 0 < walk .left) (eu : u ≡ nextWalk walk (min (walk .left) (4 - walk .address % 4)) n) where
-  pub walk-less : u .left < walk .left
-  walk-less = rw eu (omega arith)
+module _ (walk u : Walk) (count n : ℕ) (some : 0 < walk .left) (ec : count ≡ min (walk .left) (4 - walk .address % 4)) where
+  pub walk-less : u ≡ nextWalk walk count n → u .left < walk .left
+  walk-less eu = rw (eu, ec) (omega arith)
 
-  pub walk-path : (ram parity array answers log operand : ℕ) → n ≤ group → Path walk ram parity array answers log operand → Path u ram parity array answers log operand
-  walk-path ram parity array answers log operand l z = rw eu (path-next walk ram parity array answers log operand z some n l)
+  pub walk-path : u ≡ nextWalk walk count n → (ram parity array answers log operand : ℕ) → n ≤ group → Path walk ram parity array answers log operand → Path u ram parity array answers log operand
+  walk-path eu ram parity array answers log operand l z = rw (eu, ec) (path-next walk ram parity array answers log operand z some n l)
 
 -- what the code's next walk needs
-pub record Steps (walk : Walk) (w : Wanted) (n : ℕ) : Type 0 where
-  pub count : w .count ≤ walk .left
-  pub address : walk .address + walk .left < 4294967296
-  pub group : walk .group < 64
-  pub place : walk .place < 64
-  pub left : walk .left ≤ 64
-  pub records : walk .records ≤ 64
-  pub made : n ≤ 64
-
-pub walk-steps : (walk : Walk) (w : Wanted) (n ram parity array answers log operand : ℕ) → 0 < walk .left → w ≡ wantedOf walk → n ≤ 16 →
-    Path walk ram parity array answers log operand → Steps walk w n
-walk-steps walk w n ram parity array answers log operand some ew l z =
-    let c : w .count ≡ min (walk .left) (4 - walk .address % 4) = ap (λ (x : Wanted). x .count) ew in
-    record {
-      count = rw c (omega arith);
-      address = omega (arith, z .inside, z .small);
-      group = omega (arith, z .last);
-      place = omega (arith, z .operands, z .four);
-      left = omega (arith, z .operands, z .four);
-      records = omega (arith, z .made, z .last);
-      made = omega arith;
-    }
+pub walk-steps : (walk : Walk) (count n ram parity array answers log operand : ℕ) → count ≡ min (walk .left) (4 - walk .address % 4) → n ≤ group →
+    Path walk ram parity array answers log operand →
+    (count ≤ walk .left) × (walk .address + walk .left < 4294967296) × (walk .group < 64) × (walk .place < 64) × (walk .left ≤ 64) × (walk .records ≤ 64) × (n ≤ 64)
+walk-steps walk count n ram parity array answers log operand ec l z = (
+  rw ec (omega arith),
+  omega (arith, z .inside, z .small),
+  omega (arith, z .last),
+  omega (arith, z .operands, z .four),
+  omega (arith, z .operands, z .four),
+  omega (arith, z .made, z .last),
+  omega arith,
+)
 
 -- what the next doubleword's code needs
 pub walk-spot : (walk : Walk) (w : Wanted) (ram parity array answers log₀ log operand₀ operand given : ℕ) → 0 < walk .left → w ≡ wantedOf walk →
@@ -348,38 +340,40 @@ walk-spot walk w ram parity array answers log₀ log operand₀ operand given so
     room place left r operand h = omega arith
 
 -- a step of the code, from what its parts leave
-module _ (walk : Walk) (xs : List ℕ) (w : Wanted) (given : List ℕ) (ew : w ≡ wantedOf walk) (eg : given ≡ groupAt walk xs) (moved : Moved) (u : Walk) (eu : u ≡ nextWalk walk (w .count) (moved .records)) (b : BelowFour (moved .change)) where
-  walk-moves : (n : ℕ) → moved .records ≡ n → u ≡ nextWalk walk (min (walk .left) (4 - walk .address % 4)) n
-  walk-moves n e = eu ∙ ap (λ (x : Wanted). nextWalk walk (x .count) (moved .records)) ew ∙ ap (nextWalk walk (min (walk .left) (4 - walk .address % 4))) e
+module _ (walk : Walk) (xs : List ℕ) (w : Wanted) (given : List ℕ) (ew : w ≡ wantedOf walk) (eg : given ≡ groupAt walk xs) (moved : Moved) (b : BelowFour (moved .change)) where
+  abbrev stepped : Stepped
+  stepped = record { line = w .line; change = moved .change; count = w .count; records = moved .records }
 
   pub read-step-left : (one : Wanted → List ℕ → Done) (log₀ operand₀ array log operand : List ℕ) →
       Reads (one w given) (w .place) (walk .records) log₀ operand₀ moved array log operand →
-      ReadStep (one (wantedOf walk) (groupAt walk xs)) walk log₀ operand₀ (record { line = w .line; change = moved .change; walk = u }) array log operand
+      ReadStep (one (wantedOf walk) (groupAt walk xs)) walk log₀ operand₀ stepped array log operand
   read-step-left one log₀ operand₀ array log operand k =
       let k′ : Reads (one (wantedOf walk) (groupAt walk xs)) (walk .place) (walk .records) log₀ operand₀ moved array log operand = rw (ew, eg) at k in
       record {
         line = ap (λ (x : Wanted). x .line) ew;
         change = k′ .change;
         below = b;
-        moves = walk-moves _ (k′ .made);
+        counts = ap (λ (x : Wanted). x .count) ew;
+        made = k′ .made;
         arrays = k′ .arrays;
         logs = k′ .logs;
         bytes = k′ .bytes;
-        most = rw (← k′ .made) (k′ .most);
+        most = k′ .most;
       }
 
   pub write-step-left : (one : Wanted → List ℕ → Done) (log₀ : List ℕ) (m : Memory) (array log : List ℕ) →
       Writes (one w given) (walk .records) log₀ moved m array log →
-      WriteStep (one (wantedOf walk) (groupAt walk xs)) walk log₀ (record { line = w .line; change = moved .change; walk = u }) m array log
+      WriteStep (one (wantedOf walk) (groupAt walk xs)) walk log₀ stepped m array log
   write-step-left one log₀ m array log k =
       let k′ : Writes (one (wantedOf walk) (groupAt walk xs)) (walk .records) log₀ moved m array log = rw (ew, eg) at k in
       record {
         line = ap (λ (x : Wanted). x .line) ew;
         change = k′ .change;
         below = b;
-        moves = walk-moves _ (k′ .made);
+        counts = ap (λ (x : Wanted). x .count) ew;
+        made = k′ .made;
         memories = k′ .memories;
         arrays = k′ .arrays;
         logs = k′ .logs;
-        most = rw (← k′ .made) (k′ .most);
+        most = k′ .most;
       }

@@ -68,19 +68,21 @@ pub record ReadStep (done : Done) (walk : Walk) (log₀ operand₀ : List ℕ) (
   pub line : r .line ≡ lineAt walk
   pub change : r .change ≡ done .change
   pub below : BelowFour (r .change)
-  pub moves : r .walk ≡ nextWalk walk (min (walk .left) (4 - walk .address % 4)) (length (done .records))
+  pub counts : r .count ≡ min (walk .left) (4 - walk .address % 4)
+  pub made : r .records ≡ length (done .records)
   pub arrays : array ≡ done .array
   pub logs : log ≡ logged log₀ (walk .records) (done .records)
   pub bytes : operand ≡ sets operand₀ (walk .place) (done .bytes)
-  pub most : length (done .records) ≤ group
+  pub most : r .records ≤ group
 
 -- The same for a write.
 pub record WriteStep (done : Done) (walk : Walk) (log₀ : List ℕ) (r : Stepped) (m : Memory) (array log : List ℕ) : Type 0 where
   pub line : r .line ≡ lineAt walk
   pub change : r .change ≡ done .change
   pub below : BelowFour (r .change)
-  pub moves : r .walk ≡ nextWalk walk (min (walk .left) (4 - walk .address % 4)) (length (done .records))
+  pub counts : r .count ≡ min (walk .left) (4 - walk .address % 4)
+  pub made : r .records ≡ length (done .records)
   pub memories : m ≡ done .memory
   pub arrays : array ≡ done .array
   pub logs : log ≡ logged log₀ (walk .records) (done .records)
-  pub most : length (done .records) ≤ group
+  pub most : r .records ≤ group

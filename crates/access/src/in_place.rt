@@ -84,7 +84,7 @@ pub fn read_in_place<'a>(
         );
         let change = step.change;
         change_in_place(tags, valid, lru, step.line, change);
-        walk = step.walk;
+        walk = walk.next(step.count, step.records);
     }
     CallResult {
         number: 0,
@@ -138,7 +138,7 @@ pub fn write_in_place<'a>(
         );
         let change = step.change;
         change_in_place(tags, valid, lru, step.line, change);
-        walk = step.walk;
+        walk = walk.next(step.count, step.records);
     }
     CallResult {
         number: 0,

@@ -58,11 +58,11 @@ pub fn read_step<'a>(
         walk.records,
     );
     let change = moved.change;
-    let next = walk.next(w.count, moved.records);
     Stepped {
         line: w.line,
         change,
-        walk: next,
+        count: w.count,
+        records: moved.records,
     }
 }
 
@@ -109,7 +109,7 @@ pub fn read(
             Change::Keep => {}
             _ => given = changed_by(given, step.line, change),
         }
-        walk = step.walk;
+        walk = walk.next(step.count, step.records);
     }
     Outcome {
         directory: given,

@@ -15,11 +15,13 @@ pub struct Walk {
     pub records: usize,
 }
 
-// What a doubleword did: the directory's change with its line, and what is left after it.
+// What a doubleword did: the directory's change with its line, the bytes moved and the records made. What is left after it
+// is worked out by the caller, in registers.
 pub struct Stepped {
     pub line: u32,
     pub change: Change,
-    pub walk: Walk,
+    pub count: usize,
+    pub records: usize,
 }
 
 impl Walk {

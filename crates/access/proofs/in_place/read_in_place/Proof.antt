@@ -1,15 +1,15 @@
-use borrow.Author.Needs.{needs}
-use Rattle.access.proofs.Calls.{path-begin, read-input-refused, read-state-refused, read-done}
-use Rattle.access.proofs.Walking.{ReadGoing, reading-begin, reading-next, path-lengths, path-more, walk-less, walk-path}
-use Rattle.access.specs.Walks.{startWalk, restOf, Path}
-use Rattle.access.specs.Access.{state, allOf, readOne}
-use Rattle.bus.specs.Parity.{memory}
-use Rattle.directory.specs.Steps.{directoryOf}
-use lib.ListN.{length, replicate}
-use mathlib.Core.Bool.{Bool, true}
-use mathlib.Core.Path.{_≡_, refl, _∙_}
-use native.Mathlib.Omega.{arith}
 use denote.Ref.{now}
+use native.Mathlib.Omega.{arith}
+use mathlib.Core.Path.{_≡_, refl, _∙_}
+use mathlib.Core.Bool.{Bool, true}
+use lib.ListN.{length, replicate}
+use Rattle.directory.specs.Steps.{directoryOf}
+use Rattle.bus.specs.Parity.{memory}
+use Rattle.access.specs.Access.{state, allOf, readOne}
+use Rattle.access.specs.Walks.{startWalk, restOf, Path}
+use Rattle.access.proofs.Walking.{ReadGoing, reading-begin, reading-next, path-lengths, path-more, walk-less, walk-path, walk-steps}
+use Rattle.access.proofs.Calls.{path-begin, read-input-refused, read-state-refused, read-done}
+use borrow.Author.Needs.{needs}
 use Rattle.access.proofs.in_place.read_in_place.Statement.{statement}
 use Rattle.access.proofs.in_place.read_in_place.Tie as tie
 
@@ -64,12 +64,15 @@ read-step-requires c κs = (c .before .before .before .before .before .before .i
 change-in-place-requires : tie.Need-change-in-place-requires Inv-loop μ-loop
 change-in-place-requires c κs = c .before .before .before .before .before .before .before .before .read-step .ensures .below
 
+next-requires : tie.Need-next-requires Inv-loop μ-loop
+next-requires c κs = walk-steps _ _ _ _ _ _ _ _ _ (c .before .before .before .before .before .before .before .before .before .read-step .ensures .counts) (c .before .before .before .before .before .before .before .before .before .read-step .ensures .most) (c .before .before .before .before .before .before .before .before .before .before .before .before .before .before .before .before .before .before .loop .inv .1)
+
 loop-less : tie.Need-loop-less Inv-loop μ-loop
-loop-less c = walk-less _ _ _ (c .before .before .before .before .before .before .before .before .before .before .before .before .before .before .before .before .before .if3 .taken) (c .before .before .before .before .before .before .before .before .before .before .read-step .ensures .moves)
+loop-less c = walk-less _ _ _ _ (c .before .before .before .before .before .before .before .before .before .before .before .before .before .before .before .before .before .if3 .taken) (c .before .before .before .before .before .before .before .before .before .before .read-step .ensures .counts) (c .next .ensures)
 
 loop-again : tie.Need-loop-again Inv-loop μ-loop
 unfolding readOne
-loop-again c = (λ nw. reading-next _ _ _ _ _ _ _ _ _ _ _ _ _ (c .before .before .before .before .before .before .before .before .before .before .before .before .before .before .before .before .before .if3 .taken) (path-more _ _ _ _ _ _ _ (c .before .before .before .before .before .before .before .before .before .before .before .before .before .before .before .before .before .before .before .loop .inv .1) (c .before .before .before .before .before .before .before .before .before .before .before .before .before .before .before .before .before .if3 .taken)) (c .before .before .before .before .before .before .before .before .before .before .before .before .before .before .before .before .before .before .before .loop .inv .0 nw) (c .before .before .before .before .before .before .before .before .before .before .read-step .ensures) (c .before .change-in-place .ensures _ nw), walk-path _ _ _ (c .before .before .before .before .before .before .before .before .before .before .before .before .before .before .before .before .before .if3 .taken) (c .before .before .before .before .before .before .before .before .before .before .read-step .ensures .moves) _ _ _ _ _ _ (c .before .before .before .before .before .before .before .before .before .before .read-step .ensures .most) (c .before .before .before .before .before .before .before .before .before .before .before .before .before .before .before .before .before .before .before .loop .inv .1), c .before .before .before .before .before .before .before .before .before .before .read-step .kept .1 .1 .1 .1 .1 .1 .0 ∙ c .before .before .before .before .before .before .before .before .before .before .before .before .before .before .before .before .before .before .before .loop .inv .2, c .before .before .before .before .before .before .before .before .before .before .read-step .kept .1 .1 .1 .1 .1 .1 .1 .1 .0 ∙ c .before .before .before .before .before .before .before .before .before .before .before .before .before .before .before .before .before .before .before .loop .inv .3, c .before .before .before .before .before .before .before .before .before .before .read-step .kept .1 .1 .1 .1 .1 .1 .1 .1 .1 .0 ∙ c .before .before .before .before .before .before .before .before .before .before .before .before .before .before .before .before .before .before .before .loop .inv .4)
+loop-again c = (λ nw. reading-next _ _ _ _ _ _ _ _ _ _ _ _ _ _ (c .before .before .before .before .before .before .before .before .before .before .before .before .before .before .before .before .before .if3 .taken) (path-more _ _ _ _ _ _ _ (c .before .before .before .before .before .before .before .before .before .before .before .before .before .before .before .before .before .before .before .loop .inv .1) (c .before .before .before .before .before .before .before .before .before .before .before .before .before .before .before .before .before .if3 .taken)) (c .before .before .before .before .before .before .before .before .before .before .before .before .before .before .before .before .before .before .before .loop .inv .0 nw) (c .before .before .before .before .before .before .before .before .before .before .read-step .ensures) (c .before .change-in-place .ensures _ nw) (c .next .ensures), walk-path _ _ _ _ (c .before .before .before .before .before .before .before .before .before .before .before .before .before .before .before .before .before .if3 .taken) (c .before .before .before .before .before .before .before .before .before .before .read-step .ensures .counts) (c .next .ensures) _ _ _ _ _ _ (c .before .before .before .before .before .before .before .before .before .before .read-step .ensures .most) (c .before .before .before .before .before .before .before .before .before .before .before .before .before .before .before .before .before .before .before .loop .inv .1), c .before .before .before .before .before .before .before .before .before .before .read-step .kept .1 .1 .1 .1 .1 .1 .0 ∙ c .before .before .before .before .before .before .before .before .before .before .before .before .before .before .before .before .before .before .before .loop .inv .2, c .before .before .before .before .before .before .before .before .before .before .read-step .kept .1 .1 .1 .1 .1 .1 .1 .1 .0 ∙ c .before .before .before .before .before .before .before .before .before .before .before .before .before .before .before .before .before .before .before .loop .inv .3, c .before .before .before .before .before .before .before .before .before .before .read-step .kept .1 .1 .1 .1 .1 .1 .1 .1 .1 .0 ∙ c .before .before .before .before .before .before .before .before .before .before .before .before .before .before .before .before .before .before .before .loop .inv .4)
 
 word-of-requires : tie.Need-word-of-requires Inv-loop μ-loop
 word-of-requires c κs = search needs
@@ -107,6 +110,7 @@ read-in-place-spec =
     slice-aggregate-read-step
     read-step-requires
     change-in-place-requires
+    next-requires
     loop-less
     loop-again
     word-of-requires

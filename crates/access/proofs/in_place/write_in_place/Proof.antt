@@ -1,15 +1,15 @@
-use Rattle.access.proofs.Calls.{path-begin, write-input-refused, write-later-refused, write-done}
-use Rattle.access.proofs.Walking.{Going, going-begin, writing-next, path-lengths, path-more, walk-less, walk-path}
-use Rattle.access.specs.Walks.{startWalk, restOf, Path}
-use Rattle.access.specs.Access.{state, allOf, writeOne}
-use Rattle.bus.specs.Parity.{memory}
-use Rattle.bus.specs.Bytes.{bytesOf}
-use Rattle.directory.specs.Steps.{directoryOf}
-use borrow.Author.Needs.{needs}
-use lib.ListN.{length}
-use mathlib.Core.Path.{_≡_, refl, _∙_}
-use native.Mathlib.Omega.{arith}
 use denote.Ref.{now}
+use native.Mathlib.Omega.{arith}
+use mathlib.Core.Path.{_≡_, refl, _∙_}
+use lib.ListN.{length}
+use borrow.Author.Needs.{needs}
+use Rattle.directory.specs.Steps.{directoryOf}
+use Rattle.bus.specs.Bytes.{bytesOf}
+use Rattle.bus.specs.Parity.{memory}
+use Rattle.access.specs.Access.{state, allOf, writeOne}
+use Rattle.access.specs.Walks.{startWalk, restOf, Path}
+use Rattle.access.proofs.Walking.{Going, going-begin, writing-next, path-lengths, path-more, walk-less, walk-path, walk-steps}
+use Rattle.access.proofs.Calls.{path-begin, write-input-refused, write-later-refused, write-done}
 use Rattle.access.proofs.in_place.write_in_place.Statement.{statement}
 use Rattle.access.proofs.in_place.write_in_place.Tie as tie
 
@@ -86,12 +86,15 @@ write-step-requires c κs = (c .before .before .before .before .before .before .
 change-in-place-requires : tie.Need-change-in-place-requires Inv-loop μ-loop
 change-in-place-requires c κs = c .before .before .before .before .before .before .before .before .before .before .before .write-step .ensures .below
 
+next-requires : tie.Need-next-requires Inv-loop μ-loop
+next-requires c κs = walk-steps _ _ _ _ _ _ _ _ _ (c .before .before .before .before .before .before .before .before .before .before .before .before .write-step .ensures .counts) (c .before .before .before .before .before .before .before .before .before .before .before .before .write-step .ensures .most) (c .before .before .before .before .before .before .before .before .before .before .before .before .before .before .before .before .before .before .before .before .before .before .loop .inv .1)
+
 loop-less : tie.Need-loop-less Inv-loop μ-loop
-loop-less c = walk-less _ _ _ (c .before .before .before .before .before .before .before .before .before .before .before .before .before .before .before .before .before .before .before .before .before .if3 .taken) (c .before .before .before .before .before .before .before .before .before .before .before .before .before .write-step .ensures .moves)
+loop-less c = walk-less _ _ _ _ (c .before .before .before .before .before .before .before .before .before .before .before .before .before .before .before .before .before .before .before .before .before .if3 .taken) (c .before .before .before .before .before .before .before .before .before .before .before .before .before .write-step .ensures .counts) (c .next .ensures)
 
 loop-again : tie.Need-loop-again Inv-loop μ-loop
 unfolding writeOne
-loop-again c = (writing-next _ _ _ _ _ _ _ _ _ _ _ _ (c .before .before .before .before .before .before .before .before .before .before .before .before .before .before .before .before .before .before .before .before .before .if3 .taken) (path-more _ _ _ _ _ _ _ (c .before .before .before .before .before .before .before .before .before .before .before .before .before .before .before .before .before .before .before .before .before .before .before .loop .inv .1) (c .before .before .before .before .before .before .before .before .before .before .before .before .before .before .before .before .before .before .before .before .before .if3 .taken)) (c .before .before .before .before .before .before .before .before .before .before .before .before .before .before .before .before .before .before .before .before .before .before .before .loop .inv .0) (c .before .before .before .before .before .before .before .before .before .before .before .before .before .write-step .ensures) (c .before .change-in-place .ensures _ _), walk-path _ _ _ (c .before .before .before .before .before .before .before .before .before .before .before .before .before .before .before .before .before .before .before .before .before .if3 .taken) (c .before .before .before .before .before .before .before .before .before .before .before .before .before .write-step .ensures .moves) _ _ _ _ _ _ (c .before .before .before .before .before .before .before .before .before .before .before .before .before .write-step .ensures .most) (c .before .before .before .before .before .before .before .before .before .before .before .before .before .before .before .before .before .before .before .before .before .before .before .loop .inv .1), c .before .before .before .before .before .before .before .before .before .before .before .before .before .write-step .kept .1 .1 .1 .1 .1 .0 ∙ c .before .before .before .before .before .before .before .before .before .before .before .before .before .before .before .before .before .before .before .before .before .before .before .loop .inv .2, c .before .before .before .before .before .before .before .before .before .before .before .before .before .write-step .kept .1 .1 .1 .1 .1 .1 .1 .0 ∙ c .before .before .before .before .before .before .before .before .before .before .before .before .before .before .before .before .before .before .before .before .before .before .before .loop .inv .3, c .before .before .before .before .before .before .before .before .before .before .before .before .before .write-step .kept .1 .1 .1 .0 ∙ c .before .before .before .before .before .before .before .before .before .before .before .before .before .before .before .before .before .before .before .before .before .before .before .loop .inv .4, c .before .before .before .before .before .before .before .before .before .before .before .before .before .write-step .kept .1 .1 .1 .1 .0 ∙ c .before .before .before .before .before .before .before .before .before .before .before .before .before .before .before .before .before .before .before .before .before .before .before .loop .inv .5)
+loop-again c = (writing-next _ _ _ _ _ _ _ _ _ _ _ _ _ (c .before .before .before .before .before .before .before .before .before .before .before .before .before .before .before .before .before .before .before .before .before .if3 .taken) (path-more _ _ _ _ _ _ _ (c .before .before .before .before .before .before .before .before .before .before .before .before .before .before .before .before .before .before .before .before .before .before .before .loop .inv .1) (c .before .before .before .before .before .before .before .before .before .before .before .before .before .before .before .before .before .before .before .before .before .if3 .taken)) (c .before .before .before .before .before .before .before .before .before .before .before .before .before .before .before .before .before .before .before .before .before .before .before .loop .inv .0) (c .before .before .before .before .before .before .before .before .before .before .before .before .before .write-step .ensures) (c .before .change-in-place .ensures _ _) (c .next .ensures), walk-path _ _ _ _ (c .before .before .before .before .before .before .before .before .before .before .before .before .before .before .before .before .before .before .before .before .before .if3 .taken) (c .before .before .before .before .before .before .before .before .before .before .before .before .before .write-step .ensures .counts) (c .next .ensures) _ _ _ _ _ _ (c .before .before .before .before .before .before .before .before .before .before .before .before .before .write-step .ensures .most) (c .before .before .before .before .before .before .before .before .before .before .before .before .before .before .before .before .before .before .before .before .before .before .before .loop .inv .1), c .before .before .before .before .before .before .before .before .before .before .before .before .before .write-step .kept .1 .1 .1 .1 .1 .0 ∙ c .before .before .before .before .before .before .before .before .before .before .before .before .before .before .before .before .before .before .before .before .before .before .before .loop .inv .2, c .before .before .before .before .before .before .before .before .before .before .before .before .before .write-step .kept .1 .1 .1 .1 .1 .1 .1 .0 ∙ c .before .before .before .before .before .before .before .before .before .before .before .before .before .before .before .before .before .before .before .before .before .before .before .loop .inv .3, c .before .before .before .before .before .before .before .before .before .before .before .before .before .write-step .kept .1 .1 .1 .0 ∙ c .before .before .before .before .before .before .before .before .before .before .before .before .before .before .before .before .before .before .before .before .before .before .before .loop .inv .4, c .before .before .before .before .before .before .before .before .before .before .before .before .before .write-step .kept .1 .1 .1 .1 .0 ∙ c .before .before .before .before .before .before .before .before .before .before .before .before .before .before .before .before .before .before .before .before .before .before .before .loop .inv .5)
 
 cast-t33 : tie.Need-cast-t33 Inv-loop μ-loop
 cast-t33 c = omega (arith, c .before .before .before .loop .inv .1 .made, c .before .before .before .loop .inv .1 .last)
@@ -139,6 +142,7 @@ write-in-place-spec =
     slice-aggregate-write-step
     write-step-requires
     change-in-place-requires
+    next-requires
     loop-less
     loop-again
     cast-t33

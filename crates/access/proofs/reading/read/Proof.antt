@@ -1,14 +1,14 @@
-use denote.Ref.{now}
-use native.Mathlib.Omega.{arith}
-use mathlib.Core.Path.{_≡_, refl, _∙_}
-use mathlib.Core.Logic.{⊎-elim}
-use borrow.Author.Needs.{needs}
-use Rattle.bus.specs.Parity.{memory}
-use lib.ListN.{length, replicate}
-use Rattle.access.specs.Access.{state, allOf, readOne}
-use Rattle.access.specs.Walks.{startWalk, restOf, Path}
-use Rattle.access.proofs.Walking.{ReadGoing, reading-begin, reading-next, keep-changed, path-lengths, path-more, walk-less, walk-path}
 use Rattle.access.proofs.Calls.{path-begin, read-input-refused, read-state-refused, read-done}
+use Rattle.access.proofs.Walking.{ReadGoing, reading-begin, reading-next, keep-changed, path-lengths, path-more, walk-less, walk-path, walk-steps}
+use Rattle.access.specs.Walks.{startWalk, restOf, Path}
+use Rattle.access.specs.Access.{state, allOf, readOne}
+use lib.ListN.{length, replicate}
+use Rattle.bus.specs.Parity.{memory}
+use borrow.Author.Needs.{needs}
+use mathlib.Core.Logic.{⊎-elim}
+use mathlib.Core.Path.{_≡_, refl, _∙_}
+use native.Mathlib.Omega.{arith}
+use denote.Ref.{now}
 use Rattle.access.proofs.reading.read.Statement.{statement}
 use Rattle.access.proofs.reading.read.Tie as tie
 
@@ -66,12 +66,15 @@ enum-told c = search needs
 changed-by-requires : tie.Need-changed-by-requires Inv-loop μ-loop
 changed-by-requires c κs = c .before .before .before .before .before .before .read-step .ensures .below
 
+next-requires : tie.Need-next-requires Inv-loop μ-loop
+next-requires c κs = walk-steps _ _ _ _ _ _ _ _ _ (c .before .before .before .before .before .before .read-step .ensures .counts) (c .before .before .before .before .before .before .read-step .ensures .most) (c .before .before .before .before .before .before .before .before .before .before .before .before .before .before .before .before .loop .inv .1)
+
 loop-less : tie.Need-loop-less Inv-loop μ-loop
-loop-less c = walk-less _ _ _ (c .before .before .before .before .before .before .before .before .before .before .before .before .before .before .before .if3 .taken) (c .before .before .before .before .before .before .before .read-step .ensures .moves)
+loop-less c = walk-less _ _ _ _ (c .before .before .before .before .before .before .before .before .before .before .before .before .before .before .before .if3 .taken) (c .before .before .before .before .before .before .before .read-step .ensures .counts) (c .next .ensures)
 
 loop-again : tie.Need-loop-again Inv-loop μ-loop
 unfolding readOne
-loop-again c = (reading-next _ _ _ _ _ _ _ _ _ _ _ _ _ (c .before .before .before .before .before .before .before .before .before .before .before .before .before .before .before .if3 .taken) (path-more _ _ _ _ _ _ _ (c .before .before .before .before .before .before .before .before .before .before .before .before .before .before .before .before .before .loop .inv .1) (c .before .before .before .before .before .before .before .before .before .before .before .before .before .before .before .if3 .taken)) (c .before .before .before .before .before .before .before .before .before .before .before .before .before .before .before .before .before .loop .inv .0) (c .before .before .before .before .before .before .before .read-step .ensures) (⊎-elim (λ w. keep-changed _ _ _ _ (w .1 .given .1) (w .2)) (λ w. w .2 ∙ w .1 .ensures) (c .before .match .came)), walk-path _ _ _ (c .before .before .before .before .before .before .before .before .before .before .before .before .before .before .before .if3 .taken) (c .before .before .before .before .before .before .before .read-step .ensures .moves) _ _ _ _ _ _ (c .before .before .before .before .before .before .before .read-step .ensures .most) (c .before .before .before .before .before .before .before .before .before .before .before .before .before .before .before .before .before .loop .inv .1), c .before .before .before .before .before .before .before .read-step .kept .1 .1 .1 .1 .1 .1 .0 ∙ c .before .before .before .before .before .before .before .before .before .before .before .before .before .before .before .before .before .loop .inv .2, c .before .before .before .before .before .before .before .read-step .kept .1 .1 .1 .1 .1 .1 .1 .1 .0 ∙ c .before .before .before .before .before .before .before .before .before .before .before .before .before .before .before .before .before .loop .inv .3, c .before .before .before .before .before .before .before .read-step .kept .1 .1 .1 .1 .1 .1 .1 .1 .1 .0 ∙ c .before .before .before .before .before .before .before .before .before .before .before .before .before .before .before .before .before .loop .inv .4)
+loop-again c = (reading-next _ _ _ _ _ _ _ _ _ _ _ _ _ _ (c .before .before .before .before .before .before .before .before .before .before .before .before .before .before .before .if3 .taken) (path-more _ _ _ _ _ _ _ (c .before .before .before .before .before .before .before .before .before .before .before .before .before .before .before .before .before .loop .inv .1) (c .before .before .before .before .before .before .before .before .before .before .before .before .before .before .before .if3 .taken)) (c .before .before .before .before .before .before .before .before .before .before .before .before .before .before .before .before .before .loop .inv .0) (c .before .before .before .before .before .before .before .read-step .ensures) (⊎-elim (λ w. keep-changed _ _ _ _ (w .1 .given .1) (w .2)) (λ w. w .2 ∙ w .1 .ensures) (c .before .match .came)) (c .next .ensures), walk-path _ _ _ _ (c .before .before .before .before .before .before .before .before .before .before .before .before .before .before .before .if3 .taken) (c .before .before .before .before .before .before .before .read-step .ensures .counts) (c .next .ensures) _ _ _ _ _ _ (c .before .before .before .before .before .before .before .read-step .ensures .most) (c .before .before .before .before .before .before .before .before .before .before .before .before .before .before .before .before .before .loop .inv .1), c .before .before .before .before .before .before .before .read-step .kept .1 .1 .1 .1 .1 .1 .0 ∙ c .before .before .before .before .before .before .before .before .before .before .before .before .before .before .before .before .before .loop .inv .2, c .before .before .before .before .before .before .before .read-step .kept .1 .1 .1 .1 .1 .1 .1 .1 .0 ∙ c .before .before .before .before .before .before .before .before .before .before .before .before .before .before .before .before .before .loop .inv .3, c .before .before .before .before .before .before .before .read-step .kept .1 .1 .1 .1 .1 .1 .1 .1 .1 .0 ∙ c .before .before .before .before .before .before .before .before .before .before .before .before .before .before .before .before .before .loop .inv .4)
 
 word-of-requires : tie.Need-word-of-requires Inv-loop μ-loop
 word-of-requires c κs = search needs
@@ -110,6 +113,7 @@ read-spec =
     read-step-requires
     enum-told
     changed-by-requires
+    next-requires
     loop-less
     loop-again
     word-of-requires

@@ -1,17 +1,17 @@
-use denote.Ref.{now}
-use native.Mathlib.Omega.{arith}
-use mathlib.Core.Path.{refl}
-use Prim.Native.Nat.{_+_, _*_}
-use mathlib.Core.List.{List}
-use Rattle.bus.specs.Parity.{memory}
-use Rattle.directory.specs.Ways.{lookupIn, victimIn}
-use Rattle.directory.specs.Address.{setOf}
-use Rattle.doubleword.specs.declared.change.Wanted.{Wanted}
-use Rattle.doubleword.specs.Doubleword.{readDone}
-use Rattle.doubleword.specs.Moves.{doublewordOf}
-use Prim.Native.Nat.{ℕ}
+use Rattle.access.proofs.Walking.{path-more, group-is, group-length, walk-spot, read-step-left}
 use Rattle.doubleword.proofs.Doublewords.{reads-below}
-use Rattle.access.proofs.Walking.{path-more, group-is, group-length, walk-spot, walk-steps, read-step-left}
+use Prim.Native.Nat.{ℕ}
+use Rattle.doubleword.specs.Moves.{doublewordOf}
+use Rattle.doubleword.specs.Doubleword.{readDone}
+use Rattle.doubleword.specs.declared.change.Wanted.{Wanted}
+use Rattle.directory.specs.Address.{setOf}
+use Rattle.directory.specs.Ways.{lookupIn, victimIn}
+use Rattle.bus.specs.Parity.{memory}
+use mathlib.Core.List.{List}
+use Prim.Native.Nat.{_+_, _*_}
+use mathlib.Core.Path.{refl}
+use native.Mathlib.Omega.{arith}
+use denote.Ref.{now}
 use borrow.Author.Needs.{needs}
 use Rattle.access.proofs.reading.read_step.Statement.{statement}
 use Rattle.access.proofs.reading.read_step.Tie as tie
@@ -37,20 +37,17 @@ part-group-end c = search needs
 read-doubleword-requires : tie.Need-read-doubleword-requires
 read-doubleword-requires c κs = let a = c .before .before .before .before .before .before .before .before .before .before .before .before .args in let s = walk-spot _ _ _ _ _ _ _ _ _ _ _ (c .before .before .before .before .before .before .before .before .before .before .before .before .pre .0) (c .before .before .before .before .before .wanted .ensures) (c .before .before .before .before .before .before .before .before .before .before .before .before .pre .1) refl refl (group-length (now (a .answers)) (a .walk .group * 16) (a .walk .group * 16 + 16) refl (omega (arith, path-more _ _ _ _ _ _ _ (c .before .before .before .before .before .before .before .before .before .before .before .before .pre .1) (c .before .before .before .before .before .before .before .before .before .before .before .before .pre .0), c .before .before .before .before .before .before .before .before .before .before .before .before .pre .1 .served))) in (s .0, c .before .before .before .before .before .before .before .before .before .before .before .before .pre .1 .lines, s .1)
 
-next-requires : tie.Need-next-requires
-next-requires c κs = let s = walk-steps _ _ _ _ _ _ _ _ _ (c .before .before .before .before .before .before .before .before .before .before .before .before .before .before .before .before .before .before .before .pre .0) (c .before .before .before .before .before .before .before .before .before .before .before .before .wanted .ensures) (c .before .before .before .before .before .before .read-doubleword .ensures .most) (c .before .before .before .before .before .before .before .before .before .before .before .before .before .before .before .before .before .before .before .pre .1) in (s .count, s .address, s .group, s .place, s .left, s .records, s .made)
-
 same-length : tie.Need-same-length
-same-length c = c .before .before .before .before .before .before .before .read-doubleword .kept .1 .1 .1 .1 .1 .1 .0
+same-length c = c .before .before .before .before .before .before .read-doubleword .kept .1 .1 .1 .1 .1 .1 .0
 
 same-length-2 : tie.Need-same-length-2
-same-length-2 c = c .before .before .before .before .before .before .before .read-doubleword .kept .1 .1 .1 .1 .1 .1 .1 .1 .0
+same-length-2 c = c .before .before .before .before .before .before .read-doubleword .kept .1 .1 .1 .1 .1 .1 .1 .1 .0
 
 same-length-3 : tie.Need-same-length-3
-same-length-3 c = c .before .before .before .before .before .before .before .read-doubleword .kept .1 .1 .1 .1 .1 .1 .1 .1 .1 .0
+same-length-3 c = c .before .before .before .before .before .before .read-doubleword .kept .1 .1 .1 .1 .1 .1 .1 .1 .1 .0
 
 returns : tie.Need-returns
-returns c = let a = c .before .before .before .before .before .before .before .before .before .before .before .before .before .before .before .before .before .before .before .before .args in read-step-left _ _ _ _ (c .before .before .before .before .before .before .before .before .before .before .before .before .before .wanted .ensures) (group-is (now (a .answers)) (a .walk .group * 16) (a .walk .group * 16 + 16) refl) _ _ (c .next .ensures) (reads-below _ _ _ _ _ _ _ (c .before .before .before .before .before .before .before .read-doubleword .ensures)) (λ (w : Wanted) (xs : List ℕ). readDone (lookupIn (now (a .tags)) (now (a .valid)) (w .line)) (victimIn (now (a .valid)) (now (a .lru)) (setOf (w .line))) (a .may-fill) (memory (now (a .ram)) (now (a .parity))) (now (a .«data»)) (doublewordOf w xs)) _ _ _ _ _ (c .before .before .before .before .before .before .before .read-doubleword .ensures)
+returns c = let a = c .before .before .before .before .before .before .before .before .before .before .before .before .before .before .before .before .before .before .before .args in read-step-left _ _ _ _ (c .before .before .before .before .before .before .before .before .before .before .before .before .wanted .ensures) (group-is (now (a .answers)) (a .walk .group * 16) (a .walk .group * 16 + 16) refl) _ (reads-below _ _ _ _ _ _ _ (c .before .before .before .before .before .before .read-doubleword .ensures)) (λ (w : Wanted) (xs : List ℕ). readDone (lookupIn (now (a .tags)) (now (a .valid)) (w .line)) (victimIn (now (a .valid)) (now (a .lru)) (setOf (w .line))) (a .may-fill) (memory (now (a .ram)) (now (a .parity))) (now (a .«data»)) (doublewordOf w xs)) _ _ _ _ _ (c .before .before .before .before .before .before .read-doubleword .ensures)
 
 pub read-step-spec : {M : Type 1} → statement M
 read-step-spec =
@@ -63,7 +60,6 @@ read-step-spec =
     part-group-start
     part-group-end
     read-doubleword-requires
-    next-requires
     same-length
     same-length-2
     same-length-3

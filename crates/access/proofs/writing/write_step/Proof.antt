@@ -1,16 +1,16 @@
-use denote.Ref.{now}
-use native.Mathlib.Omega.{arith}
-use mathlib.Core.Path.{refl}
-use Prim.Native.Nat.{_+_, _*_}
-use mathlib.Core.List.{List}
-use Rattle.bus.specs.Parity.{memory}
-use Rattle.directory.specs.Ways.{lookupIn}
-use Rattle.doubleword.specs.declared.change.Wanted.{Wanted}
-use Rattle.doubleword.specs.Doubleword.{writeDone}
-use Rattle.doubleword.specs.Moves.{doublewordOf}
-use Prim.Native.Nat.{ℕ}
+use Rattle.access.proofs.Walking.{path-more, group-is, group-length, walk-spot, write-step-left}
 use Rattle.doubleword.proofs.Doublewords.{writes-below}
-use Rattle.access.proofs.Walking.{path-more, group-is, group-length, walk-spot, walk-steps, write-step-left}
+use Prim.Native.Nat.{ℕ}
+use Rattle.doubleword.specs.Moves.{doublewordOf}
+use Rattle.doubleword.specs.Doubleword.{writeDone}
+use Rattle.doubleword.specs.declared.change.Wanted.{Wanted}
+use Rattle.directory.specs.Ways.{lookupIn}
+use Rattle.bus.specs.Parity.{memory}
+use mathlib.Core.List.{List}
+use Prim.Native.Nat.{_+_, _*_}
+use mathlib.Core.Path.{refl}
+use native.Mathlib.Omega.{arith}
+use denote.Ref.{now}
 use borrow.Author.Needs.{needs}
 use Rattle.access.proofs.writing.write_step.Statement.{statement}
 use Rattle.access.proofs.writing.write_step.Tie as tie
@@ -36,23 +36,20 @@ part-group-end c = search needs
 write-doubleword-requires : tie.Need-write-doubleword-requires
 write-doubleword-requires c κs = let a = c .before .before .before .before .before .before .before .before .before .before .before .before .before .args in let s = walk-spot _ _ _ _ _ _ _ _ _ _ _ (c .before .before .before .before .before .before .before .before .before .before .before .before .before .pre .0) (c .before .before .before .before .before .before .wanted .ensures) (c .before .before .before .before .before .before .before .before .before .before .before .before .before .pre .1) refl refl (group-length (now (a .answers)) (a .walk .group * 16) (a .walk .group * 16 + 16) refl (omega (arith, path-more _ _ _ _ _ _ _ (c .before .before .before .before .before .before .before .before .before .before .before .before .before .pre .1) (c .before .before .before .before .before .before .before .before .before .before .before .before .before .pre .0), c .before .before .before .before .before .before .before .before .before .before .before .before .before .pre .1 .served))) in (s .0, c .before .before .before .before .before .before .before .before .before .before .before .before .before .pre .1 .lines, s .1)
 
-next-requires : tie.Need-next-requires
-next-requires c κs = let s = walk-steps _ _ _ _ _ _ _ _ _ (c .before .before .before .before .before .before .before .before .before .before .before .before .before .before .before .before .before .before .before .before .before .before .pre .0) (c .before .before .before .before .before .before .before .before .before .before .before .before .before .before .before .wanted .ensures) (c .before .before .before .before .before .before .before .before .write-doubleword .ensures .most) (c .before .before .before .before .before .before .before .before .before .before .before .before .before .before .before .before .before .before .before .before .before .before .pre .1) in (s .count, s .address, s .group, s .place, s .left, s .records, s .made)
-
 same-length : tie.Need-same-length
-same-length c = c .before .before .before .before .before .before .before .before .before .write-doubleword .kept .1 .1 .1 .0
+same-length c = c .before .before .before .before .before .before .before .before .write-doubleword .kept .1 .1 .1 .0
 
 same-length-2 : tie.Need-same-length-2
-same-length-2 c = c .before .before .before .before .before .before .before .before .before .write-doubleword .kept .1 .1 .1 .1 .0
+same-length-2 c = c .before .before .before .before .before .before .before .before .write-doubleword .kept .1 .1 .1 .1 .0
 
 same-length-3 : tie.Need-same-length-3
-same-length-3 c = c .before .before .before .before .before .before .before .before .before .write-doubleword .kept .1 .1 .1 .1 .1 .0
+same-length-3 c = c .before .before .before .before .before .before .before .before .write-doubleword .kept .1 .1 .1 .1 .1 .0
 
 same-length-4 : tie.Need-same-length-4
-same-length-4 c = c .before .before .before .before .before .before .before .before .before .write-doubleword .kept .1 .1 .1 .1 .1 .1 .1 .0
+same-length-4 c = c .before .before .before .before .before .before .before .before .write-doubleword .kept .1 .1 .1 .1 .1 .1 .1 .0
 
 returns : tie.Need-returns
-returns c = let a = c .before .before .before .before .before .before .before .before .before .before .before .before .before .before .before .before .before .before .before .before .before .before .before .args in write-step-left _ _ _ _ (c .before .before .before .before .before .before .before .before .before .before .before .before .before .before .before .before .wanted .ensures) (group-is (now (a .answers)) (a .walk .group * 16) (a .walk .group * 16 + 16) refl) _ _ (c .next .ensures) (writes-below _ _ _ _ _ _ _ (c .before .before .before .before .before .before .before .before .before .write-doubleword .ensures)) (λ (w : Wanted) (xs : List ℕ). writeDone (lookupIn (now (a .tags)) (now (a .valid)) (w .line)) (a .stays) (memory (now (a .ram)) (now (a .parity))) (now (a .«data»)) (now (a .operand)) (doublewordOf w xs)) _ _ _ _ (c .before .before .before .before .before .before .before .before .before .write-doubleword .ensures)
+returns c = let a = c .before .before .before .before .before .before .before .before .before .before .before .before .before .before .before .before .before .before .before .before .before .before .args in write-step-left _ _ _ _ (c .before .before .before .before .before .before .before .before .before .before .before .before .before .before .before .wanted .ensures) (group-is (now (a .answers)) (a .walk .group * 16) (a .walk .group * 16 + 16) refl) _ (writes-below _ _ _ _ _ _ _ (c .before .before .before .before .before .before .before .before .write-doubleword .ensures)) (λ (w : Wanted) (xs : List ℕ). writeDone (lookupIn (now (a .tags)) (now (a .valid)) (w .line)) (a .stays) (memory (now (a .ram)) (now (a .parity))) (now (a .«data»)) (now (a .operand)) (doublewordOf w xs)) _ _ _ _ (c .before .before .before .before .before .before .before .before .write-doubleword .ensures)
 
 pub write-step-spec : {M : Type 1} → statement M
 write-step-spec =
@@ -65,7 +62,6 @@ write-step-spec =
     part-group-start
     part-group-end
     write-doubleword-requires
-    next-requires
     same-length
     same-length-2
     same-length-3
