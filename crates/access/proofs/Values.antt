@@ -9,18 +9,14 @@ use lib.Seq.{sets}
 use Rattle.laws.proofs.Tests.{by-test}
 use Rattle.directory.specs.declared.ways.Found.{Found}
 use Rattle.directory.specs.declared.ways.Found.the-variants.{At, Nothing}
-use Rattle.bus.specs.Bytes.{bytesAt, valueOf}
+use Rattle.bus.specs.Bytes.{valueOf}
+use Rattle.bus.proofs.Places.{bytes-length}
 use Rattle.bus.specs.Parity.{Memory}
 use Rattle.bus.specs.Bus.{ken}
 use Rattle.bus.specs.Groups.{group}
 use Rattle.doubleword.specs.Doubleword.{Doubleword, doublewordsOf, readDone, readHit, readFill, readPlain}
 use Rattle.doubleword.proofs.Doublewords.{read-memory}
 use Rattle.access.specs.Access.{State, readOne, allOf}
-
-pub bytes-length : (l : List ℕ) (i n : ℕ) → length (bytesAt l i n) ≡ n
-unfolding bytesAt
-bytes-length l i zero = refl
-bytes-length l i (suc n) = ap suc (bytes-length l (suc i) n)
 
 -- a doubleword of a read gives its wanted bytes
 read-length : (f : Found) (victim : ℕ) (may : Bool) (m : Memory) (array : List ℕ) (w : Doubleword) →

@@ -7,6 +7,7 @@ use native.Mathlib.Nat.{zero-add, add-zero, suc-add}
 use lib.ListN.{length, getD, set, length-set}
 use lib.Seq.{sets, getD-set-same, getD-set-other}
 use Rattle.bus.specs.Bytes.{bytesAt, bytesOf}
+use Rattle.bus.proofs.Places.{sets-below}
 
 pub bytes-split : (l : List ℕ) (i m n : ℕ) → bytesAt l i (m + n) ≡ bytesAt l i m ++ bytesAt l (i + m) n
 unfolding bytesAt
@@ -14,13 +15,6 @@ bytes-split l i zero n = rw (zero-add, add-zero)
 bytes-split l i (suc m) n =
     let e : i + suc m ≡ suc i + m = omega arith in
     rw (suc-add m n, e) (ap {B = List ℕ} (λ r. getD l i 0 ∷ r) (bytes-split l (suc i) m n))
-
--- a byte of those read
-pub bytes-at : (l : List ℕ) (i n o : ℕ) → o < n → getD (bytesAt l i n) o 0 ≡ getD l (i + o) 0
-unfolding bytesAt
-bytes-at l i zero o h = absurd (omega arith)
-bytes-at l i (suc n) zero h = rw (add-zero i)
-bytes-at l i (suc n) (suc o) h = let e : i + suc o ≡ suc i + o = omega arith in rw e (bytes-at l (suc i) n o (omega arith))
 
 -- bytes that are the same one by one
 pub bytes-same : (x y : List ℕ) (j k n : ℕ) → ((o : ℕ) → o < n → getD x (j + o) 0 ≡ getD y (k + o) 0) → bytesAt x j n ≡ bytesAt y k n
@@ -33,24 +27,6 @@ bytes-same x y j k (suc n) h =
     let d : suc k + o ≡ k + suc o = omega arith in
     rw (c, d) (h (suc o) (omega arith))) in
     rw (a, b)
-
--- below and above what is put in, nothing changes
-pub sets-below : (l : List ℕ) (i : ℕ) (x : List ℕ) (k : ℕ) → k < i → getD (sets l i x) k 0 ≡ getD l k 0
-sets-below l i [] k h = refl
-sets-below l i (b ∷ x) k h = sets-below (set l i b) (suc i) x k (omega arith) ∙ getD-set-other l i k b 0 (λ e. omega arith)
-
-pub sets-above : (l : List ℕ) (i : ℕ) (x : List ℕ) (k : ℕ) → i + length x ≤ k → getD (sets l i x) k 0 ≡ getD l k 0
-sets-above l i [] k h = refl
-sets-above l i (b ∷ x) k h = sets-above (set l i b) (suc i) x k (omega arith) ∙ getD-set-other l i k b 0 (λ e. omega arith)
-
--- what is put in is there
-pub sets-in : (l : List ℕ) (i : ℕ) (x : List ℕ) (o : ℕ) → o < length x → i + o < length l → getD (sets l i x) (i + o) 0 ≡ getD x o 0
-sets-in l i [] o h b = absurd (omega arith)
-sets-in l i (v ∷ x) zero h b =
-    rw (add-zero i) (sets-below (set l i v) (suc i) x i (omega arith) ∙ getD-set-same l i v 0 (omega arith))
-sets-in l i (v ∷ x) (suc o) h b =
-    let e : i + suc o ≡ suc i + o = omega arith in
-    rw e (sets-in (set l i v) (suc i) x o (omega arith) (rw length-set (omega arith)))
 
 bytes-none : (l : List ℕ) (i : ℕ) → bytesAt l i 0 ≡ []
 unfolding bytesAt

@@ -19,7 +19,8 @@ use Rattle.bus.specs.Parity.{Agrees}
 use Rattle.doubleword.specs.Doubleword.{slotOf}
 use Rattle.access.specs.Access.{State}
 use Rattle.access.proofs.Accepted.{GoodMemory}
-use Rattle.agreement.proofs.Bytes.{bytes-same, sets-below, sets-above, sets-in}
+use Rattle.bus.proofs.Places.{sets-below, sets-above, sets-in}
+use Rattle.agreement.proofs.Bytes.{bytes-same}
 
 -- the address of a line, by its set and tag
 abbrev pub addressOf : ℕ → ℕ → ℕ

@@ -6,6 +6,7 @@ use mathlib.Core.List.{List, [], _∷_}
 use native.Mathlib.Omega.{arith}
 use lib.ListN.{getD, drop, replicate, length-replicate}
 use Rattle.laws.proofs.Below.{four}
+use Rattle.bus.proofs.Places.{zeros-at}
 use Rattle.bus.specs.Parity.{memory, Agrees, dpAt, laneBit, dpOf, onesOf}
 use Rattle.access.specs.Access.{State}
 use Rattle.access.specs.Board.{boardAnswers}
@@ -74,11 +75,6 @@ rows-agree (line ∷ lines) s m event c n =
     rw (g .numbers, g .values, rows-agree lines (stateAfter (lineDone s line)) (plainLine m line .memory) (suc event) (g .coherent) (n .1))
 
 -- zeros have parity that agrees
-zeros-at : (n i : ℕ) → _≡_ {A = ℕ} (getD (replicate n 0) i 0) 0
-zeros-at zero i = refl
-zeros-at (suc n) zero = refl
-zeros-at (suc n) (suc i) = zeros-at n i
-
 no-bit : (lane : ℕ) → lane < 4 → laneBit 0 lane ≡ dpOf 0
 unfolding laneBit dpOf onesOf
 no-bit = four (λ k. laneBit 0 k ≡ dpOf 0) refl refl refl refl

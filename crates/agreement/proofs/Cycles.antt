@@ -18,8 +18,8 @@ use Rattle.bus.specs.Parity.{Memory, stored, Agrees}
 use Rattle.bus.specs.Bus.{Run, run, sizeOf, left, Cycle, cyclesOf, burst, through, brought, sent}
 use Rattle.bus.specs.Record.{Record, lanesOf, flagsOf, readRecord, writeRecord, writing, wordsOf, logged}
 use Rattle.bus.proofs.Sizing.{size-some, size-most}
-use Rattle.access.proofs.Values.{bytes-length}
-use Rattle.agreement.proofs.Bytes.{bytes-split, bytes-at, bytes-same, sets-below, sets-above, sets-in, bytes-sets}
+use Rattle.bus.proofs.Places.{bytes-at, bytes-length, sets-above, sets-below, sets-in}
+use Rattle.agreement.proofs.Bytes.{bytes-split, bytes-same, bytes-sets}
 use Rattle.agreement.proofs.Memories.{stored-append, never-wrong}
 
 -- bytes of one doubleword of a line

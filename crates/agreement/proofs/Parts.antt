@@ -9,7 +9,7 @@ use Rattle.laws.proofs.Lists.{sets-append}
 use Rattle.bus.specs.Bytes.{bytesAt}
 use Rattle.bus.specs.Groups.{group}
 use Rattle.doubleword.specs.Doubleword.{Doubleword, doublewordsOf}
-use Rattle.access.proofs.Values.{bytes-length}
+use Rattle.bus.proofs.Places.{bytes-length}
 use Rattle.agreement.proofs.Bytes.{bytes-split}
 use Rattle.agreement.proofs.Cycles.{Within}
 

@@ -22,8 +22,8 @@ use Rattle.bus.specs.Record.{plainRead, filling}
 use Rattle.doubleword.specs.declared.change.Change.the-variants.{Keep, Fill}
 use Rattle.doubleword.specs.Doubleword.{Doubleword, Done, changed, slotOf, ownCycles, fillCycles, bufferOf, readHit, readPlain, readFill, readDone}
 use Rattle.access.specs.Access.{State, state, Progress, readOne, next, allOf}
-use Rattle.access.proofs.Values.{bytes-length}
-use Rattle.agreement.proofs.Bytes.{bytes-at, bytes-same}
+use Rattle.bus.proofs.Places.{bytes-at, bytes-length}
+use Rattle.agreement.proofs.Bytes.{bytes-same}
 use Rattle.agreement.proofs.Cycles.{Sound, sound-append, sound-reads, cycles-within, burst-each, fill-buffer, own-bytes}
 use Rattle.agreement.proofs.Coherence.{Lines, Off, Coherent, fewer-lines, held-bytes, filled-lines}
 use Rattle.agreement.proofs.Parts.{Proper, EachProper, wantedOf, allWanted}

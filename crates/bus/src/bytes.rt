@@ -1,7 +1,7 @@
 // Bytes moved between buffers, and as numbers.
 ghost use mathlib.Core.Path.{_≡_};
-ghost use Prim.Native.Nat.{_+_, _≤_};
-ghost use lib.ListN.{length};
+ghost use Prim.Native.Nat.{_+_, _≤_, _<_};
+ghost use lib.ListN.{getD, length, replicate};
 ghost use lib.Seq.{sets};
 ghost use Rattle.bus.specs.Bytes.{bytesAt, bytesOf, valueOf, wordIn};
 
@@ -17,14 +17,19 @@ pub fn copy_bytes(src: &[u8], s: usize, dst: &mut [u8], d: usize, count: usize)
     }
 }
 
+// All four are loaded before one is stored, so that they can move as one word.
 fn copy_four(src: &[u8], s: usize, dst: &mut [u8], d: usize)
     requires { ⌜ (s + 4 ≤ length (now src)) × (d + 4 ≤ length (now dst)) ⌝ }
     ensures { λ _. ⌜ now (dst .exit) ≡ sets (now (dst .entry)) d (bytesAt (now (src .entry)) s 4) ⌝ }
 {
-    dst[d] = src[s];
-    dst[d + 1] = src[s + 1];
-    dst[d + 2] = src[s + 2];
-    dst[d + 3] = src[s + 3];
+    let lowest = src[s];
+    let second = src[s + 1];
+    let third = src[s + 2];
+    let highest = src[s + 3];
+    dst[d] = lowest;
+    dst[d + 1] = second;
+    dst[d + 2] = third;
+    dst[d + 3] = highest;
 }
 
 fn copy_each(src: &[u8], s: usize, dst: &mut [u8], d: usize, count: usize)
@@ -45,14 +50,31 @@ pub fn word_of(lanes: [u8; 4]) -> u32
     lanes[0] as u32 + 256 * lanes[1] as u32 + 65536 * lanes[2] as u32 + 16777216 * lanes[3] as u32
 }
 
-// The doubleword that has some bytes from a lane on, and 0 in the other lanes.
+// The byte that a lane of a doubleword has, of so many bytes from a lane on; 0 in the other lanes.
+fn byte_in(src: &[u8], at: usize, lane: usize, count: usize, of: usize) -> u8
+    requires { ⌜ (at + count ≤ length (now src)) × (lane + count ≤ 4) × (of < 4) ⌝ }
+    ensures { λ r. ⌜ r ≡ getD (sets (replicate 4 0) lane (bytesAt (now (src .entry)) at count)) of 0 ⌝ }
+{
+    if of < lane {
+        return 0;
+    }
+    if lane + count <= of {
+        return 0;
+    }
+    src[at + (of - lane)]
+}
+
+// The doubleword that has some bytes from a lane on, and 0 in the other lanes. It is put together from bytes in registers: a
+// word loaded from where bytes were just stored would wait for them.
 pub fn lane_word(src: &[u8], at: usize, lane: usize, count: usize) -> u32
     requires { ⌜ (at + count ≤ length (now src)) × (lane + count ≤ 4) ⌝ }
     ensures { λ r. ⌜ r ≡ wordIn lane (bytesAt (now (src .entry)) at count) ⌝ }
 {
-    let mut lanes = [0u8; 4];
-    copy_bytes(src, at, &mut lanes, lane, count);
-    word_of(lanes)
+    let lowest = byte_in(src, at, lane, count, 0);
+    let second = byte_in(src, at, lane, count, 1);
+    let third = byte_in(src, at, lane, count, 2);
+    let highest = byte_in(src, at, lane, count, 3);
+    lowest as u32 + 256 * second as u32 + 65536 * third as u32 + 16777216 * highest as u32
 }
 
 // The four bytes of a number, the lowest first.

@@ -17,7 +17,7 @@ use Rattle.directory.specs.Ways.{lookupIn}
 use Rattle.bus.specs.Bytes.{bytesAt}
 use Rattle.doubleword.specs.Doubleword.{slotOf}
 use Rattle.access.specs.Refusal.{orElse, viewInputNumber}
-use Rattle.access.proofs.Values.{bytes-length}
+use Rattle.bus.proofs.Places.{bytes-length}
 use Rattle.access.proofs.Accepted.{or-zero, zero-or, first-or, GoodView, view-accepted}
 use Rattle.views.specs.View.{viewNumberIn, shown, viewIn}
 
