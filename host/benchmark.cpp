@@ -60,7 +60,8 @@ struct Bench {
 
     bool same_as(const Bench &other) const
     {
-        return sum == other.sum && cycles == other.cycles && ram == other.ram && parity == other.parity && data == other.data &&
+        return sum == other.sum && cycles == other.cycles && ram == other.ram && parity == other.parity &&
+               data == other.data &&
                std::memcmp(&directory, &other.directory, offsetof(unit486_directory, nw) + 1) == 0 &&
                std::memcmp(log, other.log, sizeof log) == 0;
     }
@@ -85,9 +86,15 @@ struct Library {
         return unit486_line_view(&bench.directory, &bench.lent, address, shown);
     }
     static uint32_t snoop(Bench &bench, uint32_t address) { return unit486_snoop(&bench.directory, address); }
-    static uint32_t drop_line(Bench &bench, uint32_t address) { return unit486_drop_line(&bench.directory, address); }
+    static uint32_t drop_line(Bench &bench, uint32_t address)
+    {
+        return unit486_drop_line(&bench.directory, address);
+    }
     static void flush(Bench &bench) { unit486_flush(&bench.directory); }
-    static uint32_t control(Bench &bench, bool cd) { return unit486_set_control(&bench.directory, cd, false); }
+    static uint32_t control(Bench &bench, bool cd)
+    {
+        return unit486_set_control(&bench.directory, cd, false).number;
+    }
     static size_t run(const std::string &text, std::vector<uint8_t> &output)
     {
         return unit486_run(
@@ -112,8 +119,14 @@ struct Baseline {
     {
         return baseline::view(bench.directory, bench.lent, address, shown);
     }
-    static uint32_t snoop(Bench &bench, uint32_t address) { return baseline::snoop(bench.directory, address); }
-    static uint32_t drop_line(Bench &bench, uint32_t address) { return baseline::snoop(bench.directory, address); }
+    static uint32_t snoop(Bench &bench, uint32_t address)
+    {
+        return baseline::snoop(bench.directory, address);
+    }
+    static uint32_t drop_line(Bench &bench, uint32_t address)
+    {
+        return baseline::snoop(bench.directory, address);
+    }
     static void flush(Bench &bench) { baseline::flush(bench.directory); }
     static uint32_t control(Bench &bench, bool cd) { return baseline::control(bench.directory, cd, false); }
     static size_t run(const std::string &text, std::vector<uint8_t> &output)
@@ -178,9 +191,8 @@ template <class Turn> void row(const char *name, uint32_t cycles, Turn turn, uin
     const Times times = time_both([&] { turn(library, Library{}); }, [&] { turn(plain, Baseline{}); });
     require(library.same_as(plain), name);
     require(plain.cycles == uint64_t{cycles} * calls * (turns + 1), name);
-    std::printf(
-        "| %-44s | %9.1f | %9.1f | %6.2f |\n", name, times.library / calls * 1e9, times.plain / calls * 1e9,
-        times.ratio);
+    std::printf("| %-44s | %9.1f | %9.1f | %6.2f |\n", name, times.library / calls * 1e9,
+        times.plain / calls * 1e9, times.ratio);
 }
 
 // Addresses of held doublewords in random order, the same for both sides.
@@ -262,7 +274,8 @@ void master_rows()
             uint8_t bytes[UNIT486_LINE_BYTES];
             for (uint32_t k = 0; k < calls; ++k) {
                 std::memset(bytes, static_cast<int>(k), sizeof bytes);
-                bench.sum += side.external_write(bench, UNIT486_DATA_BYTES + k * 16 % UNIT486_DATA_BYTES, bytes, length);
+                bench.sum += side.external_write(
+                    bench, UNIT486_DATA_BYTES + k * 16 % UNIT486_DATA_BYTES, bytes, length);
             }
         };
     };
@@ -318,8 +331,8 @@ void program_row()
         [&] { lengths[0] = Library::run(text, library); }, [&] { lengths[1] = Baseline::run(text, plain); });
     require(lengths[0] == lengths[1] && library == plain, "event program");
     std::printf("\nThe event program on %zu events (%zu bytes):\n\n", events, text.size());
-    std::printf("| %-44s | %9.0f | %9.0f | %6.2f |\n", "events per second; ratio of times", events / times.library,
-                events / times.plain, times.ratio);
+    std::printf("| %-44s | %9.0f | %9.0f | %6.2f |\n", "events per second; ratio of times",
+        events / times.library, events / times.plain, times.ratio);
 }
 
 } // namespace

@@ -9,19 +9,19 @@
 #include <cstdio>
 #include <cstdlib>
 
-#include "differential/sessions.h"
+#include "differential/series.h"
 
 int main(int count, char **words)
 {
     const uint64_t calls = count > 1 ? std::strtoull(words[1], nullptr, 10) : 2000000;
     const uint64_t seed = count > 2 ? std::strtoull(words[2], nullptr, 10) : 1;
     Coverage coverage;
-    Sessions sessions(seed, coverage);
-    sessions.large(200);
+    Series series(seed, coverage);
+    series.large(200);
     while (coverage.calls < calls) {
-        sessions.hot(3000);
-        sessions.hostile(1500);
-        sessions.events(60);
+        series.hot(3000);
+        series.hostile(1500);
+        series.events(60);
     }
     const bool met = coverage.report();
     std::printf("%" PRIu64 " calls, seed %" PRIu64 ": no difference\n", coverage.calls, seed);

@@ -161,7 +161,8 @@ struct Player {
     void print_call(char letter, std::istringstream &line)
     {
         const unit486_result result = call(letter, line);
-        std::printf("%c\t%" PRIu32 "\t%" PRIu32 "\t%" PRIu32, letter, result.number, result.value, result.cycles);
+        std::printf(
+            "%c\t%" PRIu32 "\t%" PRIu32 "\t%" PRIu32, letter, result.number, result.value, result.cycles);
         for (size_t k = 0; k < 3 * result.cycles; ++k)
             std::printf("\t%" PRIu32, log[k]);
         print_digests();

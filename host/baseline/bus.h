@@ -77,9 +77,8 @@ inline bool fill_cycles(
 
 // "Write: to RAM and the moved lanes' parity". The cycles together move all wanted lanes, so RAM and
 // parity are written once.
-inline void write_cycles(
-    const unit486_buffers &lent, uint32_t address, unsigned wanted, uint32_t word, const uint8_t *answers,
-    Records &records)
+inline void write_cycles(const unit486_buffers &lent, uint32_t address, unsigned wanted, uint32_t word,
+    const uint8_t *answers, Records &records)
 {
     store_lanes(lent.ram + address, wanted, word);
     store_parity(lent.parity[address / 4], wanted, word);

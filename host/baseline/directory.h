@@ -29,9 +29,8 @@ inline unsigned find(const Directory &directory, uint32_t address)
     const uint32_t tag = tag_of(address);
     const uint32_t *t = directory.tags + place_of(set_of(address), 0);
     const bool *v = directory.valid + place_of(set_of(address), 0);
-    return lowest(
-        (v[0] & (t[0] == tag)) | (v[1] & (t[1] == tag)) << 1 | (v[2] & (t[2] == tag)) << 2 |
-        (v[3] & (t[3] == tag)) << 3);
+    return lowest((v[0] & (t[0] == tag)) | (v[1] & (t[1] == tag)) << 1 | (v[2] & (t[2] == tag)) << 2 |
+                  (v[3] & (t[3] == tag)) << 3);
 }
 
 // "Use of way 0 sets B0 and B1; way 1 sets B0, clears B1; way 2 clears B0, sets B2; way 3 clears B0 and

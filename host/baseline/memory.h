@@ -12,9 +12,11 @@ static_assert(__BYTE_ORDER__ == __ORDER_LITTLE_ENDIAN__, "doublewords are moved 
 constexpr unsigned all_lanes = 15;
 
 // The bits of a doubleword that a mask of lanes names.
+// clang-format off
 constexpr uint32_t lane_bits[16] = {
     0x00000000, 0x000000ff, 0x0000ff00, 0x0000ffff, 0x00ff0000, 0x00ff00ff, 0x00ffff00, 0x00ffffff,
     0xff000000, 0xff0000ff, 0xff00ff00, 0xff00ffff, 0xffff0000, 0xffff00ff, 0xffffff00, 0xffffffff};
+// clang-format on
 
 inline uint32_t load(const uint8_t *from)
 {

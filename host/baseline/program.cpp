@@ -17,8 +17,8 @@ struct Event {
     char letter = 0;
     uint32_t address = 0;
     uint32_t width = 0;
-    uint32_t value = 0; // of a write
-    bool first = false; // PCD or CD
+    uint32_t value = 0;  // of a write
+    bool first = false;  // PCD or CD
     bool second = false; // NW
     uint8_t bytes[pairs_limit];
     size_t length = 0;
@@ -88,15 +88,11 @@ static bool fields_of(Scanner &scan, Event &event)
     case 'X':
         return scan.tab() && scan.number(event.address) && scan.tab() &&
                scan.pairs(event.bytes, event.length);
-    case 'S':
-        return scan.tab() && scan.number(event.address);
-    case 'C':
-        return scan.tab() && scan.bit(event.first) && scan.tab() && scan.bit(event.second);
+    case 'S': return scan.tab() && scan.number(event.address);
+    case 'C': return scan.tab() && scan.bit(event.first) && scan.tab() && scan.bit(event.second);
     case 'F':
-    case 'Z':
-        return true;
-    default:
-        return false;
+    case 'Z': return true;
+    default: return false;
     }
 }
 
@@ -141,22 +137,13 @@ struct Machine {
     {
         switch (event.letter) {
         case 'R':
-        case 'W':
-            return access(event);
-        case 'X':
-            return {external(event), 0, 0};
-        case 'S':
-            return {snoop(directory, event.address), 0, 0};
-        case 'F':
-            flush(directory);
-            return {0, 0, 0};
-        case 'C':
-            return {control(directory, event.first, event.second), 0, 0};
-        case 'Z':
-            reset(directory);
-            return {0, 0, 0};
-        default:
-            return {11, 0, 0};
+        case 'W': return access(event);
+        case 'X': return {external(event), 0, 0};
+        case 'S': return {snoop(directory, event.address), 0, 0};
+        case 'F': flush(directory); return {0, 0, 0};
+        case 'C': return {control(directory, event.first, event.second), 0, 0};
+        case 'Z': reset(directory); return {0, 0, 0};
+        default: return {11, 0, 0};
         }
     }
 };

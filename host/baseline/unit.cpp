@@ -46,9 +46,8 @@ static uint8_t *held_at(const unit486_buffers &lent, unsigned place, uint32_t ad
 // "Read miss: a fill when CD = 0, PCD = 0 and the first cycle has KEN#. Otherwise the wanted bytes only."
 // A fill brings in RAM's line as it stands, so what the cycles brought is read from RAM. Apart from
 // read_doubleword, which stays short for hits.
-[[gnu::noinline]] static uint32_t read_miss(
-    Directory &directory, const unit486_buffers &lent, uint32_t address, unsigned wanted, bool may_fill,
-    const uint8_t *answers, Records &records)
+[[gnu::noinline]] static uint32_t read_miss(Directory &directory, const unit486_buffers &lent,
+    uint32_t address, unsigned wanted, bool may_fill, const uint8_t *answers, Records &records)
 {
     if (!may_fill || !(answers[0] & UNIT486_KEN)) {
         read_cycles(lent, address, wanted, answers, records);
@@ -62,9 +61,8 @@ static uint8_t *held_at(const unit486_buffers &lent, unsigned place, uint32_t ad
 
 // One doubleword of a read: its wanted lanes. "Read hit: from the data array, no cycle, whatever CD and
 // PCD are."
-static uint32_t read_doubleword(
-    Directory &directory, const unit486_buffers &lent, uint32_t address, unsigned wanted, bool may_fill,
-    const uint8_t *answers, Records &records)
+static uint32_t read_doubleword(Directory &directory, const unit486_buffers &lent, uint32_t address,
+    unsigned wanted, bool may_fill, const uint8_t *answers, Records &records)
 {
     const unsigned way = find(directory, address);
     if (way == no_way)
@@ -75,14 +73,10 @@ static uint32_t read_doubleword(
 }
 
 // The wanted lanes of an access: 0 to 3 in the lower doubleword, 4 to 7 in the upper one.
-static unsigned wanted_lanes(uint32_t address, uint32_t width)
-{
-    return ((1u << width) - 1) << address % 4;
-}
+static unsigned wanted_lanes(uint32_t address, uint32_t width) { return ((1u << width) - 1) << address % 4; }
 
-unit486_result read(
-    Directory &directory, const unit486_buffers &lent, uint32_t address, uint32_t width, bool pcd,
-    const unit486_board &board)
+unit486_result read(Directory &directory, const unit486_buffers &lent, uint32_t address, uint32_t width,
+    bool pcd, const unit486_board &board)
 {
     uint32_t number = access_number(lent, address, width, board);
     if (number == 0)
@@ -107,9 +101,8 @@ unit486_result read(
 
 // One doubleword of a write. "A miss never fills. With CD = NW = 1 a hit changes the data array and, as
 // a use, the LRU number; RAM and parity stay, with no cycle."
-static void write_doubleword(
-    Directory &directory, const unit486_buffers &lent, uint32_t address, unsigned wanted, uint32_t word,
-    const uint8_t *answers, Records &records)
+static void write_doubleword(Directory &directory, const unit486_buffers &lent, uint32_t address,
+    unsigned wanted, uint32_t word, const uint8_t *answers, Records &records)
 {
     const unsigned way = find(directory, address);
     if (way != no_way) {
@@ -122,9 +115,8 @@ static void write_doubleword(
     write_cycles(lent, address, wanted, word, answers, records);
 }
 
-unit486_result write(
-    Directory &directory, const unit486_buffers &lent, uint32_t address, uint32_t width, uint32_t value,
-    const unit486_board &board)
+unit486_result write(Directory &directory, const unit486_buffers &lent, uint32_t address, uint32_t width,
+    uint32_t value, const unit486_board &board)
 {
     uint32_t number = access_number(lent, address, width, board);
     if (number == 0)

@@ -12,12 +12,10 @@ uint32_t control(Directory &directory, bool cd, bool nw);
 void flush(Directory &directory);
 uint32_t snoop(Directory &directory, uint32_t address);
 
-unit486_result read(
-    Directory &directory, const unit486_buffers &lent, uint32_t address, uint32_t width, bool pcd,
-    const unit486_board &board);
-unit486_result write(
-    Directory &directory, const unit486_buffers &lent, uint32_t address, uint32_t width, uint32_t value,
-    const unit486_board &board);
+unit486_result read(Directory &directory, const unit486_buffers &lent, uint32_t address, uint32_t width,
+    bool pcd, const unit486_board &board);
+unit486_result write(Directory &directory, const unit486_buffers &lent, uint32_t address, uint32_t width,
+    uint32_t value, const unit486_board &board);
 uint32_t external_write(
     Directory &directory, const unit486_buffers &lent, uint32_t address, const uint8_t *bytes, size_t length);
 

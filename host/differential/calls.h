@@ -24,8 +24,8 @@ enum class Kind {
 
 constexpr size_t kinds = 12;
 
-constexpr const char *kind_names[kinds] = {"reset", "control", "flush", "snoop",       "drop_line",     "external_write",
-                                           "read",  "write",   "view",  "view_number", "board_answers", "run"};
+constexpr const char *kind_names[kinds] = {"reset", "control", "flush", "snoop", "drop_line",
+    "external_write", "read", "write", "view", "view_number", "board_answers", "run"};
 
 // The arguments that are not lent; each call takes those that it receives.
 struct Call {
@@ -38,11 +38,8 @@ struct Call {
     bool nw = false;
 };
 
-inline unit486_result keep(unit486_directory &directory, const unit486_outcome &outcome)
-{
-    directory = outcome.directory;
-    return {outcome.number, outcome.value, outcome.cycles};
-}
+// The result of a call that answers a number alone.
+inline unit486_result only(uint32_t number) { return {number, 0, 0}; }
 
 inline unit486_result call_library(Side &side, const Call &call)
 {
@@ -50,30 +47,19 @@ inline unit486_result call_library(Side &side, const Call &call)
     const unit486_board board = side.board();
     unit486_directory *directory = &side.directory;
     switch (call.kind) {
-    case Kind::reset:
-        return keep(side.directory, unit486_reset());
-    case Kind::control:
-        return keep(side.directory, unit486_control(side.directory, call.cd, call.nw));
-    case Kind::flush:
-        unit486_flush(directory);
-        return {0, 0, 0};
-    case Kind::snoop:
-        return {unit486_snoop(directory, call.address), 0, 0};
-    case Kind::drop_line:
-        return {unit486_drop_line(directory, call.address), 0, 0};
+    case Kind::reset: return unit486_start(directory);
+    case Kind::control: return unit486_set_control(directory, call.cd, call.nw);
+    case Kind::flush: unit486_flush(directory); return only(0);
+    case Kind::snoop: return only(unit486_snoop(directory, call.address));
+    case Kind::drop_line: return only(unit486_drop_line(directory, call.address));
     case Kind::external_write:
-        return {unit486_external_write(directory, &lent, call.address, side.bytes.start(), side.bytes.length), 0, 0};
-    case Kind::read:
-        return unit486_read(directory, &lent, call.address, call.width, call.pcd, &board);
-    case Kind::write:
-        return unit486_write(directory, &lent, call.address, call.width, call.value, &board);
-    case Kind::view:
-        return {unit486_line_view(directory, &lent, call.address, side.shown.start()), 0, 0};
-    case Kind::view_number:
-        return {unit486_line_view_number(directory, &lent, call.address), 0, 0};
-    default:
-        unit486_board_answers(call.address, call.width, side.answers.start());
-        return {0, 0, 0};
+        return only(
+            unit486_external_write(directory, &lent, call.address, side.bytes.start(), side.bytes.length));
+    case Kind::read: return unit486_read(directory, &lent, call.address, call.width, call.pcd, &board);
+    case Kind::write: return unit486_write(directory, &lent, call.address, call.width, call.value, &board);
+    case Kind::view: return only(unit486_line_view(directory, &lent, call.address, side.shown.start()));
+    case Kind::view_number: return only(unit486_line_view_number(directory, &lent, call.address));
+    default: unit486_board_answers(call.address, call.width, side.answers.start()); return only(0);
     }
 }
 
@@ -83,30 +69,19 @@ inline unit486_result call_baseline(Side &side, const Call &call)
     const unit486_board board = side.board();
     unit486_directory &directory = side.directory;
     switch (call.kind) {
-    case Kind::reset:
-        baseline::reset(directory);
-        return {0, 0, 0};
-    case Kind::control:
-        return {baseline::control(directory, call.cd, call.nw), 0, 0};
-    case Kind::flush:
-        baseline::flush(directory);
-        return {0, 0, 0};
+    case Kind::reset: baseline::reset(directory); return only(0);
+    case Kind::control: return only(baseline::control(directory, call.cd, call.nw));
+    case Kind::flush: baseline::flush(directory); return only(0);
     case Kind::snoop:
-    case Kind::drop_line:
-        return {baseline::snoop(directory, call.address), 0, 0};
+    case Kind::drop_line: return only(baseline::snoop(directory, call.address));
     case Kind::external_write:
-        return {baseline::external_write(directory, lent, call.address, side.bytes.start(), side.bytes.length), 0, 0};
-    case Kind::read:
-        return baseline::read(directory, lent, call.address, call.width, call.pcd, board);
-    case Kind::write:
-        return baseline::write(directory, lent, call.address, call.width, call.value, board);
-    case Kind::view:
-        return {baseline::view(directory, lent, call.address, side.shown.start()), 0, 0};
-    case Kind::view_number:
-        return {baseline::view_number(directory, lent, call.address), 0, 0};
-    default:
-        baseline::board_answers(call.address, call.width, side.answers.start());
-        return {0, 0, 0};
+        return only(
+            baseline::external_write(directory, lent, call.address, side.bytes.start(), side.bytes.length));
+    case Kind::read: return baseline::read(directory, lent, call.address, call.width, call.pcd, board);
+    case Kind::write: return baseline::write(directory, lent, call.address, call.width, call.value, board);
+    case Kind::view: return only(baseline::view(directory, lent, call.address, side.shown.start()));
+    case Kind::view_number: return only(baseline::view_number(directory, lent, call.address));
+    default: baseline::board_answers(call.address, call.width, side.answers.start()); return only(0);
     }
 }
 
@@ -122,13 +97,12 @@ inline void print_bytes(const char *name, const Lent<uint8_t> &bytes)
 // changes.
 inline void print_call(const Call &call, const Side &side)
 {
-    std::printf(
-        "  %s: address %" PRIu32 " (%#" PRIx32 "), width %" PRIu32 ", value %" PRIu32 ", PCD %d, CD %d, NW %d\n",
-        kind_names[static_cast<size_t>(call.kind)], call.address, call.address, call.width, call.value, call.pcd,
-        call.cd, call.nw);
-    std::printf(
-        "  RAM %zu bytes, parity %zu, data array %zu, log %zu words\n", side.ram.length, side.parity.length,
-        side.data.length, side.log.length);
+    std::printf("  %s: address %" PRIu32 " (%#" PRIx32 "), width %" PRIu32 ", value %" PRIu32
+                ", PCD %d, CD %d, NW %d\n",
+        kind_names[static_cast<size_t>(call.kind)], call.address, call.address, call.width, call.value,
+        call.pcd, call.cd, call.nw);
+    std::printf("  RAM %zu bytes, parity %zu, data array %zu, log %zu words\n", side.ram.length,
+        side.parity.length, side.data.length, side.log.length);
     print_bytes("answers", side.answers);
     print_bytes("bytes of an external write", side.bytes);
 }

@@ -104,7 +104,10 @@ public:
 
     void note(Happening happening, uint64_t times = 1) { met[happening] += times; }
 
-    void note_number(Kind kind, uint32_t number) { ++numbers[static_cast<size_t>(kind)][number < 32 ? number : 31]; }
+    void note_number(Kind kind, uint32_t number)
+    {
+        ++numbers[static_cast<size_t>(kind)][number < 32 ? number : 31];
+    }
 
     // A call that both sides answered alike: the directory before it, and the side after it.
     void note_call(

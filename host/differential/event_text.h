@@ -13,7 +13,8 @@ public:
     {
         std::string made = random.percent(80) ? "C\t0\t0\n" : "";
         const bool long_file = random.below(200) == 0;
-        const size_t target = long_file ? random.between(65535, 65537) : random.below(random.percent(10) ? 20 : 2500);
+        const size_t target =
+            long_file ? random.between(65535, 65537) : random.below(random.percent(10) ? 20 : 2500);
         if (long_file && random.percent(30))
             return std::string(target, '\n');
         while (made.size() < target)
@@ -50,7 +51,8 @@ private:
         if (roll < 68)
             return written();
         if (roll < 82)
-            return "X\t" + number(address()) + "\t" + pairs(random.percent(90) ? random.below(17) : random.below(35));
+            return "X\t" + number(address()) + "\t" +
+                   pairs(random.percent(90) ? random.below(17) : random.below(35));
         if (roll < 91)
             return "S\t" + number(address());
         if (roll < 98)
@@ -79,7 +81,10 @@ private:
         return random.below(8) * 2048 + random.pick({0u, 16u, 2032u}) + random.below(16);
     }
 
-    uint32_t width() { return random.percent(96) ? random.pick({1u, 2u, 4u}) : random.pick({0u, 3u, 5u, 8u, UINT32_MAX}); }
+    uint32_t width()
+    {
+        return random.percent(96) ? random.pick({1u, 2u, 4u}) : random.pick({0u, 3u, 5u, 8u, UINT32_MAX});
+    }
 
     std::string bit() { return random.percent(70) ? "0" : "1"; }
 
@@ -105,13 +110,15 @@ private:
     {
         if (random.percent(20))
             return std::string(random.between(79, 300), 'R');
-        return "X\t" + std::to_string(random.pick({0u, 10u, 100u, 1000u})) + "\t" + pairs(random.between(34, 40));
+        return "X\t" + std::to_string(random.pick({0u, 10u, 100u, 1000u})) + "\t" +
+               pairs(random.between(34, 40));
     }
 
     // A field that is malformed in one of the ways which the rules name.
     std::string wrong_field()
     {
-        const char *field = random.pick({"", "4294967296", "9999999999", "00000000000", "-1", "+1", " 1", "1 ", "0x1"});
+        const char *field =
+            random.pick({"", "4294967296", "9999999999", "00000000000", "-1", "+1", " 1", "1 ", "0x1"});
         switch (random.below(6)) {
         case 0: return std::string("R\t") + field + "\t4\t0";
         case 1: return std::string("W\t0\t4\t") + field;

@@ -30,13 +30,14 @@ public:
     // The index of the first element that differs, counted from the lent start; empty if none does.
     std::string difference(const Lent &other) const
     {
-        if (all.size() == other.all.size() && std::memcmp(all.data(), other.all.data(), all.size() * sizeof(T)) == 0)
+        if (all.size() == other.all.size() &&
+            std::memcmp(all.data(), other.all.data(), all.size() * sizeof(T)) == 0)
             return "";
         for (size_t k = 0; k < all.size(); ++k)
             if (all[k] != other.all[k])
-                return "element " + std::to_string(static_cast<long>(k) - static_cast<long>(margin)) + " of " +
-                       std::to_string(length) + ": library " + std::to_string(all[k]) + ", baseline " +
-                       std::to_string(other.all[k]);
+                return "element " + std::to_string(static_cast<long>(k) - static_cast<long>(margin)) +
+                       " of " + std::to_string(length) + ": library " + std::to_string(all[k]) +
+                       ", baseline " + std::to_string(other.all[k]);
         return "lengths";
     }
 
@@ -65,8 +66,8 @@ inline std::string directory_difference(const unit486_directory &library, const 
         return "";
     for (size_t k = 0; k < UNIT486_LINES; ++k) {
         if (library.tags[k] != baseline.tags[k])
-            return "tag " + std::to_string(k) + ": library " + std::to_string(library.tags[k]) + ", baseline " +
-                   std::to_string(baseline.tags[k]);
+            return "tag " + std::to_string(k) + ": library " + std::to_string(library.tags[k]) +
+                   ", baseline " + std::to_string(baseline.tags[k]);
         if (library.valid[k] != baseline.valid[k])
             return "valid mark " + std::to_string(k) + ": library " + std::to_string(library.valid[k]) +
                    ", baseline " + std::to_string(baseline.valid[k]);
@@ -96,8 +97,8 @@ struct World {
         const struct {
             const char *name;
             Lent<uint8_t> Side::*buffer;
-        } buffers[] = {{"RAM", &Side::ram},         {"parity array", &Side::parity}, {"data array", &Side::data},
-                       {"answers", &Side::answers}, {"bytes", &Side::bytes},         {"view", &Side::shown}};
+        } buffers[] = {{"RAM", &Side::ram}, {"parity array", &Side::parity}, {"data array", &Side::data},
+            {"answers", &Side::answers}, {"bytes", &Side::bytes}, {"view", &Side::shown}};
         for (const auto &[name, buffer] : buffers) {
             const std::string differs = (library.*buffer).difference(baseline.*buffer);
             if (!differs.empty())

@@ -22,12 +22,13 @@ struct Host {
     std::vector<uint8_t> ram, parity, data;
     uint8_t answers[UNIT486_ANSWERS];
     uint32_t log[UNIT486_LOG_WORDS];
-    unit486_directory directory = unit486_reset().directory;
+    unit486_directory directory;
     unit486_buffers lent;
     unit486_board board;
 
     Host() : ram(65536), parity(65536 / 4), data(UNIT486_DATA_BYTES)
     {
+        unit486_start(&directory);
         unit486_board_answers(0, 4, answers);
         lent = {ram.data(), ram.size(), parity.data(), parity.size(), data.data(), data.size()};
         board = {answers, UNIT486_ANSWERS, log, UNIT486_LOG_WORDS};
@@ -38,9 +39,10 @@ static constexpr uint32_t address = 0x1234;
 
 static void fill_and_hit(Host &host)
 {
-    expect("control, CD = NW = 0: number", unit486_set_control(&host.directory, false, false), 0);
+    unit486_result result = unit486_set_control(&host.directory, false, false);
+    expect("control, CD = NW = 0: number", result.number, 0);
 
-    unit486_result result = unit486_write(&host.directory, &host.lent, address, 4, 0x11223344, &host.board);
+    result = unit486_write(&host.directory, &host.lent, address, 4, 0x11223344, &host.board);
     expect("write of 4 bytes, a miss: cycles", result.cycles, 1);
     expect("  flags of its cycle", host.log[1], 95);
 

@@ -1,8 +1,7 @@
 /* The 486 cache and bus unit, for a host in C (C11) or C++ (C++17).
 
    Link with target/staticlib/libhost.a, which `rt staticlib host` writes for x86-64. The unit keeps
-   nothing: every call works on what the caller lends it for the time of that call, takes no memory of
-   its own and starts no thread. Calls on different buffers may run side by side.
+   nothing between calls: each works on what the caller lends it for the time of that call.
 
    WHO OWNS WHAT. All of it is the caller's:
 
@@ -120,6 +119,9 @@ static_assert(offsetof(unit486_result, value) == 4, "layout of a result");
 static_assert(offsetof(unit486_result, cycles) == 8, "layout of a result");
 static_assert(sizeof(unit486_result) == 12, "layout of a result");
 
+/* A pointer and its length stand together below. */
+/* clang-format off */
+
 /* ---- The library's functions. tags and valid have 512 elements each, lru has 128. ---- */
 
 /* All 512 lines invalid, tags and LRU numbers 0, CD = NW = 1. Never refused. */
@@ -185,7 +187,7 @@ size_t unit486_run(const uint8_t *input, size_t input_length, uint8_t *output, s
 }
 #endif
 
-/* ---- The same calls on a whole directory. They copy nothing of it, except unit486_set_control. ---- */
+/* ---- The same calls on a whole directory. Only unit486_start and unit486_set_control copy it. ---- */
 
 /* The buffers that a host lends again and again. */
 typedef struct unit486_buffers {
@@ -264,12 +266,26 @@ static inline uint32_t unit486_line_view(
         lent->ram, lent->ram_length, lent->data, lent->data_length, address, shown);
 }
 
-/* By value, so it copies the directory: for the few control calls of a run. */
-static inline uint32_t unit486_set_control(unit486_directory *directory, bool cd, bool nw)
+/* The directory of an outcome put in its place, and the rest. */
+static inline unit486_result unit486_settle(unit486_directory *directory, const unit486_outcome *outcome)
+{
+    unit486_result result = {outcome->number, outcome->value, outcome->cycles};
+    *directory = outcome->directory;
+    return result;
+}
+
+/* A reset; what the directory held before does not matter. */
+static inline unit486_result unit486_start(unit486_directory *directory)
+{
+    unit486_outcome outcome = unit486_reset();
+    return unit486_settle(directory, &outcome);
+}
+
+static inline unit486_result unit486_set_control(unit486_directory *directory, bool cd, bool nw)
 {
     unit486_outcome outcome = unit486_control(*directory, cd, nw);
-    *directory = outcome.directory;
-    return outcome.number;
+    return unit486_settle(directory, &outcome);
 }
+/* clang-format on */
 
 #endif

@@ -1,4 +1,4 @@
-// Sessions of random calls, each made on both sides and compared whole.
+// Series of random calls, each made on both sides and compared whole.
 #pragma once
 
 #include <algorithm>
@@ -11,9 +11,9 @@
 #include "event_text.h"
 #include "world.h"
 
-class Sessions {
+class Series {
 public:
-    Sessions(uint64_t seed, Coverage &coverage) : seed(seed), random(seed), coverage(coverage) {}
+    Series(uint64_t seed, Coverage &coverage) : seed(seed), random(seed), coverage(coverage) {}
 
     // Well-formed runs on a few sets: hits, fills, replacement, other masters; now and then a refusal.
     void hot(uint32_t calls)
@@ -106,13 +106,14 @@ private:
         side.log.make(128, random);
         for (uint32_t k = 0; k < ram_length; ++k) {
             uint8_t &parity = side.parity.start()[k / 4];
-            parity = static_cast<uint8_t>((parity & ~(1u << k % 4)) | __builtin_parity(side.ram.start()[k]) << k % 4);
+            parity = static_cast<uint8_t>(
+                (parity & ~(1u << k % 4)) | __builtin_parity(side.ram.start()[k]) << k % 4);
         }
         baseline::reset(side.directory);
         world.library = world.baseline;
     }
 
-    // Most sessions cross from the last set into the first.
+    // Most series cross from the last set into the first.
     void choose_sets()
     {
         sets[0] = random.percent(50) ? 127 : random.below(128);
@@ -184,8 +185,7 @@ private:
             tags[way] = random.pick({2097152u, 2097153u, UINT32_MAX});
             valid[way] = random.percent(75);
             break;
-        default:
-            lru = static_cast<uint8_t>(random.pick({8u, 9u, 16u, 128u, 255u}));
+        default: lru = static_cast<uint8_t>(random.pick({8u, 9u, 16u, 128u, 255u}));
         }
     }
 
@@ -209,8 +209,8 @@ private:
 
     void spoil_lengths()
     {
-        const size_t ram = random.pick({ram_length - 16, ram_length - 8, ram_length - 1, ram_length + 1, ram_length + 8,
-                                        ram_length + 16, 0u, 1u, 15u});
+        const size_t ram = random.pick({ram_length - 16, ram_length - 8, ram_length - 1, ram_length + 1,
+            ram_length + 8, ram_length + 16, 0u, 1u, 15u});
         const size_t parity = random.pick({parity_length - 1, parity_length + 1, parity_length + 4, 0u});
         const size_t data = random.pick({0u, 16u, 8191u, 8193u, 8208u});
         const size_t answers = random.pick({0u, 16u, 31u, 33u, 48u});
@@ -231,7 +231,7 @@ private:
     {
         if (random.percent(3))
             return random.pick({ram_length - random.below(20), ram_length + random.below(4), random.word(),
-                                UINT32_MAX - random.below(20), random.below(16)});
+                UINT32_MAX - random.below(20), random.below(16)});
         if (ram_length == UNIT486_RAM_MOST && random.percent(60))
             return random.below(17) * 1048576 + random.below(8) - 4;
         // As many tags as RAM has, eight at most, so that lines meet again.
@@ -246,9 +246,9 @@ private:
         const struct {
             uint32_t below;
             Kind kind;
-        } table[] = {{440, Kind::read},     {680, Kind::write},   {770, Kind::external_write}, {830, Kind::snoop},
-                     {880, Kind::drop_line}, {920, Kind::view},    {940, Kind::view_number},    {955, Kind::board_answers},
-                     {985, Kind::control},  {995, Kind::flush},   {1000, Kind::reset}};
+        } table[] = {{440, Kind::read}, {680, Kind::write}, {770, Kind::external_write}, {830, Kind::snoop},
+            {880, Kind::drop_line}, {920, Kind::view}, {940, Kind::view_number}, {955, Kind::board_answers},
+            {985, Kind::control}, {995, Kind::flush}, {1000, Kind::reset}};
         size_t k = 0;
         while (roll >= table[k].below)
             ++k;
@@ -266,6 +266,11 @@ private:
         call.pcd = random.percent(15);
         call.cd = random.percent(25);
         call.nw = random.percent(call.cd ? 50 : 10);
+        // The table changes at the ends of blocks only, and no width is refused here.
+        if (call.kind == Kind::board_answers && random.percent(70)) {
+            call.address = random.below(4097) * 1048576 + random.below(8) - 4;
+            call.width = random.pick({0u, 1u, 2u, 3u, 4u, 5u, 8u, UINT32_MAX});
+        }
         lend_contents(call);
         return call;
     }
@@ -277,7 +282,10 @@ private:
         const uint32_t at = random.below(UNIT486_ANSWERS);
         switch (random.below(4)) {
         case 0: call.width = random.pick({0u, 3u, 5u, 8u, 16u, UINT32_MAX, random.word()}); break;
-        case 1: call.address = random.pick({ram_length, ram_length - 1, ram_length - 3, UINT32_MAX, random.word()}); break;
+        case 1:
+            call.address =
+                random.pick({ram_length, ram_length - 1, ram_length - 3, UINT32_MAX, random.word()});
+            break;
         case 2: world.both([&](Side &side) { side.answers.start()[at] = above; }); break;
         default: call.value = random.pick({256u, 65536u, UINT32_MAX, random.word()});
         }
@@ -333,13 +341,16 @@ private:
         const unit486_result library = call_library(world.library, call);
         const unit486_result plain = call_baseline(world.baseline, call);
         ++coverage.calls;
-        const std::string found = std::memcmp(&library, &plain, sizeof plain) ? "the result" : world.difference();
+        const std::string found =
+            std::memcmp(&library, &plain, sizeof plain) ? "the result" : world.difference();
         if (!found.empty()) {
             announce(found);
             print_call(call, world.baseline);
             std::printf("  CD %d, NW %d before the call\n", before.cd, before.nw);
-            std::printf("  library:  number %u, value %u, cycles %u\n", library.number, library.value, library.cycles);
-            std::printf("  baseline: number %u, value %u, cycles %u\n", plain.number, plain.value, plain.cycles);
+            std::printf("  library:  number %u, value %u, cycles %u\n", library.number, library.value,
+                library.cycles);
+            std::printf(
+                "  baseline: number %u, value %u, cycles %u\n", plain.number, plain.value, plain.cycles);
             std::exit(1);
         }
         coverage.note_call(before, call, plain, world.baseline);
@@ -347,7 +358,8 @@ private:
 
     void announce(const std::string &found) const
     {
-        std::printf("MISMATCH in call %" PRIu64 " of seed %" PRIu64 " (%s session)\n", coverage.calls, seed, name);
+        std::printf(
+            "MISMATCH in call %" PRIu64 " of seed %" PRIu64 " (%s series)\n", coverage.calls, seed, name);
         std::printf("  first difference: %s\n", found.c_str());
     }
 
@@ -386,7 +398,8 @@ private:
         if (found.empty() && library.whole == plain.whole)
             return;
         announce(found.empty() ? "length of the output" : found);
-        std::printf("  whole output: library %zu, baseline %zu; lent %zu bytes\n", library.whole, plain.whole, plain.output.length);
+        std::printf("  whole output: library %zu, baseline %zu; lent %zu bytes\n", library.whole, plain.whole,
+            plain.output.length);
         std::printf("  input of %zu bytes:\n", plain.input.length);
         std::fwrite(plain.input.start(), 1, plain.input.length, stdout);
         std::printf("\n");
@@ -400,10 +413,12 @@ private:
         if (!text.empty() && text.back() != '\n')
             coverage.note(run_without_last_newline);
         // The second field of each whole row is its answer.
-        const std::string output(plain.output.start(), plain.output.start() + std::min(plain.whole, plain.output.length));
+        const std::string output(
+            plain.output.start(), plain.output.start() + std::min(plain.whole, plain.output.length));
         size_t line = output.find('\n');
         while (line != std::string::npos && output.find('\n', line + 1) != std::string::npos) {
-            coverage.note_number(Kind::run, static_cast<uint32_t>(std::atoi(output.c_str() + output.find('\t', line) + 1)));
+            coverage.note_number(
+                Kind::run, static_cast<uint32_t>(std::atoi(output.c_str() + output.find('\t', line) + 1)));
             line = output.find('\n', line + 1);
         }
     }
