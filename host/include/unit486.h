@@ -13,13 +13,13 @@
                  lower doubleword of an access, 16 to 31 the upper one
      log         96 words or more; each cycle leaves three: doubleword address, flags, data
 
-   Lengths are in elements. A length that does not fit is no fault of the program: the call is turned
-   away by its number. What is lent must be there for its whole length; no pointer is null, also where
-   its length is 0; and no two things lent to one call may overlap. (Two calls may be lent the same
-   things one after the other, which is how a run is made.)
+   Lengths are in elements; a call with a wrong one is turned away by its number. What is lent must be
+   there for its whole length, no pointer may be null even where its length is 0, and no two things lent
+   to one call may overlap. After the call all of it is the caller's again.
 
    NUMBERS. 0: done. Else nothing lent has changed, the directory is as it was given, and value and
-   count are 0. Lowest first, 1 to 10 before 21 to 23; each only from calls that receive the thing:
+   count are 0. Lowest first, 1 to 10 before 21 to 23; where two sets are touched, all of the lower
+   address's set comes before the other. Each only from calls that receive the thing:
 
       1  length of RAM
       2  length of the parity array is not RAM / 4
@@ -180,7 +180,8 @@ uint32_t unit486_view(
 void unit486_board_answers(uint32_t address, uint32_t width, uint8_t *answers);
 
 /* The event program on lines in memory: puts as much of the output as fits, answers its whole length
-   (at most UNIT486_OUTPUT_MOST). Bytes past the output are unchanged. */
+   (at most UNIT486_OUTPUT_MOST). Bytes past the output are unchanged. The program's own RAM, parity and
+   data array are on the stack: some 100 KB. */
 size_t unit486_run(const uint8_t *input, size_t input_length, uint8_t *output, size_t output_length);
 
 #ifdef __cplusplus
