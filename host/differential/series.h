@@ -60,6 +60,7 @@ public:
         make_world(UNIT486_RAM_MOST);
         sets[0] = 127, sets[1] = 0, sets[2] = 1;
         enable_cache();
+        quiet = false;
         for (uint32_t k = 0; k < calls; ++k) {
             const Call call = next_call();
             restore_lengths();
