@@ -1,0 +1,93 @@
+// Cycles: sizing, flags and records.
+#pragma once
+
+#include "memory.h"
+#include "unit486.h"
+
+namespace baseline {
+
+// "0 to 15 serve the cycles of the lower doubleword in turn, 16 to 31 those of the upper"
+constexpr unsigned group_answers = 16;
+
+// "A cycle moves part of the bytes still wanted, starting with the lowest: with BS8# that byte alone;
+// with BS16# all wanted bytes in its half of the doubleword; otherwise all. With both, BS8# rules."
+inline unsigned moved_lanes(unsigned wanted, unsigned answer)
+{
+    if (answer & UNIT486_BS8)
+        return wanted & -wanted;
+    if (answer & UNIT486_BS16)
+        return wanted & 3 ? wanted & 3 : wanted;
+    return wanted;
+}
+
+// "Each cycle leaves three 32-bit words in the log: doubleword address; flags; data, unmoved lanes 0."
+struct Records {
+    uint32_t *next;
+    uint32_t count = 0;
+
+    void put(uint32_t address, uint32_t flags, uint32_t data)
+    {
+        next[0] = address;
+        next[1] = flags;
+        next[2] = data;
+        next += 3;
+        ++count;
+    }
+};
+
+// "128 read with wrong parity in a moved byte. Parity never alters data."
+inline void read_cycle(
+    const unit486_buffers &lent, uint32_t address, unsigned lanes, uint32_t flags, Records &records)
+{
+    const uint32_t word = load(lent.ram + address) & lane_bits[lanes];
+    const unsigned wrong = (dp_of(word) ^ lent.parity[address / 4]) & lanes;
+    records.put(address, lanes | flags | (wrong ? UNIT486_WRONG_PARITY : 0), word);
+}
+
+// The cycles of a read that is no fill: "the wanted bytes only".
+inline void read_cycles(
+    const unit486_buffers &lent, uint32_t address, unsigned wanted, const uint8_t *answers, Records &records)
+{
+    do {
+        const unsigned lanes = moved_lanes(wanted, *answers++);
+        wanted &= ~lanes;
+        read_cycle(lent, address, lanes, wanted ? 0 : UNIT486_LAST, records);
+    } while (wanted);
+}
+
+// "Fill: all four bytes of each doubleword of the line". Answers whether the last cycle has KEN#.
+inline bool fill_cycles(
+    const unit486_buffers &lent, uint32_t address, const uint8_t *answers, Records &records)
+{
+    unsigned answer = 0;
+    for (unsigned turn = 0; turn < UNIT486_LINE_BYTES; turn += 4) {
+        // "0-4-8-12, 4-0-12-8, 8-12-0-4 or 12-8-4-0" is the start, exclusive-or 0, 4, 8, 12.
+        const uint32_t doubleword = address ^ turn;
+        unsigned wanted = all_lanes;
+        do {
+            answer = *answers++;
+            const unsigned lanes = moved_lanes(wanted, answer);
+            wanted &= ~lanes;
+            const bool last = turn == 12 && wanted == 0;
+            read_cycle(lent, doubleword, lanes, UNIT486_FILL | (last ? UNIT486_LAST : 0), records);
+        } while (wanted);
+    }
+    return answer & UNIT486_KEN;
+}
+
+// "Write: to RAM and the moved lanes' parity". The cycles together move all wanted lanes, so RAM and
+// parity are written once.
+inline void write_cycles(const unit486_buffers &lent, uint32_t address, unsigned wanted, uint32_t word,
+    const uint8_t *answers, Records &records)
+{
+    store_lanes(lent.ram + address, wanted, word);
+    store_parity(lent.parity[address / 4], wanted, word);
+    do {
+        const unsigned lanes = moved_lanes(wanted, *answers++);
+        wanted &= ~lanes;
+        const uint32_t flags = lanes | UNIT486_WRITE | (wanted ? 0 : UNIT486_LAST);
+        records.put(address, flags, word & lane_bits[lanes]);
+    } while (wanted);
+}
+
+} // namespace baseline

@@ -1,0 +1,86 @@
+// "Turned away because of the input": each function gives the lowest number that it meets, or 0.
+#pragma once
+
+#include <cstring>
+
+#include "unit486.h"
+
+namespace baseline {
+
+// 1. "RAM has 16 to 16,777,216 bytes, a multiple of 16."
+inline bool good_ram(size_t length)
+{
+    return length >= UNIT486_RAM_LEAST && length <= UNIT486_RAM_MOST && length % 16 == 0;
+}
+
+// 1, 2. "Parity length is not RAM / 4."
+inline uint32_t memory_number(const unit486_buffers &lent)
+{
+    if (!good_ram(lent.ram_length))
+        return 1;
+    return lent.parity_length == lent.ram_length / 4 ? 0 : 2;
+}
+
+inline bool good_width(uint32_t width) { return width == 1 || width == 2 || width == 4; }
+
+// 6. "Not 32 answers, or one above 7", the unused ones too.
+inline bool good_answers(const uint8_t *answers, size_t length)
+{
+    if (length != UNIT486_ANSWERS)
+        return false;
+    // Eight at a time, with the bits that none may have.
+    uint64_t seen = 0;
+    for (size_t k = 0; k < UNIT486_ANSWERS; k += 8) {
+        uint64_t eight;
+        std::memcpy(&eight, answers + k, 8);
+        seen |= eight;
+    }
+    return (seen & 0xf8f8f8f8f8f8f8f8) == 0;
+}
+
+// 1 to 7, of a read or a write. Address + width is a sum of 64 bits, which cannot wrap.
+inline uint32_t access_number(
+    const unit486_buffers &lent, uint32_t address, uint32_t width, const unit486_board &board)
+{
+    const uint32_t number = memory_number(lent);
+    if (number != 0)
+        return number;
+    if (lent.data_length != UNIT486_DATA_BYTES)
+        return 3;
+    if (!good_width(width))
+        return 4;
+    if (uint64_t{address} + width > lent.ram_length)
+        return 5;
+    if (!good_answers(board.answers, board.answers_length))
+        return 6;
+    return board.log_length < UNIT486_LOG_WORDS ? 7 : 0;
+}
+
+// 8. "Value too large for its width."
+inline uint32_t value_number(uint32_t width, uint32_t value)
+{
+    return uint64_t{value} >> 8 * width != 0 ? 8 : 0;
+}
+
+// 1, 2, 10. "External write empty, over 16 bytes, across lines or beyond RAM."
+inline uint32_t external_number(const unit486_buffers &lent, uint32_t address, size_t length)
+{
+    const uint32_t number = memory_number(lent);
+    if (number != 0)
+        return number;
+    if (length == 0 || length > UNIT486_LINE_BYTES || address % 16 + length > UNIT486_LINE_BYTES)
+        return 10;
+    return address + length > lent.ram_length ? 10 : 0;
+}
+
+// 1, 3, 5. "view: address not in RAM"
+inline uint32_t view_input_number(const unit486_buffers &lent, uint32_t address)
+{
+    if (!good_ram(lent.ram_length))
+        return 1;
+    if (lent.data_length != UNIT486_DATA_BYTES)
+        return 3;
+    return address < lent.ram_length ? 0 : 5;
+}
+
+} // namespace baseline

@@ -1,0 +1,203 @@
+// The calls. Each looks for its number before it changes anything, so that a call which is turned away
+// leaves all that it was lent as it was.
+#include "unit.h"
+
+#include <cstring>
+
+#include "bus.h"
+#include "refusal.h"
+
+namespace baseline {
+
+// "After reset all 512 lines are invalid, tags and LRU numbers are 0, and CD = NW = 1."
+void reset(Directory &directory)
+{
+    directory = Directory{};
+    directory.cd = true;
+    directory.nw = true;
+}
+
+uint32_t control(Directory &directory, bool cd, bool nw)
+{
+    if (nw && !cd)
+        return 9;
+    directory.cd = cd;
+    directory.nw = nw;
+    return 0;
+}
+
+// "A flush (FLUSH#, INVD and WBINVD alike) clears valid marks and nothing else (H)."
+void flush(Directory &directory) { std::memset(directory.valid, 0, sizeof directory.valid); }
+
+uint32_t snoop(Directory &directory, uint32_t address)
+{
+    const uint32_t number = set_number(directory, set_of(address));
+    if (number == 0)
+        invalidate(directory, address);
+    return number;
+}
+
+// Where the data array holds the doubleword of an address.
+static uint8_t *held_at(const unit486_buffers &lent, unsigned place, uint32_t address)
+{
+    return lent.data + place * UNIT486_LINE_BYTES + address % UNIT486_LINE_BYTES;
+}
+
+// "Read miss: a fill when CD = 0, PCD = 0 and the first cycle has KEN#. Otherwise the wanted bytes only."
+// A fill brings in RAM's line as it stands, so what the cycles brought is read from RAM. Apart from
+// read_doubleword, which stays short for hits.
+[[gnu::noinline]] static uint32_t read_miss(Directory &directory, const unit486_buffers &lent,
+    uint32_t address, unsigned wanted, bool may_fill, const uint8_t *answers, Records &records)
+{
+    if (!may_fill || !(answers[0] & UNIT486_KEN)) {
+        read_cycles(lent, address, wanted, answers, records);
+    } else if (fill_cycles(lent, address, answers, records)) {
+        // "It is kept only if the last cycle also has KEN#".
+        const uint32_t line = line_of(address);
+        std::memcpy(held_at(lent, fill(directory, address), line), lent.ram + line, UNIT486_LINE_BYTES);
+    }
+    return load(lent.ram + address) & lane_bits[wanted];
+}
+
+// One doubleword of a read: its wanted lanes. "Read hit: from the data array, no cycle, whatever CD and
+// PCD are."
+static uint32_t read_doubleword(Directory &directory, const unit486_buffers &lent, uint32_t address,
+    unsigned wanted, bool may_fill, const uint8_t *answers, Records &records)
+{
+    const unsigned way = find(directory, address);
+    if (way == no_way)
+        return read_miss(directory, lent, address, wanted, may_fill, answers, records);
+    const unsigned set = set_of(address);
+    use(directory, set, way);
+    return load(held_at(lent, place_of(set, way), address)) & lane_bits[wanted];
+}
+
+// The wanted lanes of an access: 0 to 3 in the lower doubleword, 4 to 7 in the upper one.
+static unsigned wanted_lanes(uint32_t address, uint32_t width) { return ((1u << width) - 1) << address % 4; }
+
+unit486_result read(Directory &directory, const unit486_buffers &lent, uint32_t address, uint32_t width,
+    bool pcd, const unit486_board &board)
+{
+    uint32_t number = access_number(lent, address, width, board);
+    if (number == 0)
+        number = state_number(directory, address, width);
+    if (number != 0)
+        return {number, 0, 0};
+    Records records{board.log};
+    const bool may_fill = !directory.cd && !pcd;
+    const unsigned wanted = wanted_lanes(address, width);
+    const uint32_t lower = address & ~3u;
+    uint64_t words =
+        read_doubleword(directory, lent, lower, wanted & all_lanes, may_fill, board.answers, records);
+    // "the lower one completed first (H)": the upper one may hit in the line that the lower one filled.
+    if (wanted > all_lanes) {
+        const uint8_t *answers = board.answers + group_answers;
+        const uint64_t upper =
+            read_doubleword(directory, lent, lower + 4, wanted >> 4, may_fill, answers, records);
+        words |= upper << 32;
+    }
+    return {0, static_cast<uint32_t>(words >> 8 * (address % 4)), records.count};
+}
+
+// One doubleword of a write. "A miss never fills. With CD = NW = 1 a hit changes the data array and, as
+// a use, the LRU number; RAM and parity stay, with no cycle."
+static void write_doubleword(Directory &directory, const unit486_buffers &lent, uint32_t address,
+    unsigned wanted, uint32_t word, const uint8_t *answers, Records &records)
+{
+    const unsigned way = find(directory, address);
+    if (way != no_way) {
+        const unsigned set = set_of(address);
+        use(directory, set, way);
+        store_lanes(held_at(lent, place_of(set, way), address), wanted, word);
+        if (directory.cd && directory.nw)
+            return;
+    }
+    write_cycles(lent, address, wanted, word, answers, records);
+}
+
+unit486_result write(Directory &directory, const unit486_buffers &lent, uint32_t address, uint32_t width,
+    uint32_t value, const unit486_board &board)
+{
+    uint32_t number = access_number(lent, address, width, board);
+    if (number == 0)
+        number = value_number(width, value);
+    if (number == 0)
+        number = state_number(directory, address, width);
+    if (number != 0)
+        return {number, 0, 0};
+    Records records{board.log};
+    const unsigned wanted = wanted_lanes(address, width);
+    const uint32_t lower = address & ~3u;
+    const uint64_t words = uint64_t{value} << 8 * (address % 4);
+    const uint32_t low = static_cast<uint32_t>(words);
+    write_doubleword(directory, lent, lower, wanted & all_lanes, low, board.answers, records);
+    if (wanted > all_lanes) {
+        const uint8_t *answers = board.answers + group_answers;
+        const uint32_t high = static_cast<uint32_t>(words >> 32);
+        write_doubleword(directory, lent, lower + 4, wanted >> 4, high, answers, records);
+    }
+    return {0, 0, records.count};
+}
+
+// "An external write puts 1 to 16 bytes of one line into RAM, sets their parity, then snoops. It leaves
+// no record."
+uint32_t external_write(
+    Directory &directory, const unit486_buffers &lent, uint32_t address, const uint8_t *bytes, size_t length)
+{
+    uint32_t number = external_number(lent, address, length);
+    if (number == 0)
+        number = set_number(directory, set_of(address));
+    if (number != 0)
+        return number;
+    std::memcpy(lent.ram + address, bytes, length);
+    // The written lanes of the line's sixteen, four for each doubleword.
+    const unsigned written = ((1u << length) - 1) << address % 16;
+    const uint32_t line = line_of(address);
+    for (unsigned k = 0; k < 4; ++k) {
+        const unsigned lanes = written >> 4 * k & all_lanes;
+        if (lanes != 0)
+            store_parity(lent.parity[line / 4 + k], lanes, load(lent.ram + line + 4 * k));
+    }
+    invalidate(directory, address);
+    return 0;
+}
+
+uint32_t view_number(const Directory &directory, const unit486_buffers &lent, uint32_t address)
+{
+    const uint32_t number = view_input_number(lent, address);
+    return number != 0 ? number : set_number(directory, set_of(address));
+}
+
+// "A line view is a part of the data array where the line is held, otherwise a part of RAM, always the
+// sixteen bytes around the address". A view is no use.
+uint32_t view(const Directory &directory, const unit486_buffers &lent, uint32_t address, uint8_t *shown)
+{
+    const uint32_t number = view_number(directory, lent, address);
+    if (number != 0)
+        return number;
+    const unsigned way = find(directory, address);
+    const uint32_t line = line_of(address);
+    const uint8_t *part =
+        way == no_way ? lent.ram + line : held_at(lent, place_of(set_of(address), way), line);
+    std::memcpy(shown, part, UNIT486_LINE_BYTES);
+    return 0;
+}
+
+// "The block is (address / 1,048,576) mod 16."
+static uint8_t answer_at(uint64_t address)
+{
+    static constexpr uint8_t table[16] = {1, 1, 1, 1, 1, 1, 1, 1, 5, 5, 5, 5, 4, 4, 2, 3};
+    return table[address / 1048576 % 16];
+}
+
+// "repeated 16 times for each doubleword; an absent upper doubleword takes the lower's". A width that
+// will be turned away has none.
+void board_answers(uint32_t address, uint32_t width, uint8_t *answers)
+{
+    const bool crosses = good_width(width) && address % 4 + width > 4;
+    const uint64_t upper = uint64_t{address} + (crosses ? 4 : 0);
+    std::memset(answers, answer_at(address), group_answers);
+    std::memset(answers + group_answers, answer_at(upper), group_answers);
+}
+
+} // namespace baseline

@@ -1,0 +1,30 @@
+// The unit in plain C++, written from document 01 for speed: what the library is compared with and
+// measured against. It changes the directory and the buffers in place, by the same rules and numbers.
+#pragma once
+
+#include "directory.h"
+#include "unit486.h"
+
+namespace baseline {
+
+void reset(Directory &directory);
+uint32_t control(Directory &directory, bool cd, bool nw);
+void flush(Directory &directory);
+uint32_t snoop(Directory &directory, uint32_t address);
+
+unit486_result read(Directory &directory, const unit486_buffers &lent, uint32_t address, uint32_t width,
+    bool pcd, const unit486_board &board);
+unit486_result write(Directory &directory, const unit486_buffers &lent, uint32_t address, uint32_t width,
+    uint32_t value, const unit486_board &board);
+uint32_t external_write(
+    Directory &directory, const unit486_buffers &lent, uint32_t address, const uint8_t *bytes, size_t length);
+
+uint32_t view_number(const Directory &directory, const unit486_buffers &lent, uint32_t address);
+uint32_t view(const Directory &directory, const unit486_buffers &lent, uint32_t address, uint8_t *shown);
+
+void board_answers(uint32_t address, uint32_t width, uint8_t *answers);
+
+// The event program: puts as much of the output as fits, answers its whole length.
+size_t run(const uint8_t *input, size_t input_length, uint8_t *output, size_t output_length);
+
+} // namespace baseline

@@ -1,0 +1,30 @@
+// The library and the baseline on the same seeded random calls. After each call every number, value and
+// count, every lent byte and word, and the whole directory are compared.
+//
+//     differential [CALLS [SEED]]     at least so many calls; 2000000 and 1 if not given
+//
+// It ends with 1 at the first difference, and also where something that can happen was never met.
+#include <algorithm>
+#include <cinttypes>
+#include <cstdio>
+#include <cstdlib>
+
+#include "differential/series.h"
+
+int main(int count, char **words)
+{
+    const uint64_t calls = count > 1 ? std::strtoull(words[1], nullptr, 10) : 2000000;
+    const uint64_t seed = count > 2 ? std::strtoull(words[2], nullptr, 10) : 1;
+    Coverage coverage;
+    Series series(seed, coverage);
+    series.large(200);
+    while (coverage.calls < calls) {
+        series.hot(3000);
+        series.hostile(1500);
+        series.events(60);
+    }
+    const bool met = coverage.report();
+    std::printf("%" PRIu64 " calls, seed %" PRIu64 ": no difference\n", coverage.calls, seed);
+    std::printf(met ? "PASS\n" : "FAIL: something was never met\n");
+    return met ? 0 : 1;
+}

@@ -1,0 +1,108 @@
+// One call, made on either side.
+#pragma once
+
+#include <cinttypes>
+#include <cstdio>
+
+#include "baseline/unit.h"
+#include "world.h"
+
+enum class Kind {
+    reset,
+    control,
+    flush,
+    snoop,
+    drop_line,
+    external_write,
+    read,
+    write,
+    view,
+    view_number,
+    board_answers,
+    run,
+};
+
+constexpr size_t kinds = 12;
+
+constexpr const char *kind_names[kinds] = {"reset", "control", "flush", "snoop", "drop_line",
+    "external_write", "read", "write", "view", "view_number", "board_answers", "run"};
+
+// The arguments that are not lent; each call takes those that it receives.
+struct Call {
+    Kind kind = Kind::reset;
+    uint32_t address = 0;
+    uint32_t width = 0;
+    uint32_t value = 0;
+    bool pcd = false;
+    bool cd = false;
+    bool nw = false;
+};
+
+// The result of a call that answers a number alone.
+inline unit486_result only(uint32_t number) { return {number, 0, 0}; }
+
+inline unit486_result call_library(Side &side, const Call &call)
+{
+    const unit486_buffers lent = side.lent();
+    const unit486_board board = side.board();
+    unit486_directory *directory = &side.directory;
+    switch (call.kind) {
+    case Kind::reset: return unit486_start(directory);
+    case Kind::control: return unit486_set_control(directory, call.cd, call.nw);
+    case Kind::flush: unit486_flush(directory); return only(0);
+    case Kind::snoop: return only(unit486_snoop(directory, call.address));
+    case Kind::drop_line: return only(unit486_drop_line(directory, call.address));
+    case Kind::external_write:
+        return only(
+            unit486_external_write(directory, &lent, call.address, side.bytes.start(), side.bytes.length));
+    case Kind::read: return unit486_read(directory, &lent, call.address, call.width, call.pcd, &board);
+    case Kind::write: return unit486_write(directory, &lent, call.address, call.width, call.value, &board);
+    case Kind::view: return only(unit486_line_view(directory, &lent, call.address, side.shown.start()));
+    case Kind::view_number: return only(unit486_line_view_number(directory, &lent, call.address));
+    default: unit486_board_answers(call.address, call.width, side.answers.start()); return only(0);
+    }
+}
+
+inline unit486_result call_baseline(Side &side, const Call &call)
+{
+    const unit486_buffers lent = side.lent();
+    const unit486_board board = side.board();
+    unit486_directory &directory = side.directory;
+    switch (call.kind) {
+    case Kind::reset: baseline::reset(directory); return only(0);
+    case Kind::control: return only(baseline::control(directory, call.cd, call.nw));
+    case Kind::flush: baseline::flush(directory); return only(0);
+    case Kind::snoop:
+    case Kind::drop_line: return only(baseline::snoop(directory, call.address));
+    case Kind::external_write:
+        return only(
+            baseline::external_write(directory, lent, call.address, side.bytes.start(), side.bytes.length));
+    case Kind::read: return baseline::read(directory, lent, call.address, call.width, call.pcd, board);
+    case Kind::write: return baseline::write(directory, lent, call.address, call.width, call.value, board);
+    case Kind::view: return only(baseline::view(directory, lent, call.address, side.shown.start()));
+    case Kind::view_number: return only(baseline::view_number(directory, lent, call.address));
+    default: baseline::board_answers(call.address, call.width, side.answers.start()); return only(0);
+    }
+}
+
+inline void print_bytes(const char *name, const Lent<uint8_t> &bytes)
+{
+    std::printf("  %s (%zu):", name, bytes.length);
+    for (size_t k = 0; k < bytes.length && k < 64; ++k)
+        std::printf(" %u", bytes.start()[k]);
+    std::printf("\n");
+}
+
+// The call and all lengths; answers and bytes as they are after it, which no call but board_answers
+// changes.
+inline void print_call(const Call &call, const Side &side)
+{
+    std::printf("  %s: address %" PRIu32 " (%#" PRIx32 "), width %" PRIu32 ", value %" PRIu32
+                ", PCD %d, CD %d, NW %d\n",
+        kind_names[static_cast<size_t>(call.kind)], call.address, call.address, call.width, call.value,
+        call.pcd, call.cd, call.nw);
+    std::printf("  RAM %zu bytes, parity %zu, data array %zu, log %zu words\n", side.ram.length,
+        side.parity.length, side.data.length, side.log.length);
+    print_bytes("answers", side.answers);
+    print_bytes("bytes of an external write", side.bytes);
+}

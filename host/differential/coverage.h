@@ -1,0 +1,249 @@
+// What the calls met, so that a test which met too little fails.
+#pragma once
+
+#include <cinttypes>
+#include <cstdio>
+
+#include "calls.h"
+
+enum Happening {
+    read_hit,
+    read_hit_under_cd_or_pcd,
+    plain_read,
+    fill_kept,
+    fill_dropped,
+    fill_of_16_cycles,
+    fill_of_mixed_sizes,
+    line_replaced,
+    upper_hits_line_just_filled,
+    upper_fills_after_dropped_fill,
+    access_across_lines,
+    wrong_parity_in_plain_read,
+    wrong_parity_in_fill,
+    write_hit_through,
+    write_hit_inside,
+    write_miss,
+    write_hit_and_miss_inside,
+    snoop_dropped_line,
+    snoop_kept_line_by_nw,
+    external_write_dropped_line,
+    external_write_kept_line_by_nw,
+    view_of_held_line,
+    view_of_ram,
+    access_under_cd_0_nw_1,
+    run_whole_output,
+    run_output_cut,
+    run_without_last_newline,
+    happenings
+};
+
+constexpr const char *happening_names[happenings] = {
+    "read hits",
+    "read hits with CD = 1 or PCD = 1",
+    "plain reads",
+    "fills kept",
+    "fills dropped",
+    "fills of 16 cycles",
+    "fills of 5 to 15 cycles",
+    "fills that replaced a valid line",
+    "upper doubleword hit in the line just filled",
+    "upper doubleword filled after a dropped fill of its line",
+    "accesses across two lines",
+    "plain reads with a parity error",
+    "fills with a parity error",
+    "write hits through to RAM",
+    "write hits that stayed inside (CD = NW = 1)",
+    "write misses",
+    "writes half inside, half to RAM",
+    "snoops that dropped a line",
+    "snoops of a held line with NW = 1",
+    "external writes that dropped a line",
+    "external writes to a held line with NW = 1",
+    "views of a held line",
+    "views of RAM",
+    "accesses with CD = 0 and NW = 1",
+    "runs with their whole output",
+    "runs whose output was cut",
+    "runs without a last newline",
+};
+
+// The numbers that each kind of call can answer; of run, those of its rows.
+constexpr uint32_t bits_of() { return 0; }
+template <class... More> constexpr uint32_t bits_of(int number, More... more)
+{
+    return 1u << number | bits_of(more...);
+}
+
+constexpr uint32_t state_bits = bits_of(21, 22, 23);
+constexpr uint32_t possible_numbers[kinds] = {
+    bits_of(0),
+    bits_of(0, 9),
+    bits_of(0),
+    bits_of(0) | state_bits,
+    bits_of(0) | state_bits,
+    bits_of(0, 1, 2, 10) | state_bits,
+    bits_of(0, 1, 2, 3, 4, 5, 6, 7) | state_bits,
+    bits_of(0, 1, 2, 3, 4, 5, 6, 7, 8) | state_bits,
+    bits_of(0, 1, 3, 5) | state_bits,
+    bits_of(0, 1, 3, 5) | state_bits,
+    bits_of(0),
+    bits_of(0, 4, 5, 8, 9, 10, 11, 12),
+};
+
+inline bool is_held(const unit486_directory &directory, uint32_t address)
+{
+    for (size_t place = address / 16 % 128 * 4, way = 0; way < 4; ++way)
+        if (directory.valid[place + way] && directory.tags[place + way] == address / 2048)
+            return true;
+    return false;
+}
+
+class Coverage {
+public:
+    uint64_t calls = 0;
+
+    void note(Happening happening, uint64_t times = 1) { met[happening] += times; }
+
+    void note_number(Kind kind, uint32_t number)
+    {
+        ++numbers[static_cast<size_t>(kind)][number < 32 ? number : 31];
+    }
+
+    // A call that both sides answered alike: the directory before it, and the side after it.
+    void note_call(
+        const unit486_directory &before, const Call &call, const unit486_result &result, const Side &side)
+    {
+        note_number(call.kind, result.number);
+        if (result.number != 0)
+            return;
+        const bool held = is_held(before, call.address);
+        if (call.kind == Kind::read)
+            note_read(before, call, result, side);
+        else if (call.kind == Kind::write)
+            note_write(before, call, result, side);
+        else if (held && (call.kind == Kind::snoop || call.kind == Kind::drop_line))
+            note(before.nw ? snoop_kept_line_by_nw : snoop_dropped_line);
+        else if (held && call.kind == Kind::external_write)
+            note(before.nw ? external_write_kept_line_by_nw : external_write_dropped_line);
+        else if (call.kind == Kind::view)
+            note(held ? view_of_held_line : view_of_ram);
+    }
+
+    // Prints the counts; whether all that can be met was met.
+    bool report() const
+    {
+        bool good = true;
+        std::printf("%-16s number: how often\n", "call");
+        for (size_t kind = 0; kind < kinds; ++kind) {
+            std::printf("%-16s", kind_names[kind]);
+            for (uint32_t number = 0; number < 32; ++number)
+                good = report_number(kind, number) && good;
+            std::printf("\n");
+        }
+        for (size_t k = 0; k < happenings; ++k) {
+            std::printf("%-58s %10" PRIu64 "%s\n", happening_names[k], met[k], met[k] ? "" : "  NEVER MET");
+            good = good && met[k] != 0;
+        }
+        return good;
+    }
+
+private:
+    uint64_t numbers[kinds][32] = {};
+    uint64_t met[happenings] = {};
+
+    bool report_number(size_t kind, uint32_t number) const
+    {
+        const bool possible = possible_numbers[kind] >> number & 1;
+        const uint64_t count = numbers[kind][number];
+        if (count != 0)
+            std::printf(" %" PRIu32 ": %" PRIu64 "%s", number, count, possible ? "" : " (NOT POSSIBLE)");
+        else if (possible)
+            std::printf(" %" PRIu32 ": NEVER MET", number);
+        return possible == (count != 0);
+    }
+
+    // The groups of cycles that records form, each ended by its flag 64.
+    struct Groups {
+        uint32_t plain = 0, fills = 0;
+    };
+
+    Groups note_records(const unit486_result &result, const Side &side)
+    {
+        Groups groups;
+        uint32_t length = 0;
+        for (uint32_t k = 0; k < result.cycles; ++k) {
+            const uint32_t flags = side.log.start()[3 * k + 1];
+            const bool fill = flags & UNIT486_FILL;
+            ++length;
+            if (flags & UNIT486_WRONG_PARITY)
+                note(fill ? wrong_parity_in_fill : wrong_parity_in_plain_read);
+            if (!(flags & UNIT486_LAST))
+                continue;
+            ++(fill ? groups.fills : groups.plain);
+            if (fill && length > 4)
+                note(length == 16 ? fill_of_16_cycles : fill_of_mixed_sizes);
+            length = 0;
+        }
+        return groups;
+    }
+
+    // A kept fill puts a line that was not held in place of another, so tag or valid mark changes.
+    uint32_t note_kept_fills(const unit486_directory &before, const unit486_directory &after)
+    {
+        uint32_t kept = 0;
+        for (size_t k = 0; k < UNIT486_LINES; ++k) {
+            if (before.tags[k] == after.tags[k] && before.valid[k] == after.valid[k])
+                continue;
+            ++kept;
+            note(line_replaced, before.valid[k]);
+        }
+        note(fill_kept, kept);
+        return kept;
+    }
+
+    static uint32_t doublewords_of(const Call &call) { return call.address % 4 + call.width > 4 ? 2 : 1; }
+
+    void note_place(const unit486_directory &before, const Call &call)
+    {
+        if (call.address % 16 + call.width > 16)
+            note(access_across_lines);
+        if (!before.cd && before.nw)
+            note(access_under_cd_0_nw_1);
+    }
+
+    void note_read(
+        const unit486_directory &before, const Call &call, const unit486_result &result, const Side &side)
+    {
+        note_place(before, call);
+        const Groups groups = note_records(result, side);
+        const uint32_t hits = doublewords_of(call) - groups.plain - groups.fills;
+        const uint32_t kept = groups.fills ? note_kept_fills(before, side.directory) : 0;
+        note(read_hit, hits);
+        note(plain_read, groups.plain);
+        note(fill_dropped, groups.fills - kept);
+        if (before.cd || call.pcd)
+            note(read_hit_under_cd_or_pcd, hits);
+        if (call.address % 16 + call.width > 16)
+            return;
+        if (groups.fills == 1 && hits == 1)
+            note(upper_hits_line_just_filled);
+        if (groups.fills == 2)
+            note(upper_fills_after_dropped_fill);
+    }
+
+    void note_write(
+        const unit486_directory &before, const Call &call, const unit486_result &result, const Side &side)
+    {
+        note_place(before, call);
+        const uint32_t doublewords = doublewords_of(call);
+        uint32_t held = is_held(before, call.address);
+        if (doublewords == 2)
+            held += is_held(before, call.address + call.width - 1);
+        const uint32_t inside = doublewords - note_records(result, side).plain;
+        note(write_hit_inside, inside);
+        note(write_hit_through, held - inside);
+        note(write_miss, doublewords - held);
+        if (inside == 1 && held == 1 && doublewords == 2)
+            note(write_hit_and_miss_inside);
+    }
+};

@@ -1,0 +1,426 @@
+// Series of random calls, each made on both sides and compared whole.
+#pragma once
+
+#include <algorithm>
+#include <cstdlib>
+#include <string>
+#include <utility>
+
+#include "calls.h"
+#include "coverage.h"
+#include "event_text.h"
+#include "world.h"
+
+class Series {
+public:
+    Series(uint64_t seed, Coverage &coverage) : seed(seed), random(seed), coverage(coverage) {}
+
+    // Well-formed runs on a few sets: hits, fills, replacement, other masters; now and then a refusal.
+    void hot(uint32_t calls)
+    {
+        name = "hot";
+        make_world(random.percent(20) ? random.between(1, 128) * 16 : random.between(256, 2048) * 16);
+        choose_sets();
+        enable_cache();
+        quiet = random.percent(40);
+        for (uint32_t k = 0; k < calls; ++k) {
+            if (random.percent(5))
+                disturb();
+            const Call call = next_call();
+            restore_lengths();
+            if (random.percent(3))
+                spoil_lengths();
+            check(random.percent(4) ? spoiled(call) : call);
+        }
+    }
+
+    // Every call on sets made anew, well formed or not, with wrong lengths and arguments often.
+    void hostile(uint32_t calls)
+    {
+        name = "hostile";
+        make_world(random.pick({16u, 32u, 48u, 2032u, 2048u, 2064u, 4096u, 8192u}));
+        choose_sets();
+        quiet = false;
+        for (uint32_t k = 0; k < calls; ++k) {
+            Call call = next_call();
+            restore_lengths();
+            if (random.percent(20))
+                spoil_lengths();
+            if (random.percent(20))
+                call = spoiled(call);
+            plant(call);
+            check(call);
+        }
+    }
+
+    // The longest RAM, at the ends of the board table's blocks.
+    void large(uint32_t calls)
+    {
+        name = "large";
+        make_world(UNIT486_RAM_MOST);
+        sets[0] = 127, sets[1] = 0, sets[2] = 1;
+        enable_cache();
+        quiet = false;
+        for (uint32_t k = 0; k < calls; ++k) {
+            const Call call = next_call();
+            restore_lengths();
+            if (random.percent(10))
+                lend_lengths(ram_length + 16, parity_length + 4);
+            else if (random.percent(10))
+                lend_lengths(ram_length - 16, parity_length - 4);
+            check(call);
+        }
+    }
+
+    // The event program on random lines.
+    void events(uint32_t runs)
+    {
+        name = "events";
+        for (uint32_t k = 0; k < runs; ++k)
+            check_run(EventText(random).text());
+    }
+
+private:
+    uint64_t seed;
+    Random random;
+    Coverage &coverage;
+    World world;
+    const char *name = "";
+    uint32_t ram_length = 0;
+    uint32_t parity_length = 0;
+    uint32_t sets[3] = {};
+    bool quiet = false; // few calls that end a line's validity, so that full sets are common
+
+    // ---- the world ----
+
+    void make_world(uint32_t length)
+    {
+        ram_length = length;
+        parity_length = length / 4;
+        Side &side = world.baseline;
+        side.ram.make(ram_length + 32, random);
+        side.parity.make(parity_length + 32, random);
+        side.data.make(UNIT486_DATA_BYTES + 32, random);
+        side.answers.make(64, random);
+        side.bytes.make(64, random);
+        side.shown.make(16, random);
+        side.log.make(128, random);
+        for (uint32_t k = 0; k < ram_length; ++k) {
+            uint8_t &parity = side.parity.start()[k / 4];
+            parity = static_cast<uint8_t>(
+                (parity & ~(1u << k % 4)) | __builtin_parity(side.ram.start()[k]) << k % 4);
+        }
+        baseline::reset(side.directory);
+        world.library = world.baseline;
+    }
+
+    // Most series cross from the last set into the first.
+    void choose_sets()
+    {
+        sets[0] = random.percent(50) ? 127 : random.below(128);
+        sets[1] = (sets[0] + 1) % 128;
+        sets[2] = random.below(128);
+    }
+
+    void enable_cache()
+    {
+        Call call;
+        call.kind = Kind::control;
+        restore_lengths();
+        check(call);
+    }
+
+    // What no call does: a parity fault, or bytes in RAM or in the data array that no longer agree.
+    void disturb()
+    {
+        const uint32_t at = address() % ram_length;
+        const uint32_t slot = (at / 16 % 128 * 4 + random.below(4)) * 16 + random.below(16);
+        const uint8_t mask = random.byte();
+        const uint32_t what = random.below(3);
+        world.both([&](Side &side) {
+            uint8_t *const places[] = {
+                side.parity.start() + at / 4, side.ram.start() + at, side.data.start() + slot};
+            *places[what] ^= mask;
+        });
+    }
+
+    // The touched sets of a call, made anew.
+    void plant(const Call &call)
+    {
+        const bool cd = random.percent(40), nw = random.percent(40);
+        world.both([&](Side &side) { side.directory.cd = cd, side.directory.nw = nw; });
+        plant_set(call.address);
+        if (call.address % 16 + call.width > 16)
+            plant_set(call.address + call.width - 1);
+    }
+
+    void plant_set(uint32_t at)
+    {
+        const uint32_t first = at / 16 % 128 * 4;
+        uint32_t tags[4] = {at / 2048, at / 2048 + 1, 2097151 - random.below(2), random.word() % 2097152};
+        bool valid[4];
+        for (uint32_t way = 0; way < 4; ++way) {
+            std::swap(tags[way], tags[random.below(4)]);
+            valid[way] = random.percent(75);
+        }
+        uint8_t lru = static_cast<uint8_t>(random.below(8));
+        for (uint32_t faults = random.percent(70) ? 0 : random.between(1, 2); faults > 0; --faults)
+            plant_fault(tags, valid, lru);
+        world.both([&](Side &side) {
+            std::memcpy(side.directory.tags + first, tags, sizeof tags);
+            std::memcpy(side.directory.valid + first, valid, sizeof valid);
+            side.directory.lru[first / 4] = lru;
+        });
+    }
+
+    // A fault, or what only looks like one: a stale tag.
+    void plant_fault(uint32_t *tags, bool *valid, uint8_t &lru)
+    {
+        const uint32_t way = random.below(4), other = random.below(4);
+        switch (random.below(3)) {
+        case 0:
+            tags[way] = tags[other];
+            valid[way] = random.percent(75);
+            break;
+        case 1:
+            tags[way] = random.pick({2097152u, 2097153u, UINT32_MAX});
+            valid[way] = random.percent(75);
+            break;
+        default: lru = static_cast<uint8_t>(random.pick({8u, 9u, 16u, 128u, 255u}));
+        }
+    }
+
+    // ---- lengths ----
+
+    void lend_lengths(size_t ram, size_t parity)
+    {
+        world.both([&](Side &side) { side.ram.length = ram, side.parity.length = parity; });
+    }
+
+    void restore_lengths()
+    {
+        const size_t log = random.percent(30) ? random.between(96, 128) : 96;
+        lend_lengths(ram_length, parity_length);
+        world.both([&](Side &side) {
+            side.data.length = UNIT486_DATA_BYTES;
+            side.answers.length = UNIT486_ANSWERS;
+            side.log.length = log;
+        });
+    }
+
+    void spoil_lengths()
+    {
+        const size_t ram = random.pick({ram_length - 16, ram_length - 8, ram_length - 1, ram_length + 1,
+            ram_length + 8, ram_length + 16, 0u, 1u, 15u});
+        const size_t parity = random.pick({parity_length - 1, parity_length + 1, parity_length + 4, 0u});
+        const size_t data = random.pick({0u, 16u, 8191u, 8193u, 8208u});
+        const size_t answers = random.pick({0u, 16u, 31u, 33u, 48u});
+        const size_t log = random.pick({0u, 3u, 95u});
+        const uint32_t which = random.percent(70) ? 1u << random.below(5) : random.below(32);
+        world.both([&](Side &side) {
+            side.ram.length = which & 1 ? ram : side.ram.length;
+            side.parity.length = which & 2 ? parity : side.parity.length;
+            side.data.length = which & 4 ? data : side.data.length;
+            side.answers.length = which & 8 ? answers : side.answers.length;
+            side.log.length = which & 16 ? log : side.log.length;
+        });
+    }
+
+    // ---- calls ----
+
+    uint32_t address()
+    {
+        if (random.percent(3))
+            return random.pick({ram_length - random.below(20), ram_length + random.below(4), random.word(),
+                UINT32_MAX - random.below(20), random.below(16)});
+        if (ram_length == UNIT486_RAM_MOST && random.percent(60))
+            return random.below(17) * 1048576 + random.below(8) - 4;
+        // As many tags as RAM has, eight at most, so that lines meet again.
+        const uint32_t tags = std::min(ram_length / 2048 + 1, 8u);
+        const uint32_t at = random.below(tags) * 2048 + sets[random.below(3)] * 16 + random.below(16);
+        return at < ram_length ? at : at % ram_length;
+    }
+
+    Kind kind()
+    {
+        const uint32_t roll = random.below(1000);
+        const struct {
+            uint32_t below;
+            Kind kind;
+        } table[] = {{440, Kind::read}, {680, Kind::write}, {770, Kind::external_write}, {830, Kind::snoop},
+            {880, Kind::drop_line}, {920, Kind::view}, {940, Kind::view_number}, {955, Kind::board_answers},
+            {985, Kind::control}, {995, Kind::flush}, {1000, Kind::reset}};
+        size_t k = 0;
+        while (roll >= table[k].below)
+            ++k;
+        const bool ends_lines = (roll >= 680 && roll < 880) || roll >= 985;
+        return quiet && ends_lines && random.percent(90) ? Kind::read : table[k].kind;
+    }
+
+    Call next_call()
+    {
+        Call call;
+        call.kind = kind();
+        call.address = address();
+        call.width = random.pick({1u, 2u, 4u, 4u});
+        call.value = call.width == 4 ? random.word() : random.below(1u << 8 * call.width);
+        call.pcd = random.percent(15);
+        call.cd = random.percent(25);
+        call.nw = random.percent(call.cd ? 50 : 10);
+        // The table changes at the ends of blocks only, and no width is refused here.
+        if (call.kind == Kind::board_answers && random.percent(70)) {
+            call.address = random.below(4097) * 1048576 + random.below(8) - 4;
+            call.width = random.pick({0u, 1u, 2u, 3u, 4u, 5u, 8u, UINT32_MAX});
+        }
+        lend_contents(call);
+        return call;
+    }
+
+    // An argument that some number turns away, most of the time.
+    Call spoiled(Call call)
+    {
+        const uint8_t above = static_cast<uint8_t>(random.pick({8u, 9u, 16u, 128u, 255u}));
+        const uint32_t at = random.below(UNIT486_ANSWERS);
+        switch (random.below(4)) {
+        case 0: call.width = random.pick({0u, 3u, 5u, 8u, 16u, UINT32_MAX, random.word()}); break;
+        case 1:
+            call.address =
+                random.pick({ram_length, ram_length - 1, ram_length - 3, UINT32_MAX, random.word()});
+            break;
+        case 2: world.both([&](Side &side) { side.answers.start()[at] = above; }); break;
+        default: call.value = random.pick({256u, 65536u, UINT32_MAX, random.word()});
+        }
+        return call;
+    }
+
+    // New answers, log words and bytes for a call, the same on both sides.
+    void lend_contents(const Call &call)
+    {
+        if (call.kind == Kind::read || call.kind == Kind::write) {
+            uint8_t answers[64];
+            make_answers(call, answers);
+            const uint32_t base = random.word();
+            world.both([&](Side &side) {
+                std::memcpy(side.answers.start(), answers, sizeof answers);
+                for (uint32_t k = 0; k < side.log.room(); ++k)
+                    side.log.start()[k] = base + k * 0x9e3779b9;
+            });
+        } else {
+            // Most external writes stay in their line; some are empty or too long.
+            const uint32_t room = 16 - call.address % 16;
+            const size_t length = random.percent(90) ? random.between(1, room) : random.below(20);
+            const uint64_t bytes[2] = {random.next(), random.next()};
+            Lent<uint8_t> Side::*buffer = call.kind == Kind::view ? &Side::shown : &Side::bytes;
+            world.both([&](Side &side) {
+                std::memcpy((side.*buffer).start(), bytes, sizeof bytes);
+                side.bytes.length = length;
+            });
+        }
+    }
+
+    void make_answers(const Call &call, uint8_t *answers)
+    {
+        const uint32_t roll = random.below(100);
+        const uint8_t same = static_cast<uint8_t>(random.below(8));
+        for (uint32_t k = 0; k < 64; ++k) {
+            const uint8_t any = static_cast<uint8_t>(random.below(8));
+            answers[k] = roll < 30 ? 1 : roll < 45 ? same : roll < 70 ? any | 1 : any;
+        }
+        // KEN# of the first cycle and of the last must both count, and no other.
+        if (roll >= 85)
+            for (uint32_t k = 0; k < 64; ++k)
+                answers[k] = static_cast<uint8_t>((k % 16 == 0) | (answers[k] & 6));
+        else if (roll >= 80)
+            baseline::board_answers(call.address, call.width, answers);
+    }
+
+    // ---- both sides ----
+
+    void check(const Call &call)
+    {
+        const unit486_directory before = world.baseline.directory;
+        const unit486_result library = call_library(world.library, call);
+        const unit486_result plain = call_baseline(world.baseline, call);
+        ++coverage.calls;
+        const std::string found =
+            std::memcmp(&library, &plain, sizeof plain) ? "the result" : world.difference();
+        if (!found.empty()) {
+            announce(found);
+            print_call(call, world.baseline);
+            std::printf("  CD %d, NW %d before the call\n", before.cd, before.nw);
+            std::printf("  library:  number %u, value %u, cycles %u\n", library.number, library.value,
+                library.cycles);
+            std::printf(
+                "  baseline: number %u, value %u, cycles %u\n", plain.number, plain.value, plain.cycles);
+            std::exit(1);
+        }
+        coverage.note_call(before, call, plain, world.baseline);
+    }
+
+    void announce(const std::string &found) const
+    {
+        std::printf(
+            "MISMATCH in call %" PRIu64 " of seed %" PRIu64 " (%s series)\n", coverage.calls, seed, name);
+        std::printf("  first difference: %s\n", found.c_str());
+    }
+
+    struct Texts {
+        Lent<uint8_t> input, output;
+        size_t whole = 0;
+    };
+
+    // One run of the event program into a buffer that may be too short.
+    void check_run(const std::string &text)
+    {
+        Texts plain;
+        plain.input.make(text.size(), random);
+        std::memcpy(plain.input.start(), text.data(), text.size());
+        const size_t lines = static_cast<size_t>(std::count(text.begin(), text.end(), '\n')) + 1;
+        const size_t enough = 26 + 44 * lines;
+        plain.output.make(enough, random);
+        if (random.percent(30))
+            plain.output.length = random.below(static_cast<uint32_t>(random.percent(50) ? enough / 4 : 60));
+        plain.output.length = std::min(plain.output.length, enough);
+        Texts library = plain;
+        library.whole = unit486_run(
+            library.input.start(), library.input.length, library.output.start(), library.output.length);
+        plain.whole =
+            baseline::run(plain.input.start(), plain.input.length, plain.output.start(), plain.output.length);
+        ++coverage.calls;
+        compare_run(library, plain);
+        note_run(text, plain);
+    }
+
+    void compare_run(const Texts &library, const Texts &plain) const
+    {
+        std::string found = library.output.difference(plain.output);
+        if (found.empty())
+            found = library.input.difference(plain.input);
+        if (found.empty() && library.whole == plain.whole)
+            return;
+        announce(found.empty() ? "length of the output" : found);
+        std::printf("  whole output: library %zu, baseline %zu; lent %zu bytes\n", library.whole, plain.whole,
+            plain.output.length);
+        std::printf("  input of %zu bytes:\n", plain.input.length);
+        std::fwrite(plain.input.start(), 1, plain.input.length, stdout);
+        std::printf("\n");
+        std::exit(1);
+    }
+
+    void note_run(const std::string &text, const Texts &plain)
+    {
+        const bool cut = plain.whole > plain.output.length;
+        coverage.note(cut ? run_output_cut : run_whole_output);
+        if (!text.empty() && text.back() != '\n')
+            coverage.note(run_without_last_newline);
+        // The second field of each whole row is its answer.
+        const std::string output(
+            plain.output.start(), plain.output.start() + std::min(plain.whole, plain.output.length));
+        size_t line = output.find('\n');
+        while (line != std::string::npos && output.find('\n', line + 1) != std::string::npos) {
+            coverage.note_number(
+                Kind::run, static_cast<uint32_t>(std::atoi(output.c_str() + output.find('\t', line) + 1)));
+            line = output.find('\n', line + 1);
+        }
+    }
+};

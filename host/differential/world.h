@@ -1,0 +1,110 @@
+// All that calls are lent, twice: once for the library, once for the baseline.
+#pragma once
+
+#include <cstdio>
+#include <cstring>
+#include <string>
+#include <vector>
+
+#include "random.h"
+#include "unit486.h"
+
+// A buffer of which a part from its start is lent. The margin before it and the room after it are never
+// lent, and are compared too: a store outside the lent part shows.
+template <class T> class Lent {
+public:
+    size_t length = 0;
+
+    T *start() { return all.data() + margin; }
+    const T *start() const { return all.data() + margin; }
+    size_t room() const { return all.size() - 2 * margin; }
+
+    void make(size_t room, Random &random)
+    {
+        all.resize(room + 2 * margin);
+        length = room;
+        for (T &element : all)
+            element = static_cast<T>(random.word());
+    }
+
+    // The index of the first element that differs, counted from the lent start; empty if none does.
+    std::string difference(const Lent &other) const
+    {
+        if (all.size() == other.all.size() &&
+            std::memcmp(all.data(), other.all.data(), all.size() * sizeof(T)) == 0)
+            return "";
+        for (size_t k = 0; k < all.size(); ++k)
+            if (all[k] != other.all[k])
+                return "element " + std::to_string(static_cast<long>(k) - static_cast<long>(margin)) +
+                       " of " + std::to_string(length) + ": library " + std::to_string(all[k]) +
+                       ", baseline " + std::to_string(other.all[k]);
+        return "lengths";
+    }
+
+private:
+    static constexpr size_t margin = 32;
+    std::vector<T> all;
+};
+
+struct Side {
+    unit486_directory directory;
+    Lent<uint8_t> ram, parity, data, answers, bytes, shown;
+    Lent<uint32_t> log;
+
+    unit486_buffers lent()
+    {
+        return {ram.start(), ram.length, parity.start(), parity.length, data.start(), data.length};
+    }
+
+    unit486_board board() { return {answers.start(), answers.length, log.start(), log.length}; }
+};
+
+// The first difference of two directories; padding after NW is nobody's.
+inline std::string directory_difference(const unit486_directory &library, const unit486_directory &baseline)
+{
+    if (std::memcmp(&library, &baseline, offsetof(unit486_directory, nw) + 1) == 0)
+        return "";
+    for (size_t k = 0; k < UNIT486_LINES; ++k) {
+        if (library.tags[k] != baseline.tags[k])
+            return "tag " + std::to_string(k) + ": library " + std::to_string(library.tags[k]) +
+                   ", baseline " + std::to_string(baseline.tags[k]);
+        if (library.valid[k] != baseline.valid[k])
+            return "valid mark " + std::to_string(k) + ": library " + std::to_string(library.valid[k]) +
+                   ", baseline " + std::to_string(baseline.valid[k]);
+    }
+    for (size_t k = 0; k < UNIT486_SETS; ++k)
+        if (library.lru[k] != baseline.lru[k])
+            return "LRU number of set " + std::to_string(k) + ": library " + std::to_string(library.lru[k]) +
+                   ", baseline " + std::to_string(baseline.lru[k]);
+    return "CD or NW";
+}
+
+struct World {
+    Side library, baseline;
+
+    // The same change on both sides, outside of any call.
+    template <class Change> void both(Change change)
+    {
+        change(library);
+        change(baseline);
+    }
+
+    std::string difference() const
+    {
+        const std::string found = directory_difference(library.directory, baseline.directory);
+        if (!found.empty())
+            return "directory, " + found;
+        const struct {
+            const char *name;
+            Lent<uint8_t> Side::*buffer;
+        } buffers[] = {{"RAM", &Side::ram}, {"parity array", &Side::parity}, {"data array", &Side::data},
+            {"answers", &Side::answers}, {"bytes", &Side::bytes}, {"view", &Side::shown}};
+        for (const auto &[name, buffer] : buffers) {
+            const std::string differs = (library.*buffer).difference(baseline.*buffer);
+            if (!differs.empty())
+                return std::string(name) + ", " + differs;
+        }
+        const std::string differs = library.log.difference(baseline.log);
+        return differs.empty() ? "" : "log, " + differs;
+    }
+};

@@ -1,0 +1,292 @@
+/* The 486 cache and bus unit, for a host in C (C11) or C++ (C++17).
+
+   Link with target/staticlib/libhost.a, which `rt staticlib host` writes for x86-64. The unit keeps
+   nothing between calls: each works on what the caller lends it for the time of that call.
+
+   WHO OWNS WHAT. All of it is the caller's:
+
+     directory   unit486_directory; a new one comes from unit486_reset (CD = NW = 1, nothing held)
+     RAM         16 to 16,777,216 bytes, a multiple of 16
+     parity      one byte for each four bytes of RAM; bits 0 to 3 are DP0 to DP3, even parity
+     data array  8,192 bytes: the line of a set and a way stands from (set * 4 + way) * 16
+     answers     32 bytes, one for each cycle: 1 for KEN# + 2 for BS8# + 4 for BS16#; 0 to 15 serve the
+                 lower doubleword of an access, 16 to 31 the upper one
+     log         96 words or more; each cycle leaves three: doubleword address, flags, data
+
+   Lengths are in elements; a call with a wrong one is turned away by its number. What is lent must be
+   there for its whole length, no pointer may be null even where its length is 0, and no two things lent
+   to one call may overlap. After the call all of it is the caller's again.
+
+   NUMBERS. 0: done. Else nothing lent has changed, the directory is as it was given, and value and
+   count are 0. Lowest first, 1 to 10 before 21 to 23; where two sets are touched, all of the lower
+   address's set comes before the other. Each only from calls that receive the thing:
+
+      1  length of RAM
+      2  length of the parity array is not RAM / 4
+      3  the data array is not 8,192 bytes
+      4  width is not 1, 2 or 4
+      5  address + width is beyond RAM (a view: the address is not in RAM)
+      6  not 32 answers, or one above 7
+      7  the log is below 96 words
+      8  the value is too large for its width
+      9  control with CD = 0 and NW = 1
+     10  external write: empty, over 16 bytes, across lines, or beyond RAM
+     21  two valid lines of a touched set have one tag
+     22  a valid tag of a touched set is above 2,097,151
+     23  the LRU number of a touched set is above 7
+
+   (11 and 12 are in the rows of unit486_run only: a malformed line, and over 65,536 bytes of input.)
+
+   FLAGS of a cycle: 1, 2, 4, 8 for moved bytes 0 to 3; 16 write; 32 fill; 64 the last cycle made for
+   this doubleword of the access, in a fill only its very last; 128 read with wrong parity in a moved
+   byte. Log words from 3 * cycles on are unchanged. */
+
+#ifndef UNIT486_H
+#define UNIT486_H
+
+#include <assert.h>
+#include <stdbool.h>
+#include <stddef.h>
+#include <stdint.h>
+
+#ifdef __cplusplus
+extern "C" {
+#endif
+
+enum {
+    UNIT486_SETS = 128,
+    UNIT486_WAYS = 4,
+    UNIT486_LINES = 512,
+    UNIT486_LINE_BYTES = 16,
+    UNIT486_DATA_BYTES = 8192,
+    UNIT486_RAM_LEAST = 16,
+    UNIT486_RAM_MOST = 16777216,
+    UNIT486_ANSWERS = 32,
+    UNIT486_LOG_WORDS = 96,
+    UNIT486_INPUT_MOST = 65536,   /* bytes of event lines that unit486_run runs */
+    UNIT486_OUTPUT_MOST = 2883654 /* bytes that are enough for the output of every input */
+};
+
+/* Bits of an answer. */
+enum { UNIT486_KEN = 1, UNIT486_BS8 = 2, UNIT486_BS16 = 4 };
+
+/* Flags of a cycle; the lower four are the moved bytes. */
+enum {
+    UNIT486_LANES = 15,
+    UNIT486_WRITE = 16,
+    UNIT486_FILL = 32,
+    UNIT486_LAST = 64,
+    UNIT486_WRONG_PARITY = 128
+};
+
+/* The line of a set and a way is element set * 4 + way of tags and valid. Whoever stores into valid, cd
+   or nw stores 0 or 1. A host that keeps the directory between calls need not look into it. */
+typedef struct unit486_directory {
+    uint32_t tags[512];
+    bool valid[512];
+    uint8_t lru[128]; /* B0 + 2 * B1 + 4 * B2 of each set */
+    bool cd;
+    bool nw;
+} unit486_directory;
+
+/* What a call by value answers. */
+typedef struct unit486_outcome {
+    unit486_directory directory;
+    uint32_t number;
+    uint32_t value;
+    uint32_t cycles;
+} unit486_outcome;
+
+/* What a call on lent arrays answers: the number, a read's value, the count of cycles. */
+typedef struct unit486_result {
+    uint32_t number;
+    uint32_t value;
+    uint32_t cycles;
+} unit486_result;
+
+static_assert(sizeof(bool) == 1, "a valid mark is one byte");
+static_assert(offsetof(unit486_directory, tags) == 0, "layout of the directory");
+static_assert(offsetof(unit486_directory, valid) == 2048, "layout of the directory");
+static_assert(offsetof(unit486_directory, lru) == 2560, "layout of the directory");
+static_assert(offsetof(unit486_directory, cd) == 2688, "layout of the directory");
+static_assert(offsetof(unit486_directory, nw) == 2689, "layout of the directory");
+static_assert(sizeof(unit486_directory) == 2692, "layout of the directory");
+static_assert(offsetof(unit486_outcome, number) == 2692, "layout of an outcome");
+static_assert(offsetof(unit486_outcome, value) == 2696, "layout of an outcome");
+static_assert(offsetof(unit486_outcome, cycles) == 2700, "layout of an outcome");
+static_assert(sizeof(unit486_outcome) == 2704, "layout of an outcome");
+static_assert(offsetof(unit486_result, value) == 4, "layout of a result");
+static_assert(offsetof(unit486_result, cycles) == 8, "layout of a result");
+static_assert(sizeof(unit486_result) == 12, "layout of a result");
+
+/* A pointer and its length stand together below. */
+/* clang-format off */
+
+/* ---- The library's functions. tags and valid have 512 elements each, lru has 128. ---- */
+
+/* All 512 lines invalid, tags and LRU numbers 0, CD = NW = 1. Never refused. */
+unit486_outcome unit486_reset(void);
+
+/* CD and NW as given, or 9. */
+unit486_outcome unit486_control(unit486_directory given, bool cd, bool nw);
+
+/* A snoop on the whole directory in the caller's hands: the line that holds the address becomes invalid
+   unless NW = 1. Any address is taken. 0, or 21 to 23. */
+uint32_t unit486_drop_line(unit486_directory *directory, uint32_t address);
+
+/* A read of 1, 2 or 4 bytes, little-endian; they may lie in two doublewords or two lines. */
+unit486_result unit486_read_in_place(
+    uint32_t *tags, bool *valid, uint8_t *lru, bool cd,
+    const uint8_t *ram, size_t ram_length, const uint8_t *parity, size_t parity_length,
+    uint8_t *data, size_t data_length, uint32_t address, uint32_t width, bool pcd,
+    const uint8_t *answers, size_t answers_length, uint32_t *log, size_t log_length);
+
+/* A write of 1, 2 or 4 bytes: through to RAM and, on a hit, into the data array; with CD = NW = 1 a hit
+   stays in the data array. */
+unit486_result unit486_write_in_place(
+    const uint32_t *tags, const bool *valid, uint8_t *lru, bool cd, bool nw,
+    uint8_t *ram, size_t ram_length, uint8_t *parity, size_t parity_length,
+    uint8_t *data, size_t data_length, uint32_t address, uint32_t width, uint32_t value,
+    const uint8_t *answers, size_t answers_length, uint32_t *log, size_t log_length);
+
+/* Another master's write of 1 to 16 bytes of one line into RAM, then a snoop. It leaves no record. */
+uint32_t unit486_external_write_in_place(
+    const uint32_t *tags, bool *valid, const uint8_t *lru, bool nw,
+    uint8_t *ram, size_t ram_length, uint8_t *parity, size_t parity_length,
+    uint32_t address, const uint8_t *bytes, size_t bytes_length);
+
+/* A snoop, as unit486_drop_line. */
+uint32_t unit486_snoop_in_place(
+    const uint32_t *tags, bool *valid, const uint8_t *lru, bool nw, uint32_t address);
+
+/* A flush: clears the 512 valid marks and nothing else. Never refused. */
+void unit486_flush_in_place(bool *valid);
+
+/* The number of a line view: 1, 3, 5, 21 to 23, or 0. */
+uint32_t unit486_view_number(
+    const uint32_t *tags, const bool *valid, const uint8_t *lru,
+    const uint8_t *ram, size_t ram_length, const uint8_t *data, size_t data_length, uint32_t address);
+
+/* A line view: the sixteen bytes around the address, of the data array where the line is held,
+   otherwise of RAM, copied into shown. The copy is of this moment: later calls do not change it, and
+   storing into it changes neither the data array nor RAM. A view is no use of the line. Answers the
+   view's number; where it is not 0, shown is unchanged. */
+uint32_t unit486_view(
+    const uint32_t *tags, const bool *valid, const uint8_t *lru,
+    const uint8_t *ram, size_t ram_length, const uint8_t *data, size_t data_length, uint32_t address,
+    uint8_t *shown);
+
+/* The board table's 32 answers for an access. */
+void unit486_board_answers(uint32_t address, uint32_t width, uint8_t *answers);
+
+/* The event program on lines in memory: puts as much of the output as fits, answers its whole length
+   (at most UNIT486_OUTPUT_MOST). Bytes past the output are unchanged. The program's own RAM, parity and
+   data array are on the stack: some 100 KB. */
+size_t unit486_run(const uint8_t *input, size_t input_length, uint8_t *output, size_t output_length);
+
+#ifdef __cplusplus
+}
+#endif
+
+/* ---- The same calls on a whole directory. Only unit486_start and unit486_set_control copy it. ---- */
+
+/* The buffers that a host lends again and again. */
+typedef struct unit486_buffers {
+    uint8_t *ram;
+    size_t ram_length;
+    uint8_t *parity;
+    size_t parity_length;
+    uint8_t *data;
+    size_t data_length;
+} unit486_buffers;
+
+/* What the board gives to one access and gets back from it. */
+typedef struct unit486_board {
+    const uint8_t *answers;
+    size_t answers_length;
+    uint32_t *log;
+    size_t log_length;
+} unit486_board;
+
+static inline unit486_result unit486_read(
+    unit486_directory *directory, const unit486_buffers *lent, uint32_t address, uint32_t width, bool pcd,
+    const unit486_board *board)
+{
+    return unit486_read_in_place(
+        directory->tags, directory->valid, directory->lru, directory->cd,
+        lent->ram, lent->ram_length, lent->parity, lent->parity_length, lent->data, lent->data_length,
+        address, width, pcd, board->answers, board->answers_length, board->log, board->log_length);
+}
+
+static inline unit486_result unit486_write(
+    unit486_directory *directory, const unit486_buffers *lent, uint32_t address, uint32_t width,
+    uint32_t value, const unit486_board *board)
+{
+    return unit486_write_in_place(
+        directory->tags, directory->valid, directory->lru, directory->cd, directory->nw,
+        lent->ram, lent->ram_length, lent->parity, lent->parity_length, lent->data, lent->data_length,
+        address, width, value, board->answers, board->answers_length, board->log, board->log_length);
+}
+
+/* Receives RAM and parity; the data array in lent is not looked at. */
+static inline uint32_t unit486_external_write(
+    unit486_directory *directory, const unit486_buffers *lent, uint32_t address,
+    const uint8_t *bytes, size_t bytes_length)
+{
+    return unit486_external_write_in_place(
+        directory->tags, directory->valid, directory->lru, directory->nw,
+        lent->ram, lent->ram_length, lent->parity, lent->parity_length, address, bytes, bytes_length);
+}
+
+static inline uint32_t unit486_snoop(unit486_directory *directory, uint32_t address)
+{
+    return unit486_snoop_in_place(
+        directory->tags, directory->valid, directory->lru, directory->nw, address);
+}
+
+static inline void unit486_flush(unit486_directory *directory)
+{
+    unit486_flush_in_place(directory->valid);
+}
+
+/* Receives RAM and the data array; the parity array in lent is not looked at. */
+static inline uint32_t unit486_line_view_number(
+    const unit486_directory *directory, const unit486_buffers *lent, uint32_t address)
+{
+    return unit486_view_number(
+        directory->tags, directory->valid, directory->lru,
+        lent->ram, lent->ram_length, lent->data, lent->data_length, address);
+}
+
+/* Sixteen bytes into shown. */
+static inline uint32_t unit486_line_view(
+    const unit486_directory *directory, const unit486_buffers *lent, uint32_t address, uint8_t *shown)
+{
+    return unit486_view(
+        directory->tags, directory->valid, directory->lru,
+        lent->ram, lent->ram_length, lent->data, lent->data_length, address, shown);
+}
+
+/* The directory of an outcome put in its place, and the rest. */
+static inline unit486_result unit486_settle(unit486_directory *directory, const unit486_outcome *outcome)
+{
+    unit486_result result = {outcome->number, outcome->value, outcome->cycles};
+    *directory = outcome->directory;
+    return result;
+}
+
+/* A reset; what the directory held before does not matter. */
+static inline unit486_result unit486_start(unit486_directory *directory)
+{
+    unit486_outcome outcome = unit486_reset();
+    return unit486_settle(directory, &outcome);
+}
+
+static inline unit486_result unit486_set_control(unit486_directory *directory, bool cd, bool nw)
+{
+    unit486_outcome outcome = unit486_control(*directory, cd, nw);
+    return unit486_settle(directory, &outcome);
+}
+/* clang-format on */
+
+#endif
