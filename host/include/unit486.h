@@ -144,7 +144,7 @@ unit486_result unit486_read_in_place(
 /* A write of 1, 2 or 4 bytes: through to RAM and, on a hit, into the data array; with CD = NW = 1 a hit
    stays in the data array. */
 unit486_result unit486_write_in_place(
-    const uint32_t *tags, const bool *valid, uint8_t *lru, bool cd, bool nw,
+    uint32_t *tags, bool *valid, uint8_t *lru, bool cd, bool nw,
     uint8_t *ram, size_t ram_length, uint8_t *parity, size_t parity_length,
     uint8_t *data, size_t data_length, uint32_t address, uint32_t width, uint32_t value,
     const uint8_t *answers, size_t answers_length, uint32_t *log, size_t log_length);

@@ -10,8 +10,8 @@ use doubleword::Wanted;
 pub struct Walk {
     pub address: u32,
     pub left: usize,
-    pub group: usize,
     pub place: usize,
+    pub group: usize,
     pub records: usize,
 }
 

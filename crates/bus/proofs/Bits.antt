@@ -1,14 +1,17 @@
 -- Laws of parity bits, and of the loops over bytes with their parity.
-use Prim.Native.Nat.{ℕ, zero, suc, _+_, _-_, _%_, _/_, _^_, _<_}
-use mathlib.Core.Path.{_≡_, _∙_, ap}
-use mathlib.Core.Bool.{Bool, _||_, or-assoc}
+use Prim.Native.Nat.{ℕ, zero, suc, _+_, _*_, _-_, _%_, _/_, _^_, _≤_, _<_}
+use mathlib.Core.Path.{_≡_, refl, sym, _∙_, ap}
+use mathlib.Core.Bool.{Bool, true, false, not, _&&_, _||_, or-assoc}
 use mathlib.Core.List.{List}
 use native.Mathlib.Omega.{arith}
-use native.Mathlib.Nat.{pow-suc}
+use native.Mathlib.Nat.{add-zero, pow-suc}
 use lib.Count.{ones, ones-step}
+use lib.Dec.{eqb}
 use lib.ListN.{length, getD, length-set}
+use borrow.Author.Tests.{eqb-true, eq-eqb, ne-eqb}
+use Rattle.laws.proofs.Tests.{both, same-or}
 use Rattle.bus.specs.Bytes.{bytesAt}
-use Rattle.bus.specs.Parity.{Memory, onesOf, dpOf, put, stored, wrongAt, wrongIn}
+use Rattle.bus.specs.Parity.{Memory, onesOf, dpOf, laneBit, dpAt, put, stored, wrongAt, wrongIn}
 use Rattle.bus.proofs.Moves.{bytes-next}
 
 -- the language's count of ones is the specification's
@@ -45,3 +48,93 @@ wrong-next m wrong a n k h =
     let e : n - k ≡ suc (n - (k + 1)) = omega arith in
     let f : a + (k + 1) ≡ suc (a + k) = omega arith in
     rw (e, f) (or-assoc wrong (wrongAt m (a + k)) _)
+
+-- the lower four bits of a parity byte are its lanes' bits, so a doubleword is wrong where they differ from its bytes' bits
+sixteen-two : (p : ℕ) → p % 16 ≡ p % 2 + 2 * (p / 2 % 8)
+sixteen-two p = omega arith
+
+eight-two : (p : ℕ) → p % 8 ≡ p % 2 + 2 * (p / 2 % 4)
+eight-two p = omega arith
+
+four-two : (p : ℕ) → p % 4 ≡ p % 2 + 2 * (p / 2 % 2)
+four-two p = omega arith
+
+half-half : (p : ℕ) → p / 2 / 2 ≡ p / 4
+half-half p = omega arith
+
+half-quarter : (p : ℕ) → p / 4 / 2 ≡ p / 8
+half-quarter p = omega arith
+
+sum-bits : (x0 x1 x2 x3 y z w : ℕ) → w ≡ x0 + 2 * z → z ≡ x1 + 2 * y → y ≡ x2 + 2 * x3 → w ≡ x0 + 2 * x1 + 4 * x2 + 8 * x3
+sum-bits x0 x1 x2 x3 y z w a b c = omega arith
+
+lower-four : (p : ℕ) → p % 16 ≡ laneBit p 0 + 2 * laneBit p 1 + 4 * laneBit p 2 + 8 * laneBit p 3
+unfolding laneBit
+lower-four p =
+    let one : p / 1 ≡ p = omega arith in
+    let b : p / 2 % 8 ≡ p / 2 % 2 + 2 * (p / 4 % 4) = rw (half-half p) at (eight-two (p / 2)) in
+    let c : p / 4 % 4 ≡ p / 4 % 2 + 2 * (p / 8 % 2) = rw (half-quarter p) at (four-two (p / 4)) in
+    rw one (sum-bits (p % 2) (p / 2 % 2) (p / 4 % 2) (p / 8 % 2) (p / 4 % 4) (p / 2 % 8) (p % 16) (sixteen-two p) b c)
+
+-- the lowest bit of a sum
+same-bit : (b c x y : ℕ) → b < 2 → c < 2 → b + 2 * x ≡ c + 2 * y → b ≡ c
+same-bit b c x y h k e = omega arith
+
+lane-two : (p lane : ℕ) → laneBit p lane < 2
+unfolding laneBit
+lane-two p lane = omega arith
+
+-- the bits of the bytes of an aligned doubleword
+dp-at : (parity : List ℕ) (a k : ℕ) → a % 4 ≡ 0 → k < 4 → dpAt parity (a + k) ≡ laneBit (getD parity (a / 4) 0) k
+unfolding dpAt
+dp-at parity a k al l =
+    let e : (a + k) / 4 ≡ a / 4 = omega arith in
+    let f : (a + k) % 4 ≡ k = omega arith in
+    rw (e, f)
+
+module _ (l0 l1 l2 l3 d0 d1 d2 d3 : ℕ) (b0 : l0 < 2) (b1 : l1 < 2) (b2 : l2 < 2) (b3 : l3 < 2) (c0 : d0 < 2) (c1 : d1 < 2) (c2 : d2 < 2) (c3 : d3 < 2) where
+  abbrev l : ℕ
+  l = l0 + 2 * l1 + 4 * l2 + 8 * l3
+
+  abbrev d : ℕ
+  d = d0 + 2 * d1 + 4 * d2 + 8 * d3
+
+  four-differ : not (eqb l d) ≡ (not (eqb l0 d0) || (not (eqb l1 d1) || (not (eqb l2 d2) || (not (eqb l3 d3) || false))))
+  four-differ =
+      same-or _ l0 d0
+      (λ e0.
+      same-or _ l1 d1
+      (λ e1.
+      same-or _ l2 d2
+      (λ e2.
+      same-or _ l3 d3
+      (λ e3. rw (eq-eqb l d (omega arith), eq-eqb l0 d0 e0, eq-eqb l1 d1 e1, eq-eqb l2 d2 e2, eq-eqb l3 d3 e3))
+      (λ n. rw (ne-eqb l d (λ z. n (omega arith)), eq-eqb l0 d0 e0, eq-eqb l1 d1 e1, eq-eqb l2 d2 e2, ne-eqb l3 d3 n)))
+      (λ n. rw (ne-eqb l d (λ z. n (same-bit l2 d2 l3 d3 b2 c2 (omega arith))), eq-eqb l0 d0 e0, eq-eqb l1 d1 e1, ne-eqb l2 d2 n)))
+      (λ n. rw (ne-eqb l d (λ z. n (same-bit l1 d1 (l2 + 2 * l3) (d2 + 2 * d3) b1 c1 (omega arith))), eq-eqb l0 d0 e0, ne-eqb l1 d1 n)))
+      (λ n. rw (ne-eqb l d (λ z. n (same-bit l0 d0 (l1 + 2 * l2 + 4 * l3) (d1 + 2 * d2 + 4 * d3) b0 c0 (omega arith))), ne-eqb l0 d0 n))
+
+-- an aligned doubleword is wrong where the lower four bits of its parity byte are not its bytes' bits
+pub four-wrong : (m : Memory) (a bits : ℕ) → a % 4 ≡ 0 →
+    bits ≡ dpOf (getD (m .ram) a 0) + 2 * dpOf (getD (m .ram) (a + 1) 0) + 4 * dpOf (getD (m .ram) (a + 2) 0) + 8 * dpOf (getD (m .ram) (a + 3) 0) →
+    not (eqb (getD (m .parity) (a / 4) 0 % 16) bits) ≡ wrongIn m a 4
+unfolding wrongIn wrongAt
+four-wrong m a bits al e =
+    let p = getD (m .parity) (a / 4) 0 in
+    let s1 : suc a ≡ a + 1 = omega arith in
+    let s2 : suc (suc a) ≡ a + 2 = omega arith in
+    let s3 : suc (suc (suc a)) ≡ a + 3 = omega arith in
+    let k0 : dpAt (m .parity) a ≡ laneBit p 0 = rw (add-zero a) at (dp-at (m .parity) a 0 al (omega arith)) in
+    rw (e, lower-four p, s3, s2, s1, k0, dp-at (m .parity) a 1 al (omega arith), dp-at (m .parity) a 2 al (omega arith), dp-at (m .parity) a 3 al (omega arith))
+    (four-differ (laneBit p 0) (laneBit p 1) (laneBit p 2) (laneBit p 3) (dpOf (getD (m .ram) a 0)) (dpOf (getD (m .ram) (a + 1) 0)) (dpOf (getD (m .ram) (a + 2) 0)) (dpOf (getD (m .ram) (a + 3) 0))
+    (lane-two p 0) (lane-two p 1) (lane-two p 2) (lane-two p 3) (dp-below _) (dp-below _) (dp-below _) (dp-below _))
+
+-- what the test of a whole doubleword tells
+module _ (count a : ℕ) (h : (eqb count 4 && eqb (a % 4) 0) ≡ true) where
+  pub four-count : count ≡ 4
+  four-count = eqb-true count 4 (both (eqb count 4) _ h .0)
+
+  pub four-inside : (ram parity : ℕ) → (a + count ≤ ram) × (a + count ≤ 4 * parity) → (a % 4 ≡ 0) × (a + 4 ≤ ram) × (a + 4 ≤ 4 * parity)
+  four-inside ram parity i =
+      let n = four-count in
+      (eqb-true (a % 4) 0 (both (eqb count 4) _ h .1), omega (arith, i .0), omega (arith, i .1))

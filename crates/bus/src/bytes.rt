@@ -50,6 +50,14 @@ pub fn word_of(lanes: [u8; 4]) -> u32
     lanes[0] as u32 + 256 * lanes[1] as u32 + 65536 * lanes[2] as u32 + 16777216 * lanes[3] as u32
 }
 
+// The doubleword of four bytes.
+fn word_at(src: &[u8], at: usize) -> u32
+    requires { ⌜ at + 4 ≤ length (now src) ⌝ }
+    ensures { λ r. ⌜ r ≡ wordIn 0 (bytesAt (now (src .entry)) at 4) ⌝ }
+{
+    word_of([src[at], src[at + 1], src[at + 2], src[at + 3]])
+}
+
 // The byte that a lane of a doubleword has, of so many bytes from a lane on; 0 in the other lanes.
 fn byte_in(src: &[u8], at: usize, lane: usize, count: usize, of: usize) -> u8
     requires { ⌜ (at + count ≤ length (now src)) × (lane + count ≤ 4) × (of < 4) ⌝ }
@@ -70,6 +78,9 @@ pub fn lane_word(src: &[u8], at: usize, lane: usize, count: usize) -> u32
     requires { ⌜ (at + count ≤ length (now src)) × (lane + count ≤ 4) ⌝ }
     ensures { λ r. ⌜ r ≡ wordIn lane (bytesAt (now (src .entry)) at count) ⌝ }
 {
+    if count == 4 {
+        return word_at(src, at);
+    }
     let lowest = byte_in(src, at, lane, count, 0);
     let second = byte_in(src, at, lane, count, 1);
     let third = byte_in(src, at, lane, count, 2);

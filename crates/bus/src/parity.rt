@@ -1,6 +1,6 @@
 // RAM and its parity array.
 ghost use mathlib.Core.Path.{_≡_};
-ghost use Prim.Native.Nat.{_+_, _*_, _≤_, _<_};
+ghost use Prim.Native.Nat.{_+_, _*_, _%_, _≤_, _<_};
 ghost use lib.ListN.{length};
 ghost use Rattle.bus.specs.Bytes.{bytesAt};
 ghost use Rattle.bus.specs.Parity.{dpOf, laneBit, memory, put, stored, withDp, wrongAt, wrongIn};
@@ -66,8 +66,35 @@ fn is_wrong(ram: &[u8], parity: &[u8], a: usize) -> bool
     lane_bit(p, a % 4) != dp_bit(ram[a])
 }
 
-// Whether any of so many RAM bytes has wrong parity.
+// Whether any of so many RAM bytes has wrong parity. A whole doubleword is compared at once.
 pub fn any_wrong(ram: &[u8], parity: &[u8], a: usize, count: usize) -> bool
+    requires { ⌜ (a + count ≤ length (now ram)) × (a + count ≤ 4 * length (now parity)) ⌝ }
+    ensures { λ r. ⌜ r ≡ wrongIn (memory (now (ram .entry)) (now (parity .entry))) a count ⌝ }
+{
+    if (count == 4) & (a % 4 == 0) {
+        doubleword_wrong(ram, parity, a)
+    } else {
+        each_wrong(ram, parity, a, count)
+    }
+}
+
+// The DP bits of four bytes, as a parity byte has them.
+fn dp_bits(lowest: u8, second: u8, third: u8, highest: u8) -> u8
+    ensures { λ r. ⌜ r ≡ dpOf lowest + 2 * dpOf second + 4 * dpOf third + 8 * dpOf highest ⌝ }
+{
+    dp_bit(lowest) + 2 * dp_bit(second) + 4 * dp_bit(third) + 8 * dp_bit(highest)
+}
+
+fn doubleword_wrong(ram: &[u8], parity: &[u8], a: usize) -> bool
+    requires { ⌜ (a % 4 ≡ 0) × (a + 4 ≤ length (now ram)) × (a + 4 ≤ 4 * length (now parity)) ⌝ }
+    ensures { λ r. ⌜ r ≡ wrongIn (memory (now (ram .entry)) (now (parity .entry))) a 4 ⌝ }
+{
+    let bits = dp_bits(ram[a], ram[a + 1], ram[a + 2], ram[a + 3]);
+    let i = a / 4;
+    parity[i] % 16 != bits
+}
+
+fn each_wrong(ram: &[u8], parity: &[u8], a: usize, count: usize) -> bool
     requires { ⌜ (a + count ≤ length (now ram)) × (a + count ≤ 4 * length (now parity)) ⌝ }
     ensures { λ r. ⌜ r ≡ wrongIn (memory (now (ram .entry)) (now (parity .entry))) a count ⌝ }
 {

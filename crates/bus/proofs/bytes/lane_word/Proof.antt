@@ -1,10 +1,19 @@
 use denote.Ref.{now}
-use mathlib.Core.Path.{sym}
+use mathlib.Core.Path.{_≡_, sym}
+use native.Mathlib.Omega.{arith}
 use Rattle.bus.proofs.Places.{lanes-length}
 use Rattle.bus.proofs.Words.{value-of-four}
 use borrow.Author.Needs.{needs}
 use Rattle.bus.proofs.bytes.lane_word.Statement.{statement}
 use Rattle.bus.proofs.bytes.lane_word.Tie as tie
+
+word-at-requires : tie.Need-word-at-requires
+word-at-requires c κs = search needs
+
+returns : tie.Need-returns
+returns c =
+    let lane : c .before .before .before .args .lane ≡ 0 = omega (arith, c .before .before .before .pre .1, c .before .if1 .taken) in
+    rw (c .before .if1 .taken, lane) (c .word-at .ensures)
 
 byte-in-requires : tie.Need-byte-in-requires
 byte-in-requires c κs = search needs
@@ -48,9 +57,9 @@ mul-result-3 c = search needs
 add-result-3 : tie.Need-add-result-3
 add-result-3 c = search needs
 
-returns : tie.Need-returns
-returns c =
-    let a = c .before .before .before .before .before .args in
+returns-2 : tie.Need-returns-2
+returns-2 c =
+    let a = c .before .before .before .before .before .before .args in
     rw (c .byte-in4 .ensures, c .before .byte-in3 .ensures, c .before .before .byte-in2 .ensures, c .before .before .before .byte-in .ensures)
     (sym (value-of-four _ (lanes-length (now (a .src)) (a .at) (a .lane) (a .count))))
 
@@ -58,6 +67,8 @@ pub lane-word-spec : {M : Type 1} → statement M
 lane-word-spec =
     tie.close
     (tie.spec
+    word-at-requires
+    returns
     byte-in-requires
     byte-in-requires-2
     byte-in-requires-3
@@ -72,4 +83,4 @@ lane-word-spec =
     cast-result-4
     mul-result-3
     add-result-3
-    returns)
+    returns-2)

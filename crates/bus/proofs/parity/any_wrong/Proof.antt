@@ -1,52 +1,20 @@
-use native.Mathlib.Numerals.{unary-clauses}
-use native.Mathlib.Omega.{arith}
-use Prim.Native.Nat.{_+_, _-_, _≤_}
-use mathlib.Core.Path.{_≡_, _∙_, sym}
-use mathlib.Core.Bool.{_||_, or-false}
+use Rattle.bus.proofs.Bits.{four-count, four-inside}
 use borrow.Author.Needs.{needs}
-use Rattle.bus.specs.Parity.{memory, wrongIn}
-use Rattle.bus.proofs.Bits.{wrong-next}
 use Rattle.bus.proofs.parity.any_wrong.Statement.{statement}
 use Rattle.bus.proofs.parity.any_wrong.Tie as tie
 
-abbrev Inv-loop : tie.InvT-loop
-Inv-loop ram parity a count wrong₀ k₀ wrong k = ((wrong || wrongIn (memory ram parity) (a + k) (count - k)) ≡ wrongIn (memory ram parity) a count) × (k ≤ count)
+doubleword-wrong-requires : tie.Need-doubleword-wrong-requires
+doubleword-wrong-requires c κs = four-inside _ _ (c .if1 .taken) _ _ (c .before .before .before .pre)
 
-abbrev μ-loop : tie.MeasureT-loop
-μ-loop ram parity a count wrong₀ k₀ wrong k = count - k
+each-wrong-requires : tie.Need-each-wrong-requires
+each-wrong-requires c κs = search needs
 
-loop-holds : tie.Need-loop-holds Inv-loop μ-loop
-loop-holds c = (simp unary-clauses, omega arith)
+returns : tie.Need-returns
+returns c = rw (four-count (c .before .before .before .before .args .count) (c .before .before .before .before .args .a) (c .before .if1 .taken)) (c .doubleword-wrong .ensures)
 
-add-is-wrong : tie.Need-add-is-wrong Inv-loop μ-loop
-add-is-wrong c = search needs
-
-is-wrong-requires : tie.Need-is-wrong-requires Inv-loop μ-loop
-is-wrong-requires c κs = search needs
-
-add-k : tie.Need-add-k Inv-loop μ-loop
-add-k c = search needs
-
-loop-less : tie.Need-loop-less Inv-loop μ-loop
-loop-less c = search needs
-
-loop-again : tie.Need-loop-again Inv-loop μ-loop
-loop-again c = let a = c .before .before .before .before .before .args in let l = c .before .before .loop in (rw (c .is-wrong .ensures) (wrong-next (memory (a .ram .now) (a .parity .now)) (l .wrong) (a .a) (a .count) (l .k) (omega arith) ∙ l .inv .0), omega arith)
-
-returns : tie.Need-returns Inv-loop μ-loop
-unfolding wrongIn
-returns c = let e : c .before .before .before .before .args .count - c .before .loop .k ≡ 0 = omega arith in sym (or-false _) ∙ (rw e at (c .before .loop .inv .0))
+returns-2 : tie.Need-returns-2
+returns-2 c = search needs
 
 pub any-wrong-spec : {M : Type 1} → statement M
 any-wrong-spec =
-    tie.close
-    (tie.spec
-    Inv-loop
-    μ-loop
-    loop-holds
-    add-is-wrong
-    is-wrong-requires
-    add-k
-    loop-less
-    loop-again
-    returns)
+    tie.close (tie.spec doubleword-wrong-requires each-wrong-requires returns returns-2)
