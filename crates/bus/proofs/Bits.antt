@@ -7,11 +7,12 @@ use native.Mathlib.Omega.{arith}
 use native.Mathlib.Nat.{add-zero, pow-suc}
 use lib.Count.{ones, ones-step}
 use lib.Dec.{eqb}
-use lib.ListN.{length, getD, length-set}
+use lib.ListN.{length, getD, set, length-set}
+use lib.Seq.{sets, set-set, getD-set-same}
 use borrow.Author.Tests.{eqb-true, eq-eqb, ne-eqb}
 use Rattle.laws.proofs.Tests.{both, same-or}
 use Rattle.bus.specs.Bytes.{bytesAt}
-use Rattle.bus.specs.Parity.{Memory, onesOf, dpOf, laneBit, dpAt, put, stored, wrongAt, wrongIn}
+use Rattle.bus.specs.Parity.{Memory, memory, onesOf, dpOf, laneBit, dpAt, withDp, put, stored, wrongAt, wrongIn}
 use Rattle.bus.proofs.Moves.{bytes-next}
 
 -- the language's count of ones is the specification's
@@ -138,3 +139,68 @@ module _ (count a : ℕ) (h : (eqb count 4 && eqb (a % 4) 0) ≡ true) where
   four-inside ram parity i =
       let n = four-count in
       (eqb-true (a % 4) 0 (both (eqb count 4) _ h .1), omega (arith, i .0), omega (arith, i .1))
+
+  pub four-room : (s src ram parity : ℕ) → (s + count ≤ src) × (a + count ≤ ram) × (a + count ≤ 4 * parity) → (a % 4 ≡ 0) × (s + 4 ≤ src) × (a + 4 ≤ ram) × (a + 4 ≤ 4 * parity)
+  four-room s src ram parity i =
+      let n = four-count in
+      let k = four-inside ram parity (i .1, i .2) in
+      (k .0, omega (arith, i .0), k .1, k .2)
+
+-- the bits of all four lanes replaced, one after another, are the whole parity byte
+module _ (p d0 d1 d2 d3 : ℕ) (c0 : d0 < 2) (c1 : d1 < 2) (c2 : d2 < 2) (c3 : d3 < 2) where
+  first-lane : (q d : ℕ) → d < 2 → withDp q 0 d % 2 ≡ d
+  unfolding withDp
+  first-lane q d l = omega arith
+
+  second-lane : (q d : ℕ) → d < 2 → withDp q 1 d % 4 ≡ q % 2 + 2 * d
+  unfolding withDp
+  second-lane q d l = omega arith
+
+  third-lane : (q d : ℕ) → d < 2 → withDp q 2 d % 8 ≡ q % 4 + 4 * d
+  unfolding withDp
+  third-lane q d l = omega arith
+
+  fourth-lane : (q d : ℕ) → withDp q 3 d ≡ q % 8 + 8 * d
+  unfolding withDp
+  fourth-lane q d = omega arith
+
+  all-lanes : withDp (withDp (withDp (withDp p 0 d0) 1 d1) 2 d2) 3 d3 ≡ d0 + 2 * d1 + 4 * d2 + 8 * d3
+  all-lanes = rw (fourth-lane (withDp (withDp (withDp p 0 d0) 1 d1) 2 d2) d3, third-lane (withDp (withDp p 0 d0) 1 d1) d2 c2, second-lane (withDp p 0 d0) d1 c1, first-lane p d0 c0)
+
+-- a bit replaced in a parity byte that was just stored
+stored-again : (parity : List ℕ) (i q lane bit : ℕ) → i < length parity →
+    set (set parity i q) i (withDp (getD (set parity i q) i 0) lane bit) ≡ set parity i (withDp q lane bit)
+stored-again parity i q lane bit l =
+    ap (λ (x : ℕ). set (set parity i q) i (withDp x lane bit)) (getD-set-same parity i q 0 l)
+    ∙ set-set parity i q (withDp q lane bit)
+
+abbrev afterOne : List ℕ → ℕ → ℕ → ℕ → List ℕ
+afterOne parity i lane bit = set parity i (withDp (getD parity i 0) lane bit)
+
+four-bits : (parity : List ℕ) (i d0 d1 d2 d3 : ℕ) → i < length parity → d0 < 2 → d1 < 2 → d2 < 2 → d3 < 2 →
+    afterOne (afterOne (afterOne (afterOne parity i 0 d0) i 1 d1) i 2 d2) i 3 d3 ≡ set parity i (d0 + 2 * d1 + 4 * d2 + 8 * d3)
+four-bits parity i d0 d1 d2 d3 l c0 c1 c2 c3 =
+    let p = getD parity i 0 in
+    ap (λ (x : List ℕ). afterOne (afterOne x i 2 d2) i 3 d3) (stored-again parity i (withDp p 0 d0) 1 d1 l)
+    ∙ ap (λ (x : List ℕ). afterOne x i 3 d3) (stored-again parity i (withDp (withDp p 0 d0) 1 d1) 2 d2 l)
+    ∙ stored-again parity i (withDp (withDp (withDp p 0 d0) 1 d1) 2 d2) 3 d3 l
+    ∙ ap (set parity i) (all-lanes p d0 d1 d2 d3 c0 c1 c2 c3)
+
+-- an aligned doubleword stored at once
+pub four-stored : (m : Memory) (src : List ℕ) (s a bits : ℕ) → a % 4 ≡ 0 → a / 4 < length (m .parity) →
+    bits ≡ dpOf (getD src s 0) + 2 * dpOf (getD src (s + 1) 0) + 4 * dpOf (getD src (s + 2) 0) + 8 * dpOf (getD src (s + 3) 0) →
+    memory (sets (m .ram) a (bytesAt src s 4)) (set (m .parity) (a / 4) bits) ≡ stored m a (bytesAt src s 4)
+unfolding stored put bytesAt
+four-stored m src s a bits al l e =
+    let s1 : s + 1 ≡ suc s = omega arith in
+    let s2 : s + 2 ≡ suc (suc s) = omega arith in
+    let s3 : s + 3 ≡ suc (suc (suc s)) = omega arith in
+    let i1 : suc a / 4 ≡ a / 4 = omega arith in
+    let i2 : suc (suc a) / 4 ≡ a / 4 = omega arith in
+    let i3 : suc (suc (suc a)) / 4 ≡ a / 4 = omega arith in
+    let m1 : suc a % 4 ≡ 1 = omega arith in
+    let m2 : suc (suc a) % 4 ≡ 2 = omega arith in
+    let m3 : suc (suc (suc a)) % 4 ≡ 3 = omega arith in
+    rw (e, s1, s2, s3, al, i1, i2, i3, m1, m2, m3)
+    (ap (λ (x : List ℕ). memory (sets (m .ram) a (bytesAt src s 4)) x)
+    (sym (four-bits (m .parity) (a / 4) (dpOf (getD src s 0)) (dpOf (getD src (suc s) 0)) (dpOf (getD src (suc (suc s)) 0)) (dpOf (getD src (suc (suc (suc s))) 0)) l (dp-below _) (dp-below _) (dp-below _) (dp-below _))))

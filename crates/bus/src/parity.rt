@@ -4,6 +4,7 @@ ghost use Prim.Native.Nat.{_+_, _*_, _%_, _≤_, _<_};
 ghost use lib.ListN.{length};
 ghost use Rattle.bus.specs.Bytes.{bytesAt};
 ghost use Rattle.bus.specs.Parity.{dpOf, laneBit, memory, put, stored, withDp, wrongAt, wrongIn};
+use crate::bytes::copy_bytes;
 
 // The DP bit of a byte.
 fn dp_bit(b: u8) -> u8
@@ -33,6 +34,13 @@ fn with_dp(p: u8, lane: usize, bit: u8) -> u8
     }
 }
 
+// The DP bits of four bytes, as a parity byte has them.
+fn dp_bits(lowest: u8, second: u8, third: u8, highest: u8) -> u8
+    ensures { λ r. ⌜ r ≡ dpOf lowest + 2 * dpOf second + 4 * dpOf third + 8 * dpOf highest ⌝ }
+{
+    dp_bit(lowest) + 2 * dp_bit(second) + 4 * dp_bit(third) + 8 * dp_bit(highest)
+}
+
 // A byte put into RAM, with its parity.
 fn put_byte(ram: &mut [u8], parity: &mut [u8], a: usize, b: u8)
     requires { ⌜ (a < length (now ram)) × (a < 4 * length (now parity)) ⌝ }
@@ -44,8 +52,29 @@ fn put_byte(ram: &mut [u8], parity: &mut [u8], a: usize, b: u8)
     parity[i] = with_dp(old, a % 4, dp_bit(b));
 }
 
-// So many bytes of src from a place on, put into RAM with their parity.
+// So many bytes of src from a place on, put into RAM with their parity. A whole doubleword is stored at once.
 pub fn store_bytes(src: &[u8], s: usize, ram: &mut [u8], parity: &mut [u8], a: usize, count: usize)
+    requires { ⌜ (s + count ≤ length (now src)) × (a + count ≤ length (now ram)) × (a + count ≤ 4 * length (now parity)) ⌝ }
+    ensures { λ _. ⌜ memory (now (ram .exit)) (now (parity .exit)) ≡ stored (memory (now (ram .entry)) (now (parity .entry))) a (bytesAt (now (src .entry)) s count) ⌝ }
+{
+    if (count == 4) & (a % 4 == 0) {
+        store_doubleword(src, s, ram, parity, a);
+    } else {
+        store_each(src, s, ram, parity, a, count);
+    }
+}
+
+fn store_doubleword(src: &[u8], s: usize, ram: &mut [u8], parity: &mut [u8], a: usize)
+    requires { ⌜ (a % 4 ≡ 0) × (s + 4 ≤ length (now src)) × (a + 4 ≤ length (now ram)) × (a + 4 ≤ 4 * length (now parity)) ⌝ }
+    ensures { λ _. ⌜ memory (now (ram .exit)) (now (parity .exit)) ≡ stored (memory (now (ram .entry)) (now (parity .entry))) a (bytesAt (now (src .entry)) s 4) ⌝ }
+{
+    let bits = dp_bits(src[s], src[s + 1], src[s + 2], src[s + 3]);
+    copy_bytes(src, s, ram, a, 4);
+    let i = a / 4;
+    parity[i] = bits;
+}
+
+fn store_each(src: &[u8], s: usize, ram: &mut [u8], parity: &mut [u8], a: usize, count: usize)
     requires { ⌜ (s + count ≤ length (now src)) × (a + count ≤ length (now ram)) × (a + count ≤ 4 * length (now parity)) ⌝ }
     ensures { λ _. ⌜ memory (now (ram .exit)) (now (parity .exit)) ≡ stored (memory (now (ram .entry)) (now (parity .entry))) a (bytesAt (now (src .entry)) s count) ⌝ }
 {
@@ -76,13 +105,6 @@ pub fn any_wrong(ram: &[u8], parity: &[u8], a: usize, count: usize) -> bool
     } else {
         each_wrong(ram, parity, a, count)
     }
-}
-
-// The DP bits of four bytes, as a parity byte has them.
-fn dp_bits(lowest: u8, second: u8, third: u8, highest: u8) -> u8
-    ensures { λ r. ⌜ r ≡ dpOf lowest + 2 * dpOf second + 4 * dpOf third + 8 * dpOf highest ⌝ }
-{
-    dp_bit(lowest) + 2 * dp_bit(second) + 4 * dp_bit(third) + 8 * dp_bit(highest)
 }
 
 fn doubleword_wrong(ram: &[u8], parity: &[u8], a: usize) -> bool

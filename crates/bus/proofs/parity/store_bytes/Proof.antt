@@ -1,69 +1,41 @@
-use native.Mathlib.Numerals.{unary-clauses}
-use native.Mathlib.Omega.{arith}
-use Prim.Native.Nat.{_+_, _-_, _≤_}
-use mathlib.Core.Path.{_≡_, refl, _∙_, ap}
-use lib.ListN.{length}
+use Rattle.bus.proofs.Bits.{four-count, four-room}
 use borrow.Author.Needs.{needs}
-use Rattle.bus.specs.Bytes.{bytesAt}
-use Rattle.bus.specs.Parity.{Memory, memory, stored}
-use Rattle.bus.proofs.Bits.{store-next, put-lengths}
 use Rattle.bus.proofs.parity.store_bytes.Statement.{statement}
 use Rattle.bus.proofs.parity.store_bytes.Tie as tie
 
-abbrev Inv-loop : tie.InvT-loop
-Inv-loop src s ram₀ parity₀ a count k₀ ram parity k = (stored (memory ram parity) (a + k) (bytesAt src (s + k) (count - k)) ≡ stored (memory ram₀ parity₀) a (bytesAt src s count)) × (k ≤ count) × (length ram ≡ length ram₀) × (length parity ≡ length parity₀)
+store-doubleword-requires : tie.Need-store-doubleword-requires
+store-doubleword-requires c κs = four-room _ _ (c .before .before .if1 .taken) _ _ _ _ (c .before .before .before .before .before .before .pre)
 
-abbrev μ-loop : tie.MeasureT-loop
-μ-loop src s ram₀ parity₀ a count k₀ ram parity k = count - k
+store-each-requires : tie.Need-store-each-requires
+store-each-requires c κs = search needs
 
-loop-holds : tie.Need-loop-holds Inv-loop μ-loop
-loop-holds c = (simp unary-clauses, omega arith, refl, refl)
+same-length : tie.Need-same-length
+same-length c = search needs
 
-add-put-byte : tie.Need-add-put-byte Inv-loop μ-loop
-add-put-byte c = search needs
+same-length-2 : tie.Need-same-length-2
+same-length-2 c = search needs
 
-add-put-byte-2 : tie.Need-add-put-byte-2 Inv-loop μ-loop
-add-put-byte-2 c = search needs
+returns : tie.Need-returns
+returns c = rw (four-count (c .before .before .before .before .before .before .before .before .before .before .before .args .count) (c .before .before .before .before .before .before .before .before .before .before .before .args .a) (c .before .before .before .before .before .before .before .if1 .taken)) (c .before .before .before .before .store-doubleword .ensures)
 
-shared-slice-read-put-byte : tie.Need-shared-slice-read-put-byte Inv-loop μ-loop
-shared-slice-read-put-byte c = search needs
+same-length-3 : tie.Need-same-length-3
+same-length-3 c = search needs
 
-put-byte-requires : tie.Need-put-byte-requires Inv-loop μ-loop
-put-byte-requires c κs = search needs
+same-length-4 : tie.Need-same-length-4
+same-length-4 c = search needs
 
-add-k : tie.Need-add-k Inv-loop μ-loop
-add-k c = search needs
-
-loop-less : tie.Need-loop-less Inv-loop μ-loop
-loop-less c = search needs
-
-loop-again : tie.Need-loop-again Inv-loop μ-loop
-loop-again c = let e = c .before .before .before .before .put-byte .ensures in let i = c .before .before .before .before .before .before .before .before .before .loop .inv in (rw e (store-next _ _ _ _ _ _ (omega arith) ∙ i .0), omega arith, ap (λ (m : Memory). length (m .ram)) e ∙ put-lengths _ _ _ .0 ∙ i .2, ap (λ (m : Memory). length (m .parity)) e ∙ put-lengths _ _ _ .1 ∙ i .3)
-
-same-length : tie.Need-same-length Inv-loop μ-loop
-same-length c = c .before .loop .inv .2
-
-same-length-2 : tie.Need-same-length-2 Inv-loop μ-loop
-same-length-2 c = c .before .loop .inv .3
-
-returns : tie.Need-returns Inv-loop μ-loop
-unfolding bytesAt stored
-returns c = let e : c .before .before .before .before .before .args .count - c .before .loop .k ≡ 0 = omega arith in rw e at (c .before .loop .inv .0)
+returns-2 : tie.Need-returns-2
+returns-2 c = search needs
 
 pub store-bytes-spec : {M : Type 1} → statement M
 store-bytes-spec =
     tie.close
     (tie.spec
-    Inv-loop
-    μ-loop
-    loop-holds
-    add-put-byte
-    add-put-byte-2
-    shared-slice-read-put-byte
-    put-byte-requires
-    add-k
-    loop-less
-    loop-again
+    store-doubleword-requires
+    store-each-requires
     same-length
     same-length-2
-    returns)
+    returns
+    same-length-3
+    same-length-4
+    returns-2)
