@@ -1,10 +1,10 @@
 -- Demand 3 carried to the program: the answer and value columns are the plain memory's.
-use Prim.Native.Nat.{ℕ, zero, suc, _/_, _%_, _<_}
+use Prim.Native.Nat.{ℕ, suc, _/_, _%_, _<_}
 use mathlib.Core.Path.{_≡_, refl}
 use mathlib.Core.Bool.{false}
 use mathlib.Core.List.{List, [], _∷_}
 use native.Mathlib.Omega.{arith}
-use lib.ListN.{getD, drop, replicate, length-replicate}
+use lib.ListN.{drop, replicate, length-replicate}
 use Rattle.laws.proofs.Below.{four}
 use Rattle.bus.proofs.Places.{zeros-at}
 use Rattle.bus.specs.Parity.{memory, Agrees, dpAt, laneBit, dpOf, onesOf}
