@@ -30,7 +30,7 @@ unfoldable pub AgreesAll : State → List ℕ → List Call → Type 0
 AgreesAll s m [] = Unit {0}
 AgreesAll s m (c ∷ cs) = Matches (step s c) (plain m c) × AgreesAll (nextState (step s c)) (plain m c .memory) cs
 
--- "no accepted control call sets NW to 1"
+-- Demand 3's premise on the list: no accepted control call sets NW to 1. One with CD = 0 and NW = 1 is refused by 9 and sets nothing.
 abbrev pub setsNw : Call → Bool
 setsNw (read address width pcd answers log) = false
 setsNw (write address width value answers log) = false
@@ -45,7 +45,7 @@ abbrev pub NeverSetsNw : List Call → Type 0
 NeverSetsNw [] = Unit {0}
 NeverSetsNw (c ∷ cs) = (setsNw c ≡ false) × NeverSetsNw cs
 
--- "document 01's lengths, parity agreeing at the start"
+-- Demand 3's premise on the start: the lengths meet none of 1 to 3, and parity agrees.
 pub record Legal (m : Memory) (array : List ℕ) : Type 0 where
   pub lengths : lentNumber (length (m .ram)) (length (m .parity)) (length array) ≡ 0
   pub agrees : Agrees m

@@ -29,6 +29,7 @@ plainNumber m (control cd nw) = when (controlRefused cd nw) 9
 plainNumber m (view address) = viewAddressNumber (length m) address
 plainNumber m reset = 0
 
+-- A call that is done.
 abbrev pub plainly : ℕ → List ℕ → List ℕ → Plain
 plainly value bytes m = record { number = 0; value = value; shown = bytes; memory = m }
 
