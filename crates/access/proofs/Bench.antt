@@ -11,12 +11,12 @@ use Rattle.directory.specs.Lru.{lruAfter, lruWay}
 use Rattle.directory.specs.Ways.{lowest, lookupIn, victimIn}
 use Rattle.directory.specs.State.{sameTags, tagsAbove, firstNumber, stateIn}
 use Rattle.directory.specs.Steps.{lookupOf, afterUse, afterFill, afterReset, afterControl}
-use Rattle.bus.specs.Bytes.{bytesAt, valueOf, bytesOf}
-use Rattle.bus.specs.Parity.{memory, onesOf, dpOf, laneBit, dpAt, withDp, put, stored, wrongAt, wrongIn}
+use Rattle.memory.specs.Bytes.{bytesAt, valueOf, bytesOf}
+use Rattle.memory.specs.Parity.{memory, onesOf, dpOf, laneBit, dpAt, withDp, put, stored, wrongAt, wrongIn}
 use Rattle.bus.specs.Bus.{room, sizeOf, left, cyclesOf, burst, lastAnswer, through}
 use Rattle.bus.specs.Record.{lanesOf, flagsOf, readRecord, writeRecord, wordsOf}
 use Rattle.doubleword.specs.Doubleword.{doublewordsOf, changed, readHit, readPlain, readFill, readDone, writeThrough, hitArray, writeDone}
-use Rattle.access.specs.Refusal.{memoryNumber, lentNumber, anyAbove, argumentNumber, valueNumber, statesIn}
+use Rattle.refusal.specs.Refusal.{memoryNumber, lentNumber, anyAbove, argumentNumber, valueNumber, statesIn}
 use Rattle.access.specs.Access.{State, state, readOne, writeOne, allOf, After, readNumber, writeNumber, readAll, writeAll, readCall, writeCall}
 
 -- A unit after a reset and a control call with CD = NW = 0, with so many zero bytes of RAM and of parity; the same answer throughout; an empty log.

@@ -9,16 +9,16 @@ use borrow.Author.Tests.{eq-eqb, ne-eqb}
 use Rattle.laws.proofs.Tests.{cond-true, cond-false}
 use Rattle.directory.specs.declared.steps.Directory.{Directory}
 use Rattle.directory.specs.Steps.{afterSnoop}
-use Rattle.bus.specs.Bytes.{bytesAt, valueOf}
-use Rattle.bus.specs.Parity.{Memory, stored}
+use Rattle.memory.specs.Bytes.{bytesAt, valueOf}
+use Rattle.memory.specs.Parity.{Memory, stored}
 use Rattle.access.specs.declared.walk.Walk.{Walk}
 use Rattle.bus.specs.Groups.{groups}
 use Rattle.doubleword.specs.Doubleword.{Doubleword, Done, doublewordsOf}
-use Rattle.access.specs.Refusal.{orElse, memoryNumber, externalNumber, statesOf, lentNumber, argumentNumber, valueNumber}
+use Rattle.refusal.specs.Refusal.{orElse, memoryNumber, externalNumber, statesOf, lentNumber, argumentNumber, valueNumber}
 use Rattle.access.specs.Access.{State, state, Progress, allOf, readOne, writeOne, after, outcome, refused, accepted, readNumber, writeNumber, readAll, writeAll, operandOf, readCall, writeCall}
 use Rattle.access.specs.Masters.{written, masterNumber, externalCall}
 use Rattle.access.specs.Walks.{startWalk, restOf, Path}
-use Rattle.access.proofs.Accepted.{or-zero, zero-or, first-or, or-grouped, GoodMemory, GoodExternal, memory-accepted, lent-accepted, arguments-accepted, external-accepted}
+use Rattle.refusal.proofs.Accepted.{or-zero, zero-or, first-or, or-grouped, GoodMemory, GoodExternal, memory-accepted, lent-accepted, arguments-accepted, external-accepted}
 use Rattle.access.proofs.Walking.{Going, going-end, ReadGoing, reading-end}
 use Rattle.access.proofs.Values.{all-length, value-padded}
 

@@ -1,7 +1,5 @@
 -- Laws that several proofs cite.
-pub mod Numbers
 pub mod Filling
-pub mod Accepted
 pub mod Values
 pub mod Walking
 pub mod Calls

@@ -9,9 +9,9 @@ use lib.Seq.{sets}
 use Rattle.laws.proofs.Tests.{by-test}
 use Rattle.directory.specs.declared.ways.Found.{Found}
 use Rattle.directory.specs.declared.ways.Found.the-variants.{At, Nothing}
-use Rattle.bus.specs.Bytes.{valueOf}
-use Rattle.bus.proofs.Places.{bytes-length}
-use Rattle.bus.specs.Parity.{Memory}
+use Rattle.memory.specs.Bytes.{valueOf}
+use Rattle.memory.proofs.Places.{bytes-length}
+use Rattle.memory.specs.Parity.{Memory}
 use Rattle.bus.specs.Bus.{ken}
 use Rattle.bus.specs.Groups.{group}
 use Rattle.doubleword.specs.Doubleword.{Doubleword, doublewordsOf, readDone, readHit, readFill, readPlain}

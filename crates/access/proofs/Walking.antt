@@ -8,7 +8,7 @@ use native.Mathlib.Decide.{decLe}
 use lib.ListN.{length, take, drop, length-append, length-take, length-drop}
 use lib.Seq.{drop-drop, sets}
 use Rattle.laws.proofs.Lists.{sets-append}
-use Rattle.bus.specs.Parity.{Memory}
+use Rattle.memory.specs.Parity.{Memory}
 use Rattle.bus.specs.Bus.{run}
 use Rattle.bus.specs.Record.{Record, logged, wordsOf}
 use Rattle.directory.specs.declared.steps.Directory.{Directory}

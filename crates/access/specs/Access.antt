@@ -8,13 +8,12 @@ use Rattle.directory.specs.declared.steps.Directory.{Directory}
 use Rattle.directory.specs.Address.{setOf}
 use Rattle.directory.specs.Steps.{lookupOf, victimOf}
 use Rattle.access.specs.declared.outcome.Outcome.{Outcome}
-use Rattle.access.specs.declared.in_place.CallResult.{CallResult}
-use Rattle.bus.specs.Bytes.{valueOf, bytesOf}
-use Rattle.bus.specs.Parity.{Memory}
+use Rattle.memory.specs.Bytes.{valueOf, bytesOf}
+use Rattle.memory.specs.Parity.{Memory}
 use Rattle.bus.specs.Record.{Record, logged}
 use Rattle.doubleword.specs.Doubleword.{Doubleword, doublewordsOf, changed, Done, readDone, writeDone}
 use Rattle.bus.specs.Groups.{groups}
-use Rattle.access.specs.Refusal.{orElse, lentNumber, argumentNumber, valueNumber, statesOf}
+use Rattle.refusal.specs.Refusal.{orElse, lentNumber, argumentNumber, valueNumber, statesOf}
 
 -- What a call is lent and changes: directory, RAM with its parity, data array.
 pub record State : Type 0 where
@@ -73,10 +72,6 @@ after o m array log = record { outcome = o; memory = m; array = array; log = log
 abbrev pub outcome : Directory → ℕ → ℕ → ℕ → Outcome
 outcome d number value cycles =
     record { directory = d; number = number; value = value; cycles = cycles }
-
--- The same of a call on a directory that is lent.
-abbrev pub result : ℕ → ℕ → ℕ → CallResult
-result number value cycles = record { number = number; value = value; cycles = cycles }
 
 -- "Number, value 0, count 0; nothing lent changes; the directory comes back as given."
 abbrev pub refused : ℕ → State → List ℕ → After

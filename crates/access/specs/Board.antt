@@ -5,7 +5,7 @@ use mathlib.Core.List.{List, [], _∷_, _++_}
 use lib.Dec.{ltb}
 use lib.ListN.{getD, replicate}
 use Rattle.bus.specs.Groups.{group}
-use Rattle.access.specs.Refusal.{badWidth}
+use Rattle.refusal.specs.Refusal.{badWidth}
 
 -- "The answer by 1 MiB block 0 to 15 is 1 1 1 1 1 1 1 1 5 5 5 5 4 4 2 3"
 abbrev pub blockAnswers : List ℕ

@@ -2,7 +2,7 @@
 ghost use mathlib.Core.Path.{_≡_};
 ghost use Prim.Native.Nat.{_+_};
 ghost use Rattle.access.specs.Board.{answerAt, boardAnswers, upperAddress};
-use crate::refusal::bad_width;
+use refusal::bad_width;
 
 // The answer of each 1 MiB block.
 const BLOCK_ANSWERS: [u8; 16] = [1, 1, 1, 1, 1, 1, 1, 1, 5, 5, 5, 5, 4, 4, 2, 3];

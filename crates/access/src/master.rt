@@ -1,16 +1,16 @@
 // Other masters' writes and snoops, and the calls on the directory alone.
 ghost use mathlib.Core.Path.{_≡_};
 ghost use lib.ListN.{length};
-ghost use Rattle.bus.specs.Parity.{memory};
+ghost use Rattle.memory.specs.Parity.{memory};
 ghost use Rattle.access.specs.Masters.{controlOutcome, externalCall, flushOutcome, masterNumber, resetOutcome, snoopOutcome, written};
 use crate::outcome::Outcome;
 use crate::outcome::refused;
-use crate::refusal::external_number;
-use crate::refusal::memory_number;
-use crate::refusal::or_else;
-use crate::refusal::states_number;
-use bus::store_bytes;
 use directory::Directory;
+use memory::store_bytes;
+use refusal::external_number;
+use refusal::memory_number;
+use refusal::or_else;
+use refusal::states_number;
 
 pub fn external_write(
     given: Directory,

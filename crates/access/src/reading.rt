@@ -4,21 +4,21 @@ ghost use Prim.Native.Nat.{_<_};
 ghost use lib.ListN.{length};
 ghost use Rattle.directory.specs.Ways.{lookupIn, victimIn};
 ghost use Rattle.directory.specs.Address.{setOf};
-ghost use Rattle.bus.specs.Parity.{memory};
+ghost use Rattle.memory.specs.Parity.{memory};
 ghost use Rattle.doubleword.specs.Doubleword.{readDone};
 ghost use Rattle.access.specs.Access.{after, readCall, state};
 ghost use Rattle.access.specs.Walks.{lineAt, nextDoubleword, Path, ReadStep};
 use crate::outcome::Outcome;
 use crate::outcome::refused;
-use crate::refusal::input_number;
-use crate::refusal::states_number;
 use crate::walk::Stepped;
 use crate::walk::Walk;
-use bus::word_of;
 use directory::Directory;
 use doubleword::Change;
 use doubleword::changed_by;
 use doubleword::read_doubleword;
+use memory::word_of;
+use refusal::input_number;
+use refusal::states_number;
 
 // The next doubleword of a read, by lent fields of the directory.
 pub fn read_step<'a>(

@@ -3,23 +3,23 @@ ghost use mathlib.Core.Path.{_≡_};
 ghost use Prim.Native.Nat.{_<_};
 ghost use lib.ListN.{length};
 ghost use Rattle.directory.specs.Ways.{lookupIn};
-ghost use Rattle.bus.specs.Parity.{memory};
+ghost use Rattle.memory.specs.Parity.{memory};
 ghost use Rattle.doubleword.specs.Doubleword.{writeDone};
 ghost use Rattle.access.specs.Access.{after, state, writeCall};
 ghost use Rattle.access.specs.Walks.{lineAt, nextDoubleword, Path, WriteStep};
 use crate::outcome::Outcome;
 use crate::outcome::refused;
-use crate::refusal::input_number;
-use crate::refusal::or_else;
-use crate::refusal::states_number;
-use crate::refusal::value_number;
 use crate::walk::Stepped;
 use crate::walk::Walk;
-use bus::bytes_of;
 use directory::Directory;
 use doubleword::Change;
 use doubleword::changed_by;
 use doubleword::write_doubleword;
+use memory::bytes_of;
+use refusal::input_number;
+use refusal::or_else;
+use refusal::states_number;
+use refusal::value_number;
 
 // The next doubleword of a write, by lent fields of the directory.
 pub fn write_step<'a>(

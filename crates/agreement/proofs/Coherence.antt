@@ -14,12 +14,12 @@ use Rattle.directory.specs.Address.{setOf, tagOf, lineOf}
 use Rattle.directory.specs.Steps.{afterFill}
 use Rattle.directory.specs.WellFormed.{Held, Same, WellFormed}
 use Rattle.directory.proofs.Laws.{fill-held}
-use Rattle.bus.specs.Bytes.{bytesAt}
-use Rattle.bus.specs.Parity.{Agrees}
+use Rattle.memory.specs.Bytes.{bytesAt}
+use Rattle.memory.specs.Parity.{Agrees}
 use Rattle.doubleword.specs.Doubleword.{slotOf}
 use Rattle.access.specs.Access.{State}
-use Rattle.access.proofs.Accepted.{GoodMemory}
-use Rattle.bus.proofs.Places.{sets-below, sets-above, sets-in}
+use Rattle.refusal.proofs.Accepted.{GoodMemory}
+use Rattle.memory.proofs.Places.{sets-below, sets-above, sets-in}
 use Rattle.agreement.proofs.Bytes.{bytes-same}
 
 -- the address of a line, by its set and tag

@@ -6,11 +6,11 @@ use mathlib.Core.List.{List, [], _∷_}
 use native.Mathlib.Omega.{arith}
 use lib.ListN.{drop, replicate, length-replicate}
 use Rattle.laws.proofs.Below.{four}
-use Rattle.bus.proofs.Places.{zeros-at}
-use Rattle.bus.specs.Parity.{memory, Agrees, dpAt, laneBit, dpOf, onesOf}
+use Rattle.memory.proofs.Places.{zeros-at}
+use Rattle.memory.specs.Parity.{memory, Agrees, dpAt, laneBit, dpOf, onesOf}
 use Rattle.access.specs.Access.{State}
 use Rattle.access.specs.Board.{boardAnswers}
-use Rattle.access.specs.Refusal.{lentNumber, memoryNumber}
+use Rattle.refusal.specs.Refusal.{lentNumber, memoryNumber}
 use Rattle.lines.specs.declared.scanning.Event.{Event}
 use Rattle.lines.specs.declared.scanning.Event.the-variants.{Malformed, Read, Write, External, Snoop, Flush, Control, Reset}
 use Rattle.lines.specs.Fields.{bytesOf, linesOf}

@@ -8,9 +8,9 @@ use borrow.Author.Tests.{eqb-true}
 use Rattle.laws.proofs.Tests.{by-test}
 use Rattle.directory.specs.Steps.{afterReset}
 use Rattle.directory.proofs.Laws.{reset-none, reset-control, reset-well-formed}
-use Rattle.bus.specs.Parity.{Memory}
+use Rattle.memory.specs.Parity.{Memory}
 use Rattle.access.specs.Access.{State, state}
-use Rattle.access.proofs.Accepted.{lent-accepted}
+use Rattle.refusal.proofs.Accepted.{lent-accepted}
 use Rattle.agreement.specs.Calls.{Call, read, write, external, snoop, flush, control, view, reset, step, nextState}
 use Rattle.agreement.specs.Plain.{plainNumber, plainDone, plain}
 use Rattle.agreement.specs.Agreement.{AgreesAll, NeverSetsNw, Legal, Demand3, Arises, ArisesAll, NumbersThatArise}

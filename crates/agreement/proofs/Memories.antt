@@ -10,8 +10,8 @@ use lib.Seq.{sets, getD-set-same, getD-set-other}
 use borrow.Author.Tests.{eq-eqb}
 use Rattle.laws.proofs.Below.{four}
 use Rattle.laws.proofs.Tests.{same-or}
-use Rattle.bus.specs.Parity.{Memory, dpOf, laneBit, dpAt, withDp, put, stored, wrongAt, wrongIn, Agrees}
-use Rattle.bus.proofs.Bits.{dp-below, put-lengths}
+use Rattle.memory.specs.Parity.{Memory, dpOf, laneBit, dpAt, withDp, put, stored, wrongAt, wrongIn, Agrees}
+use Rattle.memory.proofs.Bits.{dp-below, put-lengths}
 
 -- a bit that is written is read back
 same-lane : (p lane bit : ℕ) → lane < 4 → bit < 2 → laneBit (withDp p lane bit) lane ≡ bit

@@ -14,10 +14,10 @@ use Rattle.directory.specs.Steps.{stateOf, controlRefused}
 use Rattle.directory.proofs.Laws.{good-state-zero}
 use Rattle.access.specs.Access.{State, readNumber, writeNumber}
 use Rattle.access.specs.Masters.{masterNumber}
-use Rattle.access.specs.Refusal.{when, orElse, ramNumber, memoryNumber, arrayNumber, lentNumber, badWidth, badAnswers, argumentNumber, valueNumber, externalNumber, viewAddressNumber, viewInputNumber, statesIn, statesOf}
-use Rattle.access.proofs.Accepted.{zero-or, first-or, GoodMemory}
-use Rattle.views.specs.View.{viewNumberIn, viewNumberOf}
-use Rattle.agreement.specs.Calls.{Call, read, write, external, snoop, flush, control, view, reset}
+use Rattle.refusal.specs.Refusal.{when, orElse, ramNumber, memoryNumber, arrayNumber, lentNumber, badWidth, badAnswers, argumentNumber, valueNumber, externalNumber, viewAddressNumber, viewInputNumber, statesIn, statesOf}
+use Rattle.refusal.proofs.Accepted.{zero-or, first-or, GoodMemory}
+use Rattle.views.specs.View.{viewNumberIn}
+use Rattle.agreement.specs.Calls.{Call, read, write, external, snoop, flush, control, view, reset, viewNumberOf}
 use Rattle.agreement.specs.Plain.{plainNumber}
 use Rattle.agreement.specs.Agreement.{Arises}
 use Rattle.agreement.proofs.Coherence.{Coherent}

@@ -16,13 +16,13 @@ use Rattle.directory.specs.Steps.{lookupOf, victimOf, afterUse, afterFill}
 use Rattle.directory.specs.WellFormed.{WellFormed}
 use Rattle.directory.proofs.FourWays.{victim-below}
 use Rattle.directory.proofs.Laws.{lookup-at, use-held, use-control, use-well-formed, fill-control, fill-address-well-formed}
-use Rattle.bus.specs.Bytes.{bytesAt}
+use Rattle.memory.specs.Bytes.{bytesAt}
 use Rattle.bus.specs.Bus.{ken, burst, lastAnswer}
 use Rattle.bus.specs.Record.{plainRead, filling}
 use Rattle.doubleword.specs.declared.change.Change.the-variants.{Keep, Fill}
 use Rattle.doubleword.specs.Doubleword.{Doubleword, Done, changed, slotOf, ownCycles, fillCycles, bufferOf, readHit, readPlain, readFill, readDone}
 use Rattle.access.specs.Access.{State, state, Progress, readOne, next, allOf}
-use Rattle.bus.proofs.Places.{bytes-at, bytes-length}
+use Rattle.memory.proofs.Places.{bytes-at, bytes-length}
 use Rattle.agreement.proofs.Bytes.{bytes-same}
 use Rattle.agreement.proofs.Cycles.{Sound, sound-append, sound-reads, cycles-within, burst-each, fill-buffer, own-bytes}
 use Rattle.agreement.proofs.Coherence.{Lines, Off, Coherent, fewer-lines, held-bytes, filled-lines}

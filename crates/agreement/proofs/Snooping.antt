@@ -10,9 +10,9 @@ use Rattle.directory.specs.Address.{setOf, tagOf}
 use Rattle.directory.specs.Steps.{afterSnoop}
 use Rattle.directory.specs.WellFormed.{Held}
 use Rattle.directory.proofs.Laws.{snoop-held, snoop-control, snoop-none, snoop-well-formed}
-use Rattle.bus.specs.Parity.{stored}
+use Rattle.memory.specs.Parity.{stored}
 use Rattle.access.specs.Access.{State, state}
-use Rattle.access.proofs.Accepted.{GoodExternal}
+use Rattle.refusal.proofs.Accepted.{GoodExternal}
 use Rattle.agreement.proofs.Coherence.{addressOf, Lines, Off, Coherent, fewer-lines, line-set, stored-miss}
 use Rattle.agreement.proofs.Writing.{coherent-stored}
 

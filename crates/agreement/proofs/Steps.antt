@@ -14,17 +14,17 @@ use Rattle.directory.specs.Address.{setOf, tagOf}
 use Rattle.directory.specs.Steps.{lookupOf, afterReset, afterFlush, afterControl, afterSnoop, controlRefused}
 use Rattle.directory.specs.WellFormed.{WellFormed}
 use Rattle.directory.proofs.Laws.{lookup-at, reset-none, reset-control, reset-well-formed, flush-none, flush-control, flush-well-formed, control-held, control-set, control-well-formed, control-accepted, control-refused, snoop-well-formed, snoop-accepted}
-use Rattle.bus.specs.Bytes.{bytesAt, valueOf}
+use Rattle.memory.specs.Bytes.{bytesAt, valueOf}
 use Rattle.bus.specs.Groups.{groups}
 use Rattle.doubleword.specs.Doubleword.{slotOf, doublewordsOf}
 use Rattle.access.specs.Access.{State, after, outcome, refused, accepted, operandOf, readNumber, writeNumber, readAll, writeAll, readCall, writeCall}
 use Rattle.access.specs.Masters.{masterNumber}
-use Rattle.access.specs.Refusal.{argumentNumber, valueNumber}
-use Rattle.access.proofs.Accepted.{or-zero, arguments-accepted, external-accepted}
+use Rattle.refusal.specs.Refusal.{argumentNumber, valueNumber}
+use Rattle.refusal.proofs.Accepted.{or-zero, arguments-accepted, external-accepted}
 use Rattle.access.proofs.Calls.{external-refused, external-done}
-use Rattle.views.specs.View.{shown, viewNumberOf}
+use Rattle.views.specs.View.{shown}
 use Rattle.views.proofs.Viewing.{view-refused, view-done}
-use Rattle.agreement.specs.Calls.{Call, read, write, external, snoop, flush, control, view, reset, Step, leaving, directoryStep, step, nextState}
+use Rattle.agreement.specs.Calls.{Call, read, write, external, snoop, flush, control, view, reset, Step, leaving, directoryStep, step, nextState, viewNumberOf}
 use Rattle.agreement.specs.Plain.{Plain, plainly, plainNumber, plainDone, plain}
 use Rattle.agreement.specs.Agreement.{NoParityError, setsNw}
 use Rattle.agreement.proofs.Bytes.{bytes-same, operand-bytes}

@@ -14,13 +14,13 @@ use Rattle.directory.specs.Address.{setOf}
 use Rattle.directory.specs.Steps.{lookupOf, afterUse}
 use Rattle.directory.specs.WellFormed.{WellFormed}
 use Rattle.directory.proofs.Laws.{lookup-at, lookup-nothing, use-kept, use-well-formed}
-use Rattle.bus.specs.Parity.{stored}
+use Rattle.memory.specs.Parity.{stored}
 use Rattle.bus.specs.Bus.{sent, through}
 use Rattle.bus.specs.Record.{writeRecord}
 use Rattle.doubleword.specs.declared.change.Change.the-variants.{Keep, Use}
 use Rattle.doubleword.specs.Doubleword.{Doubleword, Done, changed, slotOf, ownCycles, laid, writeThrough, hitArray, writeDone}
 use Rattle.access.specs.Access.{State, state, Progress, writeOne, next, allOf}
-use Rattle.bus.proofs.Places.{bytes-length}
+use Rattle.memory.proofs.Places.{bytes-length}
 use Rattle.agreement.proofs.Memories.{stored-ram, stored-parity, stored-agrees}
 use Rattle.agreement.proofs.Cycles.{Sound, sound-append, sound-writes, cycles-within, own-stored}
 use Rattle.agreement.proofs.Coherence.{Lines, Off, Coherent, line-set, line-tag, stored-miss, stored-hit}

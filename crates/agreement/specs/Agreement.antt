@@ -6,9 +6,9 @@ use mathlib.Core.List.{List, [], _∷_}
 use mathlib.Core.Logic.{_⊎_}
 use lib.ListN.{length, getD}
 use Rattle.directory.specs.Steps.{afterReset, controlRefused}
-use Rattle.bus.specs.Parity.{Memory, Agrees}
+use Rattle.memory.specs.Parity.{Memory, Agrees}
 use Rattle.access.specs.Access.{State, state, After}
-use Rattle.access.specs.Refusal.{lentNumber}
+use Rattle.refusal.specs.Refusal.{lentNumber}
 use Rattle.agreement.specs.Calls.{Call, read, write, external, snoop, flush, control, view, reset, Step, step, nextState}
 use Rattle.agreement.specs.Plain.{Plain, plain}
 

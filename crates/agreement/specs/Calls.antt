@@ -2,10 +2,11 @@
 use Prim.Native.Nat.{ℕ}
 use mathlib.Core.Bool.{Bool}
 use mathlib.Core.List.{List, []}
+use lib.ListN.{length}
 use Rattle.access.specs.declared.outcome.Outcome.{Outcome}
 use Rattle.access.specs.Access.{State, state, After, after, outcome, readCall, writeCall}
 use Rattle.access.specs.Masters.{Written, externalCall, snoopOutcome, controlOutcome, flushOutcome, resetOutcome}
-use Rattle.views.specs.View.{viewNumberOf, viewOf}
+use Rattle.views.specs.View.{viewNumberIn, viewIn}
 
 -- "the calls' arguments except directory, RAM, parity and data array": "The log, the board's answers and an external write's bytes are each call's own and may be anything."
 pub data Call : Type 0 where
@@ -33,6 +34,15 @@ externalStep s w = leaving (after (w .outcome) (w .memory) (s .array) [])
 
 abbrev pub directoryStep : State → Outcome → Step
 directoryStep s o = leaving (after o (s .memory) (s .array) [])
+
+-- A view and its number, of the state of the unit: those that `views` gives for its arrays.
+abbrev pub viewNumberOf : State → ℕ → ℕ
+viewNumberOf s address =
+    viewNumberIn (s .directory .tags) (s .directory .valid) (s .directory .lru) (length (s .memory .ram)) (length (s .array)) address
+
+abbrev pub viewOf : State → ℕ → List ℕ
+viewOf s address =
+    viewIn (s .directory .tags) (s .directory .valid) (s .directory .lru) (s .memory .ram) (s .array) address
 
 -- "the number (a view's is its companion question's)"; views change nothing.
 abbrev pub viewStep : State → ℕ → List ℕ → Step

@@ -9,12 +9,12 @@ use lib.Dec.{eqb}
 use lib.ListN.{length, getD, drop}
 use lib.Seq.{drop-cons, sets, length-sets}
 use Rattle.bus.specs.declared.cycle.Turn.{Turn}
-use Rattle.bus.specs.Bytes.{bytesAt, wordIn}
-use Rattle.bus.specs.Parity.{Memory, put, stored, wrongIn}
+use Rattle.memory.specs.Bytes.{bytesAt, wordIn}
+use Rattle.memory.specs.Parity.{Memory, put, stored, wrongIn}
 use Rattle.bus.specs.Bus.{Run, run, sizeOf, Cycle, cyclesOf, lastAnswer, through, brought, sent}
 use Rattle.bus.specs.Record.{Record, flagsOf, readRecord, writeRecord, wordsOf, logged}
 use Rattle.bus.specs.Turns.{wantedAt, nextTurn, cycleAt, Ready, Room, ReadCycle, ReadCycles, WriteCycle, WriteCycles}
-use Rattle.bus.proofs.Bits.{put-lengths}
+use Rattle.memory.proofs.Bits.{put-lengths}
 use Rattle.bus.proofs.Sizing.{size-most, wanted-some, wanted-none, wanted-next, last-next, next-used, next-ready}
 
 -- one record, then the others

@@ -4,8 +4,8 @@ use mathlib.Core.Bool.{Bool, true, false, cond}
 use mathlib.Core.List.{List, [], _∷_}
 use lib.Dec.{eqb}
 use lib.Seq.{sets}
-use Rattle.bus.specs.Bytes.{bytesAt}
-use Rattle.bus.specs.Parity.{Memory, stored}
+use Rattle.memory.specs.Bytes.{bytesAt}
+use Rattle.memory.specs.Parity.{Memory, stored}
 
 -- "An answer is 1 for KEN# active + 2 for BS8# + 4 for BS16#."
 abbrev pub ken : ℕ → Bool

@@ -1,7 +1,5 @@
 -- The bus by document 01, in its order: what a reader must believe of this crate.
 -- `Turns` alone is no rule: it says what the code's own state between cycles stands for.
-pub mod Bytes
-pub mod Parity
 pub mod Groups
 pub mod Bus
 pub mod Record

@@ -6,7 +6,7 @@ use mathlib.Core.List.{List, [], _∷_, map}
 use lib.Dec.{eqb}
 use lib.ListN.{length, getD}
 use Rattle.bus.specs.declared.cycle.Turn.{Turn}
-use Rattle.bus.specs.Parity.{Memory}
+use Rattle.memory.specs.Parity.{Memory}
 use Rattle.bus.specs.Bus.{Run, run, sizeOf, Cycle, cyclesOf, burst, brought, sent, through, lastAnswer}
 use Rattle.bus.specs.Record.{logged, readRecord, writeRecord}
 

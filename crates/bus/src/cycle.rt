@@ -3,16 +3,16 @@ ghost use mathlib.Core.Path.{_≡_};
 ghost use mathlib.Core.List.{[], _∷_, map};
 ghost use Prim.Native.Nat.{_+_, _≤_, _<_};
 ghost use lib.ListN.{length, getD};
-ghost use Rattle.bus.specs.Parity.{memory};
+ghost use Rattle.memory.specs.Parity.{memory};
 ghost use Rattle.bus.specs.Bus.{room, run, sizeOf};
 ghost use Rattle.bus.specs.Record.{logged, readRecord, writeRecord};
 ghost use Rattle.bus.specs.Turns.{beginTurn, burstAt, cycleAt, nextTurn, Ready, Room, ReadCycle, ReadCycles, WriteCycle, WriteCycles};
-use crate::bytes::copy_bytes;
-use crate::bytes::lane_word;
-use crate::parity::any_wrong;
-use crate::parity::store_bytes;
 use crate::record::flags_of;
 use crate::record::put_record;
+use memory::any_wrong;
+use memory::copy_bytes;
+use memory::lane_word;
+use memory::store_bytes;
 
 // What is left between two cycles: the wanted bytes of the doubleword now on the bus, its turn in the burst order, the
 // doublewords after it, the answers used and the last of them. Nothing is wanted where count is 0.

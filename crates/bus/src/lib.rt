@@ -1,13 +1,8 @@
-// The bus: sizing of cycles, burst order, records, RAM and its parity. It knows nothing of the directory.
-mod bytes;
+// The bus: sizing of cycles, burst order, records, and the loops that make the cycles of a doubleword. It knows nothing of
+// the directory.
 mod cycle;
-mod parity;
 mod record;
 
-pub use bytes::bytes_of;
-pub use bytes::copy_bytes;
-pub use bytes::word_of;
 pub use cycle::Turn;
 pub use cycle::read_cycles;
 pub use cycle::write_cycles;
-pub use parity::store_bytes;

@@ -14,8 +14,8 @@ use Rattle.directory.specs.Address.{setOf}
 use Rattle.directory.specs.Ways.{lookupIn, victimIn}
 use Rattle.directory.proofs.FourWays.{lookup-below, victim-below}
 use Rattle.bus.specs.declared.cycle.Turn.{Turn}
-use Rattle.bus.specs.Bytes.{bytesAt}
-use Rattle.bus.specs.Parity.{Memory}
+use Rattle.memory.specs.Bytes.{bytesAt}
+use Rattle.memory.specs.Parity.{Memory}
 use Rattle.bus.specs.Bus.{ken, Cycle, cyclesOf, lastAnswer, through, brought}
 use Rattle.bus.specs.Record.{readRecord, writeRecord, wordsOf, plainRead, filling}
 use Rattle.bus.specs.Turns.{beginTurn, later, wantedAt, Ready, Room, ReadCycles, WriteCycles}

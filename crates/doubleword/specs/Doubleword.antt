@@ -12,8 +12,8 @@ use Rattle.directory.specs.Steps.{afterUse, afterFill}
 use Rattle.bus.specs.Groups.{group}
 use Rattle.doubleword.specs.declared.change.Change.{Change}
 use Rattle.doubleword.specs.declared.change.Change.the-variants.{Keep, Use, Fill}
-use Rattle.bus.specs.Bytes.{bytesAt}
-use Rattle.bus.specs.Parity.{Memory}
+use Rattle.memory.specs.Bytes.{bytesAt}
+use Rattle.memory.specs.Parity.{Memory}
 use Rattle.bus.specs.Bus.{ken, Run, run, Cycle, cyclesOf, burst, lastAnswer, through, brought, sent}
 use Rattle.bus.specs.Record.{Record, readRecord, writeRecord, plainRead, filling}
 

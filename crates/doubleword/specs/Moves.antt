@@ -6,9 +6,9 @@ use mathlib.Core.List.{List, map}
 use lib.ListN.{length}
 use lib.Seq.{sets}
 use Rattle.bus.specs.declared.cycle.Turn.{Turn}
-use Rattle.bus.specs.Bytes.{bytesAt}
+use Rattle.memory.specs.Bytes.{bytesAt}
 use Rattle.bus.specs.Groups.{group}
-use Rattle.bus.specs.Parity.{Memory}
+use Rattle.memory.specs.Parity.{Memory}
 use Rattle.bus.specs.Bus.{run, Cycle, brought, sent, through, lastAnswer}
 use Rattle.bus.specs.Record.{logged, readRecord, writeRecord, plainRead, filling}
 use Rattle.doubleword.specs.declared.change.Change.{Change}

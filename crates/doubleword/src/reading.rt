@@ -4,7 +4,7 @@ ghost use Prim.Native.Nat.{_+_, _≤_};
 ghost use lib.ListN.{length};
 ghost use Rattle.directory.specs.Address.{setOf};
 ghost use Rattle.directory.specs.Ways.{lookupIn, victimIn};
-ghost use Rattle.bus.specs.Parity.{memory};
+ghost use Rattle.memory.specs.Parity.{memory};
 ghost use Rattle.doubleword.specs.Doubleword.{readDone};
 ghost use Rattle.doubleword.specs.Moves.{doublewordOf, keptArray, keptChange, Missed, Reads, Spot};
 use crate::change::Change;
@@ -12,9 +12,9 @@ use crate::change::Moved;
 use crate::change::Wanted;
 use crate::change::slot_of;
 use bus::Turn;
-use bus::copy_bytes;
 use bus::read_cycles;
 use directory::Found;
+use memory::copy_bytes;
 
 // The cycles of a doubleword that missed: a fill of its line, or its own bytes.
 fn read_missed(

@@ -3,7 +3,7 @@ ghost use mathlib.Core.Path.{_≡_};
 ghost use Prim.Native.Nat.{_+_, _≤_};
 ghost use lib.ListN.{length};
 ghost use Rattle.directory.specs.Ways.{lookupIn};
-ghost use Rattle.bus.specs.Parity.{memory};
+ghost use Rattle.memory.specs.Parity.{memory};
 ghost use Rattle.doubleword.specs.Doubleword.{writeDone};
 ghost use Rattle.doubleword.specs.Moves.{doublewordOf, Sends, Spot, Writes};
 use crate::change::Change;
@@ -11,9 +11,9 @@ use crate::change::Moved;
 use crate::change::Wanted;
 use crate::change::slot_of;
 use bus::Turn;
-use bus::copy_bytes;
 use bus::write_cycles;
 use directory::Found;
+use memory::copy_bytes;
 
 // The write cycles of a doubleword, from the operand through a line buffer.
 fn write_through(

@@ -9,7 +9,7 @@ use lib.Seq.{sets, take-all, drop-drop}
 use borrow.Author.Tests.{lt-ltb, le-ltb}
 use Rattle.laws.proofs.Lists.{sets-append}
 use Rattle.bytes.specs.Bytes.{indexOf}
-use Rattle.bus.specs.Parity.{Memory}
+use Rattle.memory.specs.Parity.{Memory}
 use Rattle.access.specs.declared.outcome.Outcome.{Outcome}
 use Rattle.access.specs.Access.{State, state}
 use Rattle.lines.specs.Fields.{newline, linesOf, withoutEmptyEnd, partsOf}

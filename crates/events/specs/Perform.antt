@@ -3,7 +3,7 @@ use Prim.Native.Nat.{ℕ, _*_}
 use mathlib.Core.List.{List}
 use lib.ListN.{drop, replicate}
 use Rattle.bus.specs.Groups.{group, groups}
-use Rattle.bus.specs.Parity.{Memory}
+use Rattle.memory.specs.Parity.{Memory}
 use Rattle.access.specs.declared.outcome.Outcome.{Outcome}
 use Rattle.access.specs.Access.{State, After, outcome, readCall, writeCall}
 use Rattle.access.specs.Masters.{Written, externalCall, snoopOutcome, controlOutcome, flushOutcome, resetOutcome}

@@ -2,7 +2,7 @@
 ghost use mathlib.Core.Path.{_≡_};
 ghost use Prim.Native.Nat.{_≤_};
 ghost use lib.ListN.{length};
-ghost use Rattle.bus.specs.Parity.{memory};
+ghost use Rattle.memory.specs.Parity.{memory};
 ghost use Rattle.access.specs.Access.{outcome, readCall, state, writeCall};
 ghost use Rattle.access.specs.Board.{boardAnswers};
 ghost use Rattle.access.specs.Masters.{externalCall, written};

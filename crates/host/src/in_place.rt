@@ -1,16 +1,46 @@
-// The calls that a guest makes millions of times, on a directory whose arrays are lent.
+// The calls on a directory whose arrays are lent, for a host that holds one: the same rules as the calls by value, and
+// nothing of the directory is copied. A contract holds whatever the one of CD and NW is that the call does not look at.
 ghost use mathlib.Core.Path.{_≡_};
 ghost use mathlib.Core.Bool.{Bool};
 ghost use mathlib.Core.List.{List};
 ghost use Prim.Native.Nat.{ℕ};
-ghost use lib.ListN.{length};
-ghost use lib.Seq.{sets};
 ghost use Rattle.directory.specs.Steps.{afterFlush, answer, directoryOf, snoopCall};
-ghost use Rattle.bus.specs.Parity.{memory};
+ghost use Rattle.memory.specs.Parity.{memory};
 ghost use Rattle.access.specs.Access.{after, outcome, readCall, state, writeCall};
 ghost use Rattle.access.specs.Masters.{externalCall, written};
-ghost use Rattle.views.specs.View.{viewIn, viewNumberIn};
-use access::CallResult;
+use access::Walk;
+use access::read_step;
+use access::write_step;
+use directory::drop_in_place;
+use doubleword::change_in_place;
+use memory::bytes_of;
+use memory::store_bytes;
+use memory::word_of;
+use refusal::external_number;
+use refusal::input_number;
+use refusal::memory_number;
+use refusal::or_else;
+use refusal::states_number;
+use refusal::value_number;
+
+// What a call answers, apart from the directory: 0 where it was done or the number that turned it away, a read's value, the
+// count of cycles.
+#[repr(C)]
+pub struct CallResult {
+    pub number: u32,
+    pub value: u32,
+    pub cycles: u32,
+}
+
+fn turned_away(number: u32) -> CallResult
+    ensures { λ r. ⌜ r ≡ record { number = number; value = 0; cycles = 0 } ⌝ }
+{
+    CallResult {
+        number,
+        value: 0,
+        cycles: 0,
+    }
+}
 
 #[no_mangle]
 pub extern "C" fn unit486_read_in_place<'a>(
@@ -31,20 +61,39 @@ pub extern "C" fn unit486_read_in_place<'a>(
         (memory (now (ram .entry)) (now (parity .entry))) (now («data» .exit)) (now (log .exit))
         ≡ readCall (state (directoryOf (now (tags .entry)) (now (valid .entry)) (now (lru .entry)) cd nw) (memory (now (ram .entry)) (now (parity .entry))) (now («data» .entry))) address width pcd (now (answers .entry)) (now (log .entry))) ⌝ }
 {
-    access::read_in_place(
-        tags,
-        valid,
-        lru,
-        cd,
-        ram,
-        parity,
-        data,
-        address,
-        width,
-        pcd,
-        answers,
-        log,
-    )
+    let number = input_number(ram, parity, data, answers, log, address, width);
+    if number != 0 {
+        return turned_away(number);
+    }
+    let bad = states_number(tags, valid, lru, address, width);
+    if bad != 0 {
+        return turned_away(bad);
+    }
+    let mut operand = [0u8; 4];
+    let mut walk = Walk::start(address, width);
+    while 0 < walk.left {
+        let step = read_step(
+            tags,
+            valid,
+            lru,
+            !cd & !pcd,
+            ram,
+            parity,
+            data,
+            answers,
+            log,
+            &mut operand,
+            walk,
+        );
+        let change = step.change;
+        change_in_place(tags, valid, lru, step.line, change);
+        walk = walk.next(step.count, step.records);
+    }
+    CallResult {
+        number: 0,
+        value: word_of(operand),
+        cycles: walk.records as u32,
+    }
 }
 
 #[no_mangle]
@@ -67,21 +116,39 @@ pub extern "C" fn unit486_write_in_place<'a>(
         (memory (now (ram .exit)) (now (parity .exit))) (now («data» .exit)) (now (log .exit))
         ≡ writeCall (state (directoryOf (now (tags .entry)) (now (valid .entry)) (now (lru .entry)) cd nw) (memory (now (ram .entry)) (now (parity .entry))) (now («data» .entry))) address width value (now (answers .entry)) (now (log .entry)) ⌝ }
 {
-    access::write_in_place(
-        tags,
-        valid,
-        lru,
-        cd,
-        nw,
-        ram,
-        parity,
-        data,
-        address,
-        width,
-        value,
-        answers,
-        log,
-    )
+    let number = input_number(ram, parity, data, answers, log, address, width);
+    if number != 0 {
+        return turned_away(number);
+    }
+    let states = states_number(tags, valid, lru, address, width);
+    let bad = or_else(value_number(width, value), states);
+    if bad != 0 {
+        return turned_away(bad);
+    }
+    let operand = bytes_of(value);
+    let mut walk = Walk::start(address, width);
+    while 0 < walk.left {
+        let step = write_step(
+            tags,
+            valid,
+            cd & nw,
+            ram,
+            parity,
+            data,
+            answers,
+            log,
+            &operand,
+            walk,
+        );
+        let change = step.change;
+        change_in_place(tags, valid, lru, step.line, change);
+        walk = walk.next(step.count, step.records);
+    }
+    CallResult {
+        number: 0,
+        value: 0,
+        cycles: walk.records as u32,
+    }
 }
 
 #[no_mangle]
@@ -98,7 +165,21 @@ pub extern "C" fn unit486_external_write_in_place<'a>(
     ensures { λ r. ⌜ ((cd : Bool) → written (outcome (directoryOf (now (tags .entry)) (now (valid .exit)) (now (lru .entry)) cd nw) r 0 0) (memory (now (ram .exit)) (now (parity .exit)))
         ≡ externalCall (directoryOf (now (tags .entry)) (now (valid .entry)) (now (lru .entry)) cd nw) (memory (now (ram .entry)) (now (parity .entry))) address (now (bytes .entry))) ⌝ }
 {
-    access::external_write_in_place(tags, valid, lru, nw, ram, parity, address, bytes)
+    let count = bytes.len();
+    let number = or_else(
+        memory_number(ram.len(), parity.len()),
+        external_number(ram.len(), address, count),
+    );
+    if number != 0 {
+        return number;
+    }
+    let bad = states_number(tags, valid, lru, address, count as u32);
+    if bad != 0 {
+        return bad;
+    }
+    store_bytes(bytes, 0, ram, parity, address as usize, count);
+    drop_in_place(tags, valid, nw, address);
+    0
 }
 
 #[no_mangle]
@@ -121,39 +202,4 @@ pub extern "C" fn unit486_flush_in_place(valid: &mut [bool; 512])
         ≡ afterFlush (directoryOf tags (now (valid .entry)) lru cd nw)) ⌝ }
 {
     directory::flush_in_place(valid)
-}
-
-// The companion question of a view.
-#[no_mangle]
-pub extern "C" fn unit486_view_number<'a>(
-    tags: &'a [u32; 512],
-    valid: &'a [bool; 512],
-    lru: &'a [u8; 128],
-    ram: &'a [u8],
-    data: &'a [u8],
-    address: u32,
-) -> u32
-    ensures { λ r. ⌜ r ≡ viewNumberIn (now (tags .entry)) (now (valid .entry)) (now (lru .entry)) (length (now (ram .entry))) (length (now («data» .entry))) address ⌝ }
-{
-    views::view_number(tags, valid, lru, ram, data, address)
-}
-
-// A line view copied out, since no exported function can return a part of what it is lent. Answers the view's number; where
-// that is not 0 nothing is copied.
-#[no_mangle]
-pub extern "C" fn unit486_view<'a>(
-    tags: &'a [u32; 512],
-    valid: &'a [bool; 512],
-    lru: &'a [u8; 128],
-    ram: &'a [u8],
-    data: &'a [u8],
-    address: u32,
-    shown: &mut [u8; 16],
-) -> u32
-    ensures { λ r. ⌜ (r ≡ viewNumberIn (now (tags .entry)) (now (valid .entry)) (now (lru .entry)) (length (now (ram .entry))) (length (now («data» .entry))) address)
-        × (now (shown .exit) ≡ sets (now (shown .entry)) 0 (viewIn (now (tags .entry)) (now (valid .entry)) (now (lru .entry)) (now (ram .entry)) (now («data» .entry)) address)) ⌝ }
-{
-    let part = views::view(tags, valid, lru, ram, data, address);
-    bus::copy_bytes(part, 0, shown, 0, part.len());
-    views::view_number(tags, valid, lru, ram, data, address)
 }

@@ -14,11 +14,11 @@ use Rattle.directory.specs.declared.ways.Found.the-variants.{At, Nothing}
 use Rattle.directory.specs.Address.{setOf}
 use Rattle.directory.specs.State.{stateIn}
 use Rattle.directory.specs.Ways.{lookupIn}
-use Rattle.bus.specs.Bytes.{bytesAt}
+use Rattle.memory.specs.Bytes.{bytesAt}
 use Rattle.doubleword.specs.Doubleword.{slotOf}
-use Rattle.access.specs.Refusal.{orElse, viewInputNumber}
-use Rattle.bus.proofs.Places.{bytes-length}
-use Rattle.access.proofs.Accepted.{or-zero, zero-or, first-or, GoodView, view-accepted}
+use Rattle.refusal.specs.Refusal.{orElse, viewInputNumber}
+use Rattle.memory.proofs.Places.{bytes-length}
+use Rattle.refusal.proofs.Accepted.{or-zero, zero-or, first-or, GoodView, view-accepted}
 use Rattle.views.specs.View.{viewNumberIn, shown, viewIn}
 
 -- a part that lies within a list

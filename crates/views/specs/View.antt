@@ -9,10 +9,9 @@ use Rattle.directory.specs.declared.ways.Found.the-variants.{At, Nothing}
 use Rattle.directory.specs.Address.{setOf}
 use Rattle.directory.specs.Ways.{lookupIn}
 use Rattle.directory.specs.State.{stateIn}
-use Rattle.bus.specs.Bytes.{bytesAt}
+use Rattle.memory.specs.Bytes.{bytesAt}
 use Rattle.doubleword.specs.Doubleword.{slotOf}
-use Rattle.access.specs.Refusal.{orElse, viewInputNumber}
-use Rattle.access.specs.Access.{State}
+use Rattle.refusal.specs.Refusal.{orElse, viewInputNumber}
 
 -- "a companion question on the same inputs gives the view's number": 1, 3 and 5, then the state of its set.
 unfoldable pub viewNumberIn : List ℕ → List Bool → List ℕ → ℕ → ℕ → ℕ → ℕ
@@ -29,12 +28,3 @@ unfoldable pub viewIn : List ℕ → List Bool → List ℕ → List ℕ → Lis
 viewIn tags valid lru ram array address =
     cond (eqb (viewNumberIn tags valid lru (length ram) (length array) address) 0)
     (shown (lookupIn tags valid address) ram array address) []
-
--- The same of the state of the unit.
-abbrev pub viewNumberOf : State → ℕ → ℕ
-viewNumberOf s address =
-    viewNumberIn (s .directory .tags) (s .directory .valid) (s .directory .lru) (length (s .memory .ram)) (length (s .array)) address
-
-abbrev pub viewOf : State → ℕ → List ℕ
-viewOf s address =
-    viewIn (s .directory .tags) (s .directory .valid) (s .directory .lru) (s .memory .ram) (s .array) address

@@ -3,14 +3,14 @@
 ghost use mathlib.Core.Path.{_≡_};
 ghost use Prim.Native.Nat.{_+_, _≤_};
 ghost use lib.ListN.{length};
-ghost use Rattle.bus.specs.Bytes.{bytesAt};
+ghost use Rattle.memory.specs.Bytes.{bytesAt};
 ghost use Rattle.views.specs.View.{viewIn, viewNumberIn};
-use access::view_input_number;
 use directory::Found;
 use directory::lookup;
 use directory::set_of;
 use directory::state_number;
 use doubleword::slot_of;
+use refusal::view_input_number;
 
 // The companion question: 0 where the view is accepted, else the number that turns it away.
 pub fn view_number<'a>(

@@ -1,6 +1,6 @@
 use denote.Ref.{now}
 use native.Mathlib.Omega.{arith}
-use Rattle.bus.specs.Parity.{memory}
+use Rattle.memory.specs.Parity.{memory}
 use Rattle.access.proofs.Calls.{input-refused, input-good, state-refused, external-made}
 use borrow.Author.Needs.{needs}
 use Rattle.access.proofs.master.external_write.Statement.{statement}

@@ -3,7 +3,7 @@ use Rattle.access.proofs.Walking.{ReadGoing, reading-begin, reading-nex
 use Rattle.access.specs.Walks.{startWalk, restOf, Path}
 use Rattle.access.specs.Access.{state, allOf, readOne}
 use lib.ListN.{length, replicate}
-use Rattle.bus.specs.Parity.{memory}
+use Rattle.memory.specs.Parity.{memory}
 use borrow.Author.Needs.{needs}
 use mathlib.Core.Logic.{⊎-elim}
 use mathlib.Core.Path.{_≡_, refl, _∙_}

@@ -6,7 +6,7 @@ use Rattle.doubleword.specs.Doubleword.{readDone}
 use Rattle.doubleword.specs.declared.change.Wanted.{Wanted}
 use Rattle.directory.specs.Address.{setOf}
 use Rattle.directory.specs.Ways.{lookupIn, victimIn}
-use Rattle.bus.specs.Parity.{memory}
+use Rattle.memory.specs.Parity.{memory}
 use mathlib.Core.List.{List}
 use Prim.Native.Nat.{_+_, _*_}
 use mathlib.Core.Path.{refl}

@@ -3,8 +3,8 @@ use Rattle.access.proofs.Walking.{Going, going-begin, writing-next, kee
 use Rattle.access.specs.Walks.{startWalk, restOf, Path}
 use Rattle.access.specs.Access.{state, allOf, writeOne}
 use lib.ListN.{length}
-use Rattle.bus.specs.Parity.{memory}
-use Rattle.bus.specs.Bytes.{bytesOf}
+use Rattle.memory.specs.Parity.{memory}
+use Rattle.memory.specs.Bytes.{bytesOf}
 use borrow.Author.Needs.{needs}
 use mathlib.Core.Logic.{⊎-elim}
 use mathlib.Core.Path.{_≡_, refl, _∙_}

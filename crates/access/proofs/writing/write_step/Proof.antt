@@ -5,7 +5,7 @@ use Rattle.doubleword.specs.Moves.{doublewordOf}
 use Rattle.doubleword.specs.Doubleword.{writeDone}
 use Rattle.doubleword.specs.declared.change.Wanted.{Wanted}
 use Rattle.directory.specs.Ways.{lookupIn}
-use Rattle.bus.specs.Parity.{memory}
+use Rattle.memory.specs.Parity.{memory}
 use mathlib.Core.List.{List}
 use Prim.Native.Nat.{_+_, _*_}
 use mathlib.Core.Path.{refl}

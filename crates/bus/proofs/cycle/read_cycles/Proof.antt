@@ -3,7 +3,7 @@ use native.Mathlib.Omega.{arith}
 use Prim.Native.Nat.{_-_}
 use mathlib.Core.Path.{_≡_, refl, _∙_}
 use lib.ListN.{length}
-use Rattle.bus.specs.Parity.{memory}
+use Rattle.memory.specs.Parity.{memory}
 use Rattle.bus.specs.Bus.{brought}
 use Rattle.bus.specs.Record.{readRecord}
 use Rattle.bus.proofs.Cycling.{Kept, kept-begin, kept-next, less-next, read-cycles-left}

@@ -2,7 +2,7 @@ use native.Mathlib.Omega.{arith}
 use Prim.Native.Nat.{_-_}
 use mathlib.Core.Path.{_≡_, refl, _∙_}
 use lib.ListN.{length}
-use Rattle.bus.specs.Parity.{memory}
+use Rattle.memory.specs.Parity.{memory}
 use Rattle.bus.specs.Bus.{sent}
 use Rattle.bus.specs.Record.{writeRecord}
 use Rattle.bus.proofs.Cycling.{Kept, kept-begin, kept-next, less-next, write-cycle-lengths, write-cycles-left}

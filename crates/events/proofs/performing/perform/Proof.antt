@@ -2,7 +2,7 @@ use Rattle.lines.proofs.Pairs.{drop-part}
 use Rattle.lines.proofs.Within.{external-line}
 use Rattle.events.specs.Perform.{lineDone, eventDone, afterExternal}
 use Rattle.access.specs.Access.{state}
-use Rattle.bus.specs.Parity.{memory}
+use Rattle.memory.specs.Parity.{memory}
 use mathlib.Core.Path.{sym, ap, _∙_}
 use denote.Ref.{now}
 use native.Mathlib.Omega.{arith}

@@ -4,7 +4,7 @@ use Rattle.events.proofs.Rest.{left, left-none, line-done}
 use Rattle.events.specs.Output.{rowsOf, start}
 use Rattle.lines.specs.Fields.{linesOf}
 use Rattle.access.specs.Access.{state}
-use Rattle.bus.specs.Parity.{memory}
+use Rattle.memory.specs.Parity.{memory}
 use lib.Seq.{sets, length-take-le}
 use lib.ListN.{length, length-replicate}
 use mathlib.Core.Path.{_≡_, refl, sym, ap, _∙_}

@@ -1,0 +1,40 @@
+// Line views for a host.
+ghost use mathlib.Core.Path.{_≡_};
+ghost use lib.ListN.{length};
+ghost use lib.Seq.{sets};
+ghost use Rattle.views.specs.View.{viewIn, viewNumberIn};
+
+// The companion question of a view.
+#[no_mangle]
+pub extern "C" fn unit486_view_number<'a>(
+    tags: &'a [u32; 512],
+    valid: &'a [bool; 512],
+    lru: &'a [u8; 128],
+    ram: &'a [u8],
+    data: &'a [u8],
+    address: u32,
+) -> u32
+    ensures { λ r. ⌜ r ≡ viewNumberIn (now (tags .entry)) (now (valid .entry)) (now (lru .entry)) (length (now (ram .entry))) (length (now («data» .entry))) address ⌝ }
+{
+    views::view_number(tags, valid, lru, ram, data, address)
+}
+
+// A line view copied out, since no exported function can return a part of what it is lent. Answers the view's number; where
+// that is not 0 nothing is copied.
+#[no_mangle]
+pub extern "C" fn unit486_view<'a>(
+    tags: &'a [u32; 512],
+    valid: &'a [bool; 512],
+    lru: &'a [u8; 128],
+    ram: &'a [u8],
+    data: &'a [u8],
+    address: u32,
+    shown: &mut [u8; 16],
+) -> u32
+    ensures { λ r. ⌜ (r ≡ viewNumberIn (now (tags .entry)) (now (valid .entry)) (now (lru .entry)) (length (now (ram .entry))) (length (now («data» .entry))) address)
+        × (now (shown .exit) ≡ sets (now (shown .entry)) 0 (viewIn (now (tags .entry)) (now (valid .entry)) (now (lru .entry)) (now (ram .entry)) (now («data» .entry)) address)) ⌝ }
+{
+    let part = views::view(tags, valid, lru, ram, data, address);
+    memory::copy_bytes(part, 0, shown, 0, part.len());
+    views::view_number(tags, valid, lru, ram, data, address)
+}

@@ -1,0 +1,5 @@
+-- Laws that several proofs cite.
+pub mod Places
+pub mod Moves
+pub mod Words
+pub mod Bits

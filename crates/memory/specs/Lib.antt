@@ -1,0 +1,3 @@
+-- Bytes, and memory with its parity by document 01: what a reader must believe of this crate.
+pub mod Bytes
+pub mod Parity

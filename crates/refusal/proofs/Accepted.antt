@@ -1,0 +1,162 @@
+-- What the accepted case of a call knows: number 0 turned into facts.
+use Prim.Native.Nat.{ℕ, _+_, _*_, _/_, _%_, _≤_, _<_}
+use mathlib.Core.Path.{_≡_, refl, sym, _∙_, ap}
+use mathlib.Core.Bool.{Bool, true, false, not, _&&_, _||_}
+use mathlib.Core.List.{List}
+use native.Mathlib.Omega.{arith}
+use lib.Dec.{eqb, ltb}
+use lib.ListN.{length}
+use borrow.Author.Tests.{eq-eqb, ne-eqb, eqb-true, eqb-false, ltb-true, ltb-false, not-false}
+use Rattle.laws.proofs.Tests.{neither, cond-true, cond-false, same-or, by-test}
+use Rattle.bus.specs.Groups.{group, groups}
+use Rattle.refusal.specs.Refusal.{when, orElse, badRam, memoryNumber, lentNumber, badWidth, badAnswers, argumentNumber, ramNumber, arrayNumber, viewInputNumber, externalNumber}
+
+-- neither of two numbers is met
+pub or-zero : (a b : ℕ) → orElse a b ≡ 0 → (a ≡ 0) × (b ≡ 0)
+or-zero a b e =
+    same-or _ a 0
+    (λ z. (z, sym (cond-true _ _ _ (eq-eqb a 0 z)) ∙ e))
+    (λ n. absurd (n (sym (cond-false _ _ _ (ne-eqb a 0 n)) ∙ e)))
+
+-- where both are 0, so is the first that is met
+pub zero-or : (a b : ℕ) → a ≡ 0 → orElse a b ≡ b
+zero-or a b z = cond-true _ _ _ (eq-eqb a 0 z)
+
+pub first-or : (a b : ℕ) → (a ≡ 0 → ⊥) → orElse a b ≡ a
+first-or a b n = cond-false _ _ _ (ne-eqb a 0 n)
+
+-- three numbers in order, however they are grouped
+pub or-grouped : (a b c : ℕ) → orElse (orElse a b) c ≡ orElse a (orElse b c)
+or-grouped a b c =
+    same-or _ a 0
+    (λ z. let e = zero-or a b z in let k = zero-or a (orElse b c) z in rw (e, k))
+    (λ n. let e = first-or a b n in let k = first-or a (orElse b c) n in rw (e, k) (first-or a c n))
+
+-- the numbers of two sets, of which the second is looked at only where the first answers 0 and is another
+module _ (at : ℕ → ℕ) (first last number : ℕ) (en : number ≡ at first) where
+  pub states-first : (not (eqb number 0) || eqb first last) ≡ true → number ≡ orElse (at first) (at last)
+  states-first h =
+      same-or _ number 0
+      (λ z.
+      let same : first ≡ last = eqb-true first last (rw (eq-eqb number 0 z) at h) in
+      en ∙ ap at same ∙ sym (zero-or (at first) (at last) (sym en ∙ z)))
+      (λ n. en ∙ sym (first-or (at first) (at last) (λ z. n (en ∙ z))))
+
+  pub states-last : (not (eqb number 0) || eqb first last) ≡ false → (later : ℕ) → later ≡ at last → later ≡ orElse (at first) (at last)
+  states-last h later e =
+      let z = eqb-true number 0 (not-false _ (neither (not (eqb number 0)) (eqb first last) h .0)) in
+      e ∙ sym (zero-or (at first) (at last) (sym en ∙ z))
+
+when-zero : (b : Bool) (n : ℕ) → 0 < n → when b n ≡ 0 → b ≡ false
+when-zero true n h e = absurd (omega arith)
+when-zero false n h e = refl
+
+-- 1 and 2
+pub record GoodMemory (ram parity : ℕ) : Type 0 where
+  pub least : 16 ≤ ram
+  pub most : ram ≤ 16777216
+  pub whole : ram % 16 ≡ 0
+  pub bits : parity ≡ ram / 4
+
+-- 1 alone
+ram-accepted : (ram : ℕ) → ramNumber ram ≡ 0 → (16 ≤ ram) × (ram ≤ 16777216) × (ram % 16 ≡ 0)
+ram-accepted ram e =
+    let r = when-zero (badRam ram) 1 (omega arith) e in
+    let a = neither (ltb ram 16 || ltb 16777216 ram) _ r in
+    let b = neither (ltb ram 16) (ltb 16777216 ram) (a .0) in
+    (ltb-false ram 16 (b .0), ltb-false 16777216 ram (b .1), eqb-true (ram % 16) 0 (not-false _ (a .1)))
+
+pub memory-accepted : (ram parity : ℕ) → memoryNumber ram parity ≡ 0 → GoodMemory ram parity
+unfolding memoryNumber
+memory-accepted ram parity e =
+    let p = or-zero (ramNumber ram) _ e in
+    let r = ram-accepted ram (p .0) in
+    let q = when-zero (not (eqb parity (ram / 4))) 2 (omega arith) (p .1) in
+    record { least = r .0; most = r .1; whole = r .2; bits = eqb-true parity (ram / 4) (not-false _ q) }
+
+-- 3
+array-accepted : (array : ℕ) → arrayNumber array ≡ 0 → array ≡ 8192
+array-accepted array e = eqb-true array 8192 (not-false _ (when-zero (not (eqb array 8192)) 3 (omega arith) e))
+
+pub lent-accepted : (ram parity array : ℕ) → lentNumber ram parity array ≡ 0 → GoodMemory ram parity × (array ≡ 8192)
+unfolding lentNumber
+lent-accepted ram parity array e =
+    let p = or-zero (memoryNumber ram parity) _ e in
+    (memory-accepted ram parity (p .0), array-accepted array (p .1))
+
+-- 1, 3 and 5 of a view
+pub record GoodView (ram array address : ℕ) : Type 0 where
+  pub whole : ram % 16 ≡ 0
+  pub lines : array ≡ 8192
+  pub inside : address < ram
+
+pub view-accepted : (ram array address : ℕ) → viewInputNumber ram array address ≡ 0 → GoodView ram array address
+unfolding viewInputNumber
+view-accepted ram array address e =
+    let p = or-zero (ramNumber ram) _ e in
+    let q = or-zero (arrayNumber array) _ (p .1) in
+    record {
+      whole = ram-accepted ram (p .0) .2;
+      lines = array-accepted array (q .0);
+      inside = ltb-true address ram (not-false _ (when-zero (not (ltb address ram)) 5 (omega arith) (q .1)));
+    }
+
+-- 4 to 7
+pub record GoodArguments (ram address width answers log : ℕ) : Type 0 where
+  pub some : 0 < width
+  pub four : width ≤ 4
+  pub inside : address + width ≤ ram
+  pub served : answers ≡ group * groups
+  pub room : 3 * (group * groups) ≤ log
+
+width-good : (width : ℕ) → badWidth width ≡ false → (0 < width) × (width ≤ 4)
+width-good width e =
+    by-test (λ b. (not b && not (eqb width 2) && not (eqb width 4)) ≡ false → (0 < width) × (width ≤ 4)) (eqb width 1)
+    (λ h _. let z = eqb-true width 1 h in (omega arith, omega arith))
+    (λ _ f.
+    by-test (λ b. (true && not b && not (eqb width 4)) ≡ false → (0 < width) × (width ≤ 4)) (eqb width 2)
+    (λ h _. let z = eqb-true width 2 h in (omega arith, omega arith))
+    (λ _ g. let z = eqb-true width 4 (not-false _ g) in (omega arith, omega arith))
+    f)
+    e
+
+pub arguments-accepted : (ram address width : ℕ) (answers : List ℕ) (log : ℕ) → argumentNumber ram address width answers log ≡ 0 →
+    GoodArguments ram address width (length answers) log
+unfolding argumentNumber
+arguments-accepted ram address width answers log e =
+    let p = or-zero (when (badWidth width) 4) _ e in
+    let q = or-zero (when (ltb ram (address + width)) 5) _ (p .1) in
+    let r = or-zero (when (badAnswers answers) 6) _ (q .1) in
+    let w = width-good width (when-zero (badWidth width) 4 (omega arith) (p .0)) in
+    let a = neither (not (eqb (length answers) (group * groups))) _ (when-zero (badAnswers answers) 6 (omega arith) (r .0)) in
+    record {
+      some = w .0;
+      four = w .1;
+      inside = ltb-false ram (address + width) (when-zero (ltb ram (address + width)) 5 (omega arith) (q .0));
+      served = eqb-true (length answers) (group * groups) (not-false _ (a .0));
+      room = ltb-false log (3 * (group * groups)) (when-zero (ltb log (3 * (group * groups))) 7 (omega arith) (r .1));
+    }
+
+-- 10
+pub record GoodExternal (ram address n : ℕ) : Type 0 where
+  pub some : 0 < n
+  pub most : n ≤ 16
+  pub line : address % 16 + n ≤ 16
+  pub inside : address + n ≤ ram
+
+pub external-accepted : (ram address n : ℕ) → externalNumber ram address n ≡ 0 → GoodExternal ram address n
+unfolding externalNumber
+external-accepted ram address n e =
+    let z = when-zero _ 10 (omega arith) e in
+    let a = neither (eqb n 0 || ltb 16 n || ltb 16 (address % 16 + n)) (ltb ram (address + n)) z in
+    let b = neither (eqb n 0 || ltb 16 n) (ltb 16 (address % 16 + n)) (a .0) in
+    let c = neither (eqb n 0) (ltb 16 n) (b .0) in
+    record {
+      some = some-of n (c .0);
+      most = ltb-false 16 n (c .1);
+      line = ltb-false 16 (address % 16 + n) (b .1);
+      inside = ltb-false ram (address + n) (a .1);
+    }
+  where
+    some-of : (n : ℕ) → eqb n 0 ≡ false → 0 < n
+    some-of n h = same-or _ n 0 (λ z. absurd (eqb-false n 0 h z)) (λ k. omega arith)

@@ -1,0 +1,17 @@
+use Rattle.refusal.specs.Refusal.{valueNumber}
+use borrow.Author.Needs.{needs}
+use Rattle.refusal.proofs.input.value_number.Statement.{statement}
+use Rattle.refusal.proofs.input.value_number.Tie as tie
+
+too-large-requires : tie.Need-too-large-requires
+too-large-requires c κs = search needs
+
+number-if-requires : tie.Need-number-if-requires
+number-if-requires c κs = search needs
+
+returns : tie.Need-returns
+unfolding valueNumber
+returns c = rw (c .number-if .ensures, c .before .too-large .ensures)
+
+pub value-number-spec : {M : Type 1} → statement M
+value-number-spec = tie.close (tie.spec too-large-requires number-if-requires returns)

@@ -1,0 +1,143 @@
+// The numbers that turn a call away because of the input, 0 where none is met.
+ghost use mathlib.Core.Path.{_≡_};
+ghost use mathlib.Core.Bool.{not};
+ghost use Prim.Native.Nat.{_^_};
+ghost use lib.Dec.{ltb};
+ghost use lib.ListN.{length};
+ghost use Rattle.refusal.specs.Refusal.{anyAbove, argumentNumber, badAnswers, badRam, badWidth, externalNumber, lentNumber, memoryNumber, orElse, valueNumber, viewInputNumber, when};
+
+fn number_if(bad: bool, number: u32) -> u32
+    ensures { λ r. ⌜ r ≡ when bad number ⌝ }
+{
+    if bad { number } else { 0 }
+}
+
+// The first of two numbers that is met.
+pub fn or_else(number: u32, next: u32) -> u32
+    ensures { λ r. ⌜ r ≡ orElse number next ⌝ }
+{
+    if number == 0 { next } else { number }
+}
+
+fn bad_ram(ram: usize) -> bool
+    ensures { λ r. ⌜ r ≡ badRam ram ⌝ }
+{
+    (ram < 16) | (16777216 < ram) | (ram % 16 != 0)
+}
+
+// Numbers 1 and 2, of the lengths of RAM and parity array.
+pub fn memory_number(ram: usize, parity: usize) -> u32
+    ensures { λ r. ⌜ r ≡ memoryNumber ram parity ⌝ }
+{
+    or_else(number_if(bad_ram(ram), 1), number_if(parity != ram / 4, 2))
+}
+
+// Numbers 1 to 3, of the lengths of RAM, parity array and data array.
+fn lent_number(ram: usize, parity: usize, array: usize) -> u32
+    ensures { λ r. ⌜ r ≡ lentNumber ram parity array ⌝ }
+{
+    or_else(memory_number(ram, parity), number_if(array != 8192, 3))
+}
+
+pub fn bad_width(width: u32) -> bool
+    ensures { λ r. ⌜ r ≡ badWidth width ⌝ }
+{
+    (width != 1) & (width != 2) & (width != 4)
+}
+
+fn any_above(limit: u8, answers: &[u8]) -> bool
+    ensures { λ r. ⌜ r ≡ anyAbove limit (now (answers .entry)) ⌝ }
+{
+    let mut above = false;
+    let mut k: usize = 0;
+    while k < answers.len() {
+        above = above | (limit < answers[k]);
+        k += 1;
+    }
+    above
+}
+
+fn bad_answers(answers: &[u8]) -> bool
+    ensures { λ r. ⌜ r ≡ badAnswers (now (answers .entry)) ⌝ }
+{
+    (answers.len() != 32) | any_above(7, answers)
+}
+
+// Numbers 4 to 7, of the arguments of a read or a write.
+fn argument_number(ram: usize, address: u32, width: u32, answers: &[u8], log: usize) -> u32
+    ensures { λ r. ⌜ r ≡ argumentNumber ram address width (now (answers .entry)) log ⌝ }
+{
+    let beyond = ram < address as usize + width as usize;
+    or_else(
+        number_if(bad_width(width), 4),
+        or_else(
+            number_if(beyond, 5),
+            or_else(number_if(bad_answers(answers), 6), number_if(log < 96, 7)),
+        ),
+    )
+}
+
+// Numbers 1 to 7 of a read or a write.
+pub fn input_number(
+    ram: &[u8],
+    parity: &[u8],
+    data: &[u8],
+    answers: &[u8],
+    log: &[u32],
+    address: u32,
+    width: u32,
+) -> u32
+    ensures { λ r. ⌜ r ≡ orElse (lentNumber (length (now (ram .entry))) (length (now (parity .entry))) (length (now («data» .entry))))
+        (argumentNumber (length (now (ram .entry))) address width (now (answers .entry)) (length (now (log .entry)))) ⌝ }
+{
+    let n = ram.len();
+    or_else(
+        lent_number(n, parity.len(), data.len()),
+        argument_number(n, address, width, answers, log.len()),
+    )
+}
+
+// Whether a value has more bytes than its width.
+fn too_large(width: u32, value: u32) -> bool
+    ensures { λ r. ⌜ r ≡ not (ltb value (256 ^ width)) ⌝ }
+{
+    match width {
+        0 => 0 < value,
+        1 => 255 < value,
+        2 => 65535 < value,
+        3 => 16777215 < value,
+        _ => false,
+    }
+}
+
+// Number 8.
+pub fn value_number(width: u32, value: u32) -> u32
+    ensures { λ r. ⌜ r ≡ valueNumber width value ⌝ }
+{
+    number_if(too_large(width, value), 8)
+}
+
+// Number 10, of an external write of so many bytes.
+pub fn external_number(ram: usize, address: u32, count: usize) -> u32
+    ensures { λ r. ⌜ r ≡ externalNumber ram address count ⌝ }
+{
+    if 16 < count {
+        return 10;
+    }
+    let start = address as usize;
+    number_if(
+        (count == 0) | (16 < start % 16 + count) | (ram < start + count),
+        10,
+    )
+}
+
+// Numbers 1, 3 and 5 of a view, of the lengths of RAM and data array.
+pub fn view_input_number(ram: usize, array: usize, address: u32) -> u32
+    ensures { λ r. ⌜ r ≡ viewInputNumber ram array address ⌝ }
+{
+    let outside = !((address as usize) < ram);
+    or_else(
+        number_if(bad_ram(ram), 1),
+        or_else(number_if(array != 8192, 3), number_if(outside, 5)),
+    )
+}

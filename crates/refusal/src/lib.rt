@@ -1,0 +1,12 @@
+// The numbers that turn a call away: of the input, then of the state in every touched set. 0 where none is met.
+mod input;
+mod state;
+
+pub use input::bad_width;
+pub use input::external_number;
+pub use input::input_number;
+pub use input::memory_number;
+pub use input::or_else;
+pub use input::value_number;
+pub use input::view_input_number;
+pub use state::states_number;

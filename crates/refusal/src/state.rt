@@ -1,0 +1,33 @@
+// The numbers that turn a call away because of the state.
+ghost use mathlib.Core.Path.{_≡_};
+ghost use Prim.Native.Nat.{_+_, _-_, _<_};
+ghost use Rattle.directory.specs.Address.{setOf};
+ghost use Rattle.refusal.specs.Refusal.{statesIn};
+
+// The set of the last of so many bytes.
+fn last_set(address: u32, count: u32) -> usize
+    ensures { λ r. ⌜ (r ≡ setOf (address + count - 1)) × (r < 128) ⌝ }
+{
+    let end = address as usize + count as usize;
+    let last = if end == 0 { 0 } else { end - 1 };
+    last / 16 % 128
+}
+
+// Numbers 21 to 23 of every touched set, the lower address's set first. Most accesses touch one set, which is checked once.
+pub fn states_number<'a>(
+    tags: &'a [u32; 512],
+    valid: &'a [bool; 512],
+    lru: &'a [u8; 128],
+    address: u32,
+    count: u32,
+) -> u32
+    ensures { λ r. ⌜ r ≡ statesIn (now (tags .entry)) (now (valid .entry)) (now (lru .entry)) address count ⌝ }
+{
+    let first = directory::set_of(address);
+    let last = last_set(address, count);
+    let number = directory::state_number(tags, valid, lru, first);
+    if (number != 0) | (first == last) {
+        return number;
+    }
+    directory::state_number(tags, valid, lru, last)
+}
