@@ -13,7 +13,7 @@ use Rattle.directory.specs.State.{sameTags, tagsAbove, firstNumber, stateIn}
 use Rattle.directory.specs.Steps.{lookupOf, afterUse, afterFill, afterReset, afterControl}
 use Rattle.memory.specs.Bytes.{bytesAt, valueOf, bytesOf}
 use Rattle.memory.specs.Parity.{memory, onesOf, dpOf, laneBit, dpAt, withDp, put, stored, wrongAt, wrongIn}
-use Rattle.bus.specs.Bus.{room, sizeOf, left, cyclesOf, burst, lastAnswer, through}
+use Rattle.bus.specs.Bus.{sizeLimit, sizeOf, wantedAfter, cyclesOf, burst, lastAnswer, through}
 use Rattle.bus.specs.Record.{lanesOf, flagsOf, readRecord, writeRecord, wordsOf}
 use Rattle.doubleword.specs.Doubleword.{doublewordsOf, changed, readHit, readPlain, readFill, readDone, writeThrough, hitArray, writeDone}
 use Rattle.refusal.specs.Refusal.{memoryNumber, lentNumber, anyAbove, argumentNumber, valueNumber, statesIn}
@@ -63,7 +63,7 @@ pub record BenchTable : Type 0 where
   pub width-3 : reading 0 3 (always 1) .outcome .number ≡ 4
 
 pub bench-table : BenchTable
-unfolding lruAfter lruWay lowest lookupIn victimIn sameTags tagsAbove firstNumber stateIn afterUse afterFill afterReset afterControl bytesAt valueOf bytesOf onesOf dpOf laneBit dpAt withDp put stored wrongAt wrongIn room sizeOf left cyclesOf burst lastAnswer through lanesOf flagsOf readRecord writeRecord wordsOf doublewordsOf changed readHit readPlain readFill readDone writeThrough hitArray writeDone memoryNumber lentNumber anyAbove argumentNumber valueNumber statesIn readOne writeOne allOf readNumber writeNumber readAll writeAll readCall writeCall
+unfolding lruAfter lruWay lowest lookupIn victimIn sameTags tagsAbove firstNumber stateIn afterUse afterFill afterReset afterControl bytesAt valueOf bytesOf onesOf dpOf laneBit dpAt withDp put stored wrongAt wrongIn sizeLimit sizeOf wantedAfter cyclesOf burst lastAnswer through lanesOf flagsOf readRecord writeRecord wordsOf doublewordsOf changed readHit readPlain readFill readDone writeThrough hitArray writeDone memoryNumber lentNumber anyAbove argumentNumber valueNumber statesIn readOne writeOne allOf readNumber writeNumber readAll writeAll readCall writeCall
 bench-table =
     record {
       write-at-0 = refl;

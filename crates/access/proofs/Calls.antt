@@ -11,15 +11,15 @@ use Rattle.directory.specs.declared.steps.Directory.{Directory}
 use Rattle.directory.specs.Steps.{afterSnoop}
 use Rattle.memory.specs.Bytes.{bytesAt, valueOf}
 use Rattle.memory.specs.Parity.{Memory, stored}
-use Rattle.access.specs.declared.walk.Walk.{Walk}
-use Rattle.bus.specs.Groups.{groups}
+use Rattle.access.specs.declared.cursor.AccessCursor.{AccessCursor}
+use Rattle.bus.specs.Groups.{groupCount}
 use Rattle.doubleword.specs.Doubleword.{Doubleword, Done, doublewordsOf}
 use Rattle.refusal.specs.Refusal.{orElse, memoryNumber, externalNumber, statesOf, lentNumber, argumentNumber, valueNumber}
 use Rattle.access.specs.Access.{State, state, Progress, allOf, readOne, writeOne, after, outcome, refused, accepted, readNumber, writeNumber, readAll, writeAll, operandOf, readCall, writeCall}
-use Rattle.access.specs.Masters.{written, masterNumber, externalCall}
-use Rattle.access.specs.Walks.{startWalk, restOf, Path}
+use Rattle.access.specs.Masters.{written, externalWriteNumber, externalCall}
+use Rattle.access.specs.AccessLoop.{accessStart, restOf, AccessNeeds}
 use Rattle.refusal.proofs.Accepted.{or-zero, zero-or, first-or, or-grouped, GoodMemory, GoodExternal, memory-accepted, lent-accepted, arguments-accepted, external-accepted}
-use Rattle.access.proofs.Walking.{Going, going-end, ReadGoing, reading-end}
+use Rattle.access.proofs.AccessLoop.{AccessInvariant, access-invariant-end, ReadInvariant, reading-end}
 use Rattle.access.proofs.Values.{all-length, value-padded}
 
 -- all bytes of a list
@@ -35,21 +35,21 @@ bytes-all (x ∷ l) = ap (λ (r : List ℕ). x ∷ r) (bytes-shift x l 0 (length
 
 -- an external write
 module _ (d : Directory) (m : Memory) (address : ℕ) (bytes : List ℕ) where
-  pub master-grouped : masterNumber d m address bytes ≡ orElse (orElse (memoryNumber (length (m .ram)) (length (m .parity))) (externalNumber (length (m .ram)) address (length bytes))) (statesOf d address (length bytes))
-  unfolding masterNumber
+  pub master-grouped : externalWriteNumber d m address bytes ≡ orElse (orElse (memoryNumber (length (m .ram)) (length (m .parity))) (externalNumber (length (m .ram)) address (length bytes))) (statesOf d address (length bytes))
+  unfolding externalWriteNumber
   master-grouped = sym (or-grouped (memoryNumber (length (m .ram)) (length (m .parity))) (externalNumber (length (m .ram)) address (length bytes)) (statesOf d address (length bytes)))
 
-  pub external-refused : (n : ℕ) → masterNumber d m address bytes ≡ n → (n ≡ 0 → ⊥) → externalCall d m address bytes ≡ written (outcome d n 0 0) m
+  pub external-refused : (n : ℕ) → externalWriteNumber d m address bytes ≡ n → (n ≡ 0 → ⊥) → externalCall d m address bytes ≡ written (outcome d n 0 0) m
   unfolding externalCall
   external-refused n e h = rw e (cond-false _ _ _ (ne-eqb n 0 h))
 
-  pub external-done : masterNumber d m address bytes ≡ 0 → externalCall d m address bytes ≡ written (outcome (afterSnoop d address) 0 0 0) (stored m address bytes)
+  pub external-done : externalWriteNumber d m address bytes ≡ 0 → externalCall d m address bytes ≡ written (outcome (afterSnoop d address) 0 0 0) (stored m address bytes)
   unfolding externalCall
   external-done e = cond-true _ _ _ (eq-eqb _ 0 e)
 
   -- the same by the numbers that the code has: the input's, then the state's
   module _ (lent own : ℕ) (el : lent ≡ memoryNumber (length (m .ram)) (length (m .parity))) (eo : own ≡ externalNumber (length (m .ram)) address (length bytes)) (n : ℕ) (en : n ≡ orElse lent own) where
-    input-number : masterNumber d m address bytes ≡ orElse n (statesOf d address (length bytes))
+    input-number : externalWriteNumber d m address bytes ≡ orElse n (statesOf d address (length bytes))
     input-number = master-grouped ∙ rw (en, el, eo)
 
     pub input-refused : (n ≡ 0 → ⊥) → written (outcome d n 0 0) m ≡ externalCall d m address bytes
@@ -61,7 +61,7 @@ module _ (d : Directory) (m : Memory) (address : ℕ) (bytes : List ℕ) where
         (memory-accepted _ _ (sym el ∙ p .0), external-accepted _ _ _ (sym eo ∙ p .1))
 
     module _ (z : n ≡ 0) (bad : ℕ) (eb : bad ≡ statesOf d address (length bytes)) where
-      whole-number : masterNumber d m address bytes ≡ bad
+      whole-number : externalWriteNumber d m address bytes ≡ bad
       whole-number = input-number ∙ zero-or n _ z ∙ sym eb
 
       pub state-refused : (bad ≡ 0 → ⊥) → written (outcome d bad 0 0) m ≡ externalCall d m address bytes
@@ -75,13 +75,13 @@ module _ (d : Directory) (m : Memory) (address : ℕ) (bytes : List ℕ) where
           ∙ sym (external-done (whole-number ∙ b))
 
 -- what the loops leave is what an accepted call leaves
-whole : (one : State → Doubleword → Done) (xs : List ℕ) (p : Progress) (walk : Walk) (d : Directory) (m : Memory) (array log log₀ : List ℕ) (value v : ℕ) →
-    walk .left ≡ 0 → Going one xs p log₀ walk (state d m array) log → value ≡ v →
-    after (outcome d 0 value (walk .records)) m array log ≡ accepted v p log₀
-whole one xs p walk d m array log log₀ value v z g ev =
-    let e = going-end one xs walk (state d m array) log z g in
-    ap (λ (s : State). after (outcome (s .directory) 0 value (walk .records)) (s .memory) (s .array) log) (e .0)
-    ∙ ap (λ (x : ℕ). after (outcome (p .state .directory) 0 x (walk .records)) (p .state .memory) (p .state .array) log) ev
+whole : (one : State → Doubleword → Done) (xs : List ℕ) (p : Progress) (cursor : AccessCursor) (d : Directory) (m : Memory) (array log log₀ : List ℕ) (value v : ℕ) →
+    cursor .left ≡ 0 → AccessInvariant one xs p log₀ cursor (state d m array) log → value ≡ v →
+    after (outcome d 0 value (cursor .records)) m array log ≡ accepted v p log₀
+whole one xs p cursor d m array log log₀ value v z g ev =
+    let e = access-invariant-end one xs cursor (state d m array) log z g in
+    ap (λ (s : State). after (outcome (s .directory) 0 value (cursor .records)) (s .memory) (s .array) log) (e .0)
+    ∙ ap (λ (x : ℕ). after (outcome (p .state .directory) 0 x (cursor .records)) (p .state .memory) (p .state .array) log) ev
     ∙ ap (λ (n : ℕ). after (outcome (p .state .directory) 0 v n) (p .state .memory) (p .state .array) log) (e .2)
     ∙ ap (λ (l : List ℕ). after (outcome (p .state .directory) 0 v (length (p .records))) (p .state .memory) (p .state .array) l) (e .1)
 
@@ -96,8 +96,8 @@ module _ (d : Directory) (m : Memory) (array : List ℕ) (address width : ℕ) (
   numbered later = sym (or-grouped (lentNumber (length (m .ram)) (length (m .parity)) (length array)) (argumentNumber (length (m .ram)) address width answers (length log)) later) ∙ ap (λ (x : ℕ). orElse x later) (sym en)
 
   -- what the loops start with
-  pub path-begin : n ≡ 0 → Path (startWalk address width) (length (m .ram)) (length (m .parity)) (length array) (length answers) (length log) 4
-  path-begin z =
+  pub needs-begin : n ≡ 0 → AccessNeeds (accessStart address width) (length (m .ram)) (length (m .parity)) (length array) (length answers) (length log) 4
+  needs-begin z =
       let p = or-zero (lentNumber (length (m .ram)) (length (m .parity)) (length array)) _ (sym en ∙ z) in
       let l = lent-accepted _ _ _ (p .0) in
       let r = arguments-accepted _ _ _ answers _ (p .1) in
@@ -132,17 +132,17 @@ module _ (d : Directory) (m : Memory) (array : List ℕ) (address width : ℕ) (
       pub read-state-refused : (bad ≡ 0 → ⊥) → refused bad s log ≡ readCall s address width pcd answers log
       read-state-refused h = read-refused bad (read-number ∙ zero-or n _ z ∙ sym eb) h
 
-      pub read-done : bad ≡ 0 → (walk : Walk) (d′ : Directory) (array′ log′ operand : List ℕ) (value : ℕ) → walk .left ≡ 0 →
-          ReadGoing pcd answers (allOf (readOne pcd) s (restOf (startWalk address width) answers)) log (replicate 4 0) walk (state d′ m array′) log′ operand →
+      pub read-done : bad ≡ 0 → (cursor : AccessCursor) (d′ : Directory) (array′ log′ operand : List ℕ) (value : ℕ) → cursor .left ≡ 0 →
+          ReadInvariant pcd answers (allOf (readOne pcd) s (restOf (accessStart address width) answers)) log (replicate 4 0) cursor (state d′ m array′) log′ operand →
           value ≡ valueOf operand →
-          after (outcome d′ 0 value (walk .records)) m array′ log′ ≡ readCall s address width pcd answers log
+          after (outcome d′ 0 value (cursor .records)) m array′ log′ ≡ readCall s address width pcd answers log
       unfolding readCall readAll restOf
-      read-done b walk d′ array′ log′ operand value e g ev =
-          let p = allOf (readOne pcd) s (doublewordsOf groups answers address width 0) in
-          let l = all-length pcd groups answers address width 0 s in
-          let four = path-begin z .operands in
-          let o = reading-end pcd answers walk (state d′ m array′) log′ operand e g in
-          whole (readOne pcd) answers p walk d′ m array′ log′ log value (valueOf (p .bytes)) e (g .going) (ev ∙ ap valueOf o ∙ value-padded (p .bytes) (omega arith))
+      read-done b cursor d′ array′ log′ operand value e g ev =
+          let p = allOf (readOne pcd) s (doublewordsOf groupCount answers address width 0) in
+          let l = all-length pcd groupCount answers address width 0 s in
+          let four = needs-begin z .operands in
+          let o = reading-end pcd answers cursor (state d′ m array′) log′ operand e g in
+          whole (readOne pcd) answers p cursor d′ m array′ log′ log value (valueOf (p .bytes)) e (g .invariant) (ev ∙ ap valueOf o ∙ value-padded (p .bytes) (omega arith))
           ∙ sym (cond-true _ _ _ (eq-eqb _ 0 (read-number ∙ zero-or n _ z ∙ sym eb ∙ b)))
 
   module _ (value : ℕ) where
@@ -164,10 +164,10 @@ module _ (d : Directory) (m : Memory) (array : List ℕ) (address width : ℕ) (
       pub write-later-refused : (bad ≡ 0 → ⊥) → refused bad s log ≡ writeCall s address width value answers log
       write-later-refused h = write-refused bad (write-number ∙ zero-or n _ z ∙ sym later) h
 
-      pub write-done : bad ≡ 0 → (walk : Walk) (d′ : Directory) (m′ : Memory) (array′ log′ : List ℕ) → walk .left ≡ 0 →
-          Going (writeOne (operandOf value)) answers (allOf (writeOne (operandOf value)) s (restOf (startWalk address width) answers)) log walk (state d′ m′ array′) log′ →
-          after (outcome d′ 0 0 (walk .records)) m′ array′ log′ ≡ writeCall s address width value answers log
+      pub write-done : bad ≡ 0 → (cursor : AccessCursor) (d′ : Directory) (m′ : Memory) (array′ log′ : List ℕ) → cursor .left ≡ 0 →
+          AccessInvariant (writeOne (operandOf value)) answers (allOf (writeOne (operandOf value)) s (restOf (accessStart address width) answers)) log cursor (state d′ m′ array′) log′ →
+          after (outcome d′ 0 0 (cursor .records)) m′ array′ log′ ≡ writeCall s address width value answers log
       unfolding writeCall writeAll restOf
-      write-done b walk d′ m′ array′ log′ e g =
-          whole (writeOne (operandOf value)) answers (allOf (writeOne (operandOf value)) s (doublewordsOf groups answers address width 0)) walk d′ m′ array′ log′ log 0 0 e g refl
+      write-done b cursor d′ m′ array′ log′ e g =
+          whole (writeOne (operandOf value)) answers (allOf (writeOne (operandOf value)) s (doublewordsOf groupCount answers address width 0)) cursor d′ m′ array′ log′ log 0 0 e g refl
           ∙ sym (cond-true _ _ _ (eq-eqb _ 0 (write-number ∙ zero-or n _ z ∙ sym later ∙ b)))

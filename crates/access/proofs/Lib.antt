@@ -1,6 +1,6 @@
 -- Laws that several proofs cite.
 pub mod Filling
 pub mod Values
-pub mod Walking
+pub mod AccessLoop
 pub mod Calls
 pub mod Bench

@@ -13,19 +13,19 @@ use Rattle.memory.specs.Bytes.{valueOf}
 use Rattle.memory.proofs.Places.{bytes-length}
 use Rattle.memory.specs.Parity.{Memory}
 use Rattle.bus.specs.Bus.{ken}
-use Rattle.bus.specs.Groups.{group}
+use Rattle.bus.specs.Groups.{groupSize}
 use Rattle.doubleword.specs.Doubleword.{Doubleword, doublewordsOf, readDone, readHit, readFill, readPlain}
 use Rattle.doubleword.proofs.Doublewords.{read-memory}
 use Rattle.access.specs.Access.{State, readOne, allOf}
 
 -- a doubleword of a read gives its wanted bytes
-read-length : (f : Found) (victim : ℕ) (may : Bool) (m : Memory) (array : List ℕ) (w : Doubleword) →
-    length (readDone f victim may m array w .bytes) ≡ w .wanted .count
+read-length : (f : Found) (victim : ℕ) (mayFill : Bool) (m : Memory) (array : List ℕ) (w : Doubleword) →
+    length (readDone f victim mayFill m array w .bytes) ≡ w .wanted .count
 unfolding readDone readHit readFill readPlain
-read-length (At way) victim may m array w = bytes-length _ _ (w .wanted .count)
-read-length Nothing victim may m array w =
+read-length (At way) victim mayFill m array w = bytes-length _ _ (w .wanted .count)
+read-length Nothing victim mayFill m array w =
     by-test (λ b. length (cond b (readFill victim m array w) (readPlain m array w) .bytes) ≡ w .wanted .count)
-    (may && ken (getD (w .answers) 0 0))
+    (mayFill && ken (getD (w .answers) 0 0))
     (λ _. bytes-length _ _ (w .wanted .count))
     (λ _. bytes-length _ _ (w .wanted .count))
 
@@ -46,7 +46,7 @@ all-length pcd zero xs address n place s = omega arith
 all-length pcd (suc g) xs address zero place s = omega arith
 all-length pcd (suc g) xs address (suc n) place s =
     let k = min (suc n) (4 - address % 4) in
-    let h = all-length pcd g (drop group xs) (address + k) (suc n - k) (place + k) _ in
+    let h = all-length pcd g (drop groupSize xs) (address + k) (suc n - k) (place + k) _ in
     rw (length-append, one-length pcd s _) (sum k (suc n) _ h (omega arith))
   where
     sum : (k n m : ℕ) → m ≤ n - k → k ≤ n → k + m ≤ n

@@ -12,10 +12,10 @@ use Rattle.memory.specs.Bytes.{valueOf, bytesOf}
 use Rattle.memory.specs.Parity.{Memory}
 use Rattle.bus.specs.Record.{Record, logged}
 use Rattle.doubleword.specs.Doubleword.{Doubleword, doublewordsOf, changed, Done, readDone, writeDone}
-use Rattle.bus.specs.Groups.{groups}
+use Rattle.bus.specs.Groups.{groupCount}
 use Rattle.refusal.specs.Refusal.{orElse, lentNumber, argumentNumber, valueNumber, statesOf}
 
--- What a call is lent and changes: directory, RAM with its parity, data array.
+-- What a call is lent and changes: directory, RAM with its parity, data array (`array`).
 pub record State : Type 0 where
   pub directory : Directory
   pub memory : Memory
@@ -47,6 +47,7 @@ unfoldable pub writeOne : List ℕ → State → Doubleword → Done
 writeOne operand s w =
     writeDone (lookupOf (s .directory) (w .line)) (s .directory .cd && s .directory .nw) (s .memory) (s .array) operand w
 
+-- The state after a doubleword.
 abbrev pub next : State → Doubleword → Done → State
 next s w done = state (changed (s .directory) (w .line) (done .change)) (done .memory) (done .array)
 
@@ -77,28 +78,29 @@ outcome d number value cycles =
 abbrev pub refused : ℕ → State → List ℕ → After
 refused number s log = after (outcome (s .directory) number 0 0) (s .memory) (s .array) log
 
+-- A call that was done: the records of its cycles are at the start of the log.
 abbrev pub accepted : ℕ → Progress → List ℕ → After
 accepted value p log =
     after (outcome (p .state .directory) 0 value (length (p .records))) (p .state .memory) (p .state .array)
     (logged log 0 (p .records))
 
--- The number of a read and of a write: the input's first, then the state's.
+-- The number of a read: the input's first, then the state's.
 unfoldable pub readNumber : State → ℕ → ℕ → List ℕ → List ℕ → ℕ
 readNumber s address width answers log =
     orElse (lentNumber (length (s .memory .ram)) (length (s .memory .parity)) (length (s .array)))
     (orElse (argumentNumber (length (s .memory .ram)) address width answers (length log))
     (statesOf (s .directory) address width))
 
--- A write has number 8 as well.
+-- The number of a write, which has 8 as well.
 unfoldable pub writeNumber : State → ℕ → ℕ → ℕ → List ℕ → List ℕ → ℕ
 writeNumber s address width value answers log =
     orElse (lentNumber (length (s .memory .ram)) (length (s .memory .parity)) (length (s .array)))
     (orElse (argumentNumber (length (s .memory .ram)) address width answers (length log))
     (orElse (valueNumber width value) (statesOf (s .directory) address width)))
 
--- An accepted read and an accepted write.
+-- All doublewords of an accepted read.
 unfoldable pub readAll : State → ℕ → ℕ → Bool → List ℕ → Progress
-readAll s address width pcd answers = allOf (readOne pcd) s (doublewordsOf groups answers address width 0)
+readAll s address width pcd answers = allOf (readOne pcd) s (doublewordsOf groupCount answers address width 0)
 
 -- "little-endian": the four bytes of a value, of which a write moves as many as its width.
 abbrev pub operandOf : ℕ → List ℕ
@@ -106,16 +108,16 @@ operandOf value = bytesOf 4 value
 
 -- All doublewords of an accepted write.
 unfoldable pub writeAll : State → ℕ → ℕ → ℕ → List ℕ → Progress
-writeAll s address width value answers = allOf (writeOne (operandOf value)) s (doublewordsOf groups answers address width 0)
+writeAll s address width value answers = allOf (writeOne (operandOf value)) s (doublewordsOf groupCount answers address width 0)
 
--- The read call and the write call.
+-- The read call, refused or not.
 unfoldable pub readCall : State → ℕ → ℕ → Bool → List ℕ → List ℕ → After
 readCall s address width pcd answers log =
     let number = readNumber s address width answers log in
     let done = readAll s address width pcd answers in
     cond (eqb number 0) (accepted (valueOf (done .bytes)) done log) (refused number s log)
 
--- The same for a write, whose value is 0.
+-- The write call, whose value is 0.
 unfoldable pub writeCall : State → ℕ → ℕ → ℕ → List ℕ → List ℕ → After
 writeCall s address width value answers log =
     let number = writeNumber s address width value answers log in

@@ -4,7 +4,7 @@ use mathlib.Core.Bool.{cond}
 use mathlib.Core.List.{List, [], _∷_, _++_}
 use lib.Dec.{ltb}
 use lib.ListN.{getD, replicate}
-use Rattle.bus.specs.Groups.{group}
+use Rattle.bus.specs.Groups.{groupSize}
 use Rattle.refusal.specs.Refusal.{badWidth}
 
 -- "The answer by 1 MiB block 0 to 15 is 1 1 1 1 1 1 1 1 5 5 5 5 4 4 2 3"
@@ -22,4 +22,4 @@ upperAddress address width =
 
 -- "repeated 16 times for each doubleword"
 unfoldable pub boardAnswers : ℕ → ℕ → List ℕ
-boardAnswers address width = replicate group (answerAt address) ++ replicate group (answerAt (upperAddress address width))
+boardAnswers address width = replicate groupSize (answerAt address) ++ replicate groupSize (answerAt (upperAddress address width))

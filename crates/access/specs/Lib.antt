@@ -1,6 +1,6 @@
 -- Accesses by document 01, in its order: what a reader must believe of this crate.
--- `Walks` alone is no rule: it says what the code's own state between doublewords stands for.
+-- `AccessLoop` alone is no rule: it says what the code's own state between doublewords stands for.
 pub mod Access
 pub mod Masters
 pub mod Board
-pub mod Walks
+pub mod AccessLoop

@@ -5,7 +5,7 @@ use mathlib.Core.List.{List}
 use lib.Dec.{eqb}
 use lib.ListN.{length}
 use Rattle.directory.specs.declared.steps.Directory.{Directory}
-use Rattle.directory.specs.declared.steps.Answer.{Answer}
+use Rattle.directory.specs.declared.steps.DirectoryResult.{DirectoryResult}
 use Rattle.directory.specs.Steps.{afterSnoop, afterReset, afterFlush, snoopCall, controlCall}
 use Rattle.access.specs.declared.outcome.Outcome.{Outcome}
 use Rattle.memory.specs.Parity.{Memory, stored}
@@ -21,28 +21,28 @@ abbrev pub written : Outcome → Memory → Written
 written o m = record { outcome = o; memory = m }
 
 -- Its number: 1, 2, 10, then the state of its set.
-unfoldable pub masterNumber : Directory → Memory → ℕ → List ℕ → ℕ
-masterNumber d m address bytes =
+unfoldable pub externalWriteNumber : Directory → Memory → ℕ → List ℕ → ℕ
+externalWriteNumber d m address bytes =
     orElse (memoryNumber (length (m .ram)) (length (m .parity)))
     (orElse (externalNumber (length (m .ram)) address (length bytes)) (statesOf d address (length bytes)))
 
 -- "An external write puts 1 to 16 bytes of one line into RAM, sets their parity, then snoops. It leaves no record."
 unfoldable pub externalCall : Directory → Memory → ℕ → List ℕ → Written
 externalCall d m address bytes =
-    let number = masterNumber d m address bytes in
+    let number = externalWriteNumber d m address bytes in
     cond (eqb number 0)
     (written (outcome (afterSnoop d address) 0 0 0) (stored m address bytes))
     (written (outcome d number 0 0) m)
 
 -- The calls on the directory alone: value 0, count 0.
-abbrev pub answered : Answer → Outcome
-answered a = outcome (a .directory) (a .number) 0 0
+abbrev pub directoryOutcome : DirectoryResult → Outcome
+directoryOutcome a = outcome (a .directory) (a .number) 0 0
 
 abbrev pub snoopOutcome : Directory → ℕ → Outcome
-snoopOutcome d address = answered (snoopCall d address)
+snoopOutcome d address = directoryOutcome (snoopCall d address)
 
 abbrev pub controlOutcome : Directory → Bool → Bool → Outcome
-controlOutcome d cd nw = answered (controlCall d cd nw)
+controlOutcome d cd nw = directoryOutcome (controlCall d cd nw)
 
 abbrev pub flushOutcome : Directory → Outcome
 flushOutcome d = outcome (afterFlush d) 0 0 0

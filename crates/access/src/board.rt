@@ -27,6 +27,8 @@ fn upper_address(address: u32, width: u32) -> usize
     start
 }
 
+// The 32 answers for an access: sixteen for its lower doubleword, sixteen for its upper one. An access of a refused width has no
+// upper doubleword.
 pub fn board_answers(address: u32, width: u32) -> [u8; 32]
     ensures { λ r. ⌜ r ≡ boardAnswers address width ⌝ }
 {

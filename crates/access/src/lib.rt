@@ -1,13 +1,15 @@
-// Reads, writes, other masters, and the numbers that turn a call away, on the promises of the directory, the bus and the doubleword.
+// The calls by value: reads, writes, other masters, control, flush and reset; and the board's answers.
 // RAM, parity array, data array, answers and log are lent by the caller.
 mod board;
+mod cursor;
 mod master;
 mod outcome;
 mod reading;
-mod walk;
 mod writing;
 
 pub use board::board_answers;
+pub use cursor::AccessCursor;
+pub use cursor::StepResult;
 pub use master::control;
 pub use master::external_write;
 pub use master::flush;
@@ -16,7 +18,5 @@ pub use master::snoop;
 pub use outcome::Outcome;
 pub use reading::read;
 pub use reading::read_step;
-pub use walk::Stepped;
-pub use walk::Walk;
 pub use writing::write;
 pub use writing::write_step;

@@ -1,8 +1,7 @@
 // Other masters' writes and snoops, and the calls on the directory alone.
 ghost use mathlib.Core.Path.{_≡_};
-ghost use lib.ListN.{length};
 ghost use Rattle.memory.specs.Parity.{memory};
-ghost use Rattle.access.specs.Masters.{controlOutcome, externalCall, flushOutcome, masterNumber, resetOutcome, snoopOutcome, written};
+ghost use Rattle.access.specs.Masters.{controlOutcome, externalCall, flushOutcome, resetOutcome, snoopOutcome, written};
 use crate::outcome::Outcome;
 use crate::outcome::refused;
 use directory::Directory;
@@ -12,6 +11,7 @@ use refusal::memory_number;
 use refusal::or_else;
 use refusal::states_number;
 
+// Another master's write: the bytes into RAM with their parity, then a snoop. The data array is not touched.
 pub fn external_write(
     given: Directory,
     ram: &mut [u8],

@@ -7,11 +7,11 @@ ghost use Rattle.directory.specs.Address.{setOf};
 ghost use Rattle.memory.specs.Parity.{memory};
 ghost use Rattle.doubleword.specs.Doubleword.{readDone};
 ghost use Rattle.access.specs.Access.{after, readCall, state};
-ghost use Rattle.access.specs.Walks.{lineAt, nextDoubleword, Path, ReadStep};
+ghost use Rattle.access.specs.AccessLoop.{lineAddress, nextDoubleword, AccessNeeds, ReadStep};
+use crate::cursor::AccessCursor;
+use crate::cursor::StepResult;
 use crate::outcome::Outcome;
 use crate::outcome::refused;
-use crate::walk::Stepped;
-use crate::walk::Walk;
 use directory::Directory;
 use doubleword::Change;
 use doubleword::changed_by;
@@ -32,15 +32,15 @@ pub fn read_step<'a>(
     answers: &[u8],
     log: &mut [u32],
     operand: &mut [u8],
-    walk: Walk,
-) -> Stepped
-    requires { ⌜ (0 < walk .left) × Path walk (length (now ram)) (length (now parity)) (length (now «data»)) (length (now answers)) (length (now log)) (length (now operand)) ⌝ }
-    ensures { λ r. ⌜ ReadStep (readDone (lookupIn (now (tags .entry)) (now (valid .entry)) (lineAt walk)) (victimIn (now (valid .entry)) (now (lru .entry)) (setOf (lineAt walk)))
-        «may_fill» (memory (now (ram .entry)) (now (parity .entry))) (now («data» .entry)) (nextDoubleword walk (now (answers .entry))))
-        walk (now (log .entry)) (now (operand .entry)) r (now («data» .exit)) (now (log .exit)) (now (operand .exit)) ⌝ }
+    cursor: AccessCursor,
+) -> StepResult
+    requires { ⌜ (0 < cursor .left) × AccessNeeds cursor (length (now ram)) (length (now parity)) (length (now «data»)) (length (now answers)) (length (now log)) (length (now operand)) ⌝ }
+    ensures { λ r. ⌜ ReadStep (readDone (lookupIn (now (tags .entry)) (now (valid .entry)) (lineAddress cursor)) (victimIn (now (valid .entry)) (now (lru .entry)) (setOf (lineAddress cursor)))
+        «may_fill» (memory (now (ram .entry)) (now (parity .entry))) (now («data» .entry)) (nextDoubleword cursor (now (answers .entry))))
+        cursor (now (log .entry)) (now (operand .entry)) r (now («data» .exit)) (now (log .exit)) (now (operand .exit)) ⌝ }
 {
-    let w = walk.wanted();
-    let from = walk.group * 16;
+    let w = cursor.wanted();
+    let from = cursor.group * 16;
     let to = from + 16;
     let group = &answers[from..to];
     let moved = read_doubleword(
@@ -55,10 +55,10 @@ pub fn read_step<'a>(
         log,
         operand,
         w,
-        walk.records,
+        cursor.records,
     );
     let change = moved.change;
-    Stepped {
+    StepResult {
         line: w.line,
         change,
         count: w.count,
@@ -89,8 +89,8 @@ pub fn read(
         return refused(given, bad);
     }
     let mut operand = [0u8; 4];
-    let mut walk = Walk::start(address, width);
-    while 0 < walk.left {
+    let mut cursor = AccessCursor::start(address, width);
+    while 0 < cursor.left {
         let step = read_step(
             &given.tags,
             &given.valid,
@@ -102,19 +102,19 @@ pub fn read(
             answers,
             log,
             &mut operand,
-            walk,
+            cursor,
         );
         let change = step.change;
         match change {
-            Change::Keep => {}
+            Change::Unchanged => {}
             _ => given = changed_by(given, step.line, change),
         }
-        walk = walk.next(step.count, step.records);
+        cursor = cursor.next(step.count, step.records);
     }
     Outcome {
         directory: given,
         number: 0,
         value: word_of(operand),
-        cycles: walk.records as u32,
+        cycles: cursor.records as u32,
     }
 }

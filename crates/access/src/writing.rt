@@ -6,11 +6,11 @@ ghost use Rattle.directory.specs.Ways.{lookupIn};
 ghost use Rattle.memory.specs.Parity.{memory};
 ghost use Rattle.doubleword.specs.Doubleword.{writeDone};
 ghost use Rattle.access.specs.Access.{after, state, writeCall};
-ghost use Rattle.access.specs.Walks.{lineAt, nextDoubleword, Path, WriteStep};
+ghost use Rattle.access.specs.AccessLoop.{lineAddress, nextDoubleword, AccessNeeds, WriteStep};
+use crate::cursor::AccessCursor;
+use crate::cursor::StepResult;
 use crate::outcome::Outcome;
 use crate::outcome::refused;
-use crate::walk::Stepped;
-use crate::walk::Walk;
 use directory::Directory;
 use doubleword::Change;
 use doubleword::changed_by;
@@ -32,15 +32,15 @@ pub fn write_step<'a>(
     answers: &[u8],
     log: &mut [u32],
     operand: &[u8],
-    walk: Walk,
-) -> Stepped
-    requires { ⌜ (0 < walk .left) × Path walk (length (now ram)) (length (now parity)) (length (now «data»)) (length (now answers)) (length (now log)) (length (now operand)) ⌝ }
-    ensures { λ r. ⌜ WriteStep (writeDone (lookupIn (now (tags .entry)) (now (valid .entry)) (lineAt walk)) stays
-        (memory (now (ram .entry)) (now (parity .entry))) (now («data» .entry)) (now (operand .entry)) (nextDoubleword walk (now (answers .entry))))
-        walk (now (log .entry)) r (memory (now (ram .exit)) (now (parity .exit))) (now («data» .exit)) (now (log .exit)) ⌝ }
+    cursor: AccessCursor,
+) -> StepResult
+    requires { ⌜ (0 < cursor .left) × AccessNeeds cursor (length (now ram)) (length (now parity)) (length (now «data»)) (length (now answers)) (length (now log)) (length (now operand)) ⌝ }
+    ensures { λ r. ⌜ WriteStep (writeDone (lookupIn (now (tags .entry)) (now (valid .entry)) (lineAddress cursor)) stays
+        (memory (now (ram .entry)) (now (parity .entry))) (now («data» .entry)) (now (operand .entry)) (nextDoubleword cursor (now (answers .entry))))
+        cursor (now (log .entry)) r (memory (now (ram .exit)) (now (parity .exit))) (now («data» .exit)) (now (log .exit)) ⌝ }
 {
-    let w = walk.wanted();
-    let from = walk.group * 16;
+    let w = cursor.wanted();
+    let from = cursor.group * 16;
     let to = from + 16;
     let group = &answers[from..to];
     let moved = write_doubleword(
@@ -54,10 +54,10 @@ pub fn write_step<'a>(
         log,
         operand,
         w,
-        walk.records,
+        cursor.records,
     );
     let change = moved.change;
-    Stepped {
+    StepResult {
         line: w.line,
         change,
         count: w.count,
@@ -89,8 +89,8 @@ pub fn write(
         return refused(given, bad);
     }
     let operand = bytes_of(value);
-    let mut walk = Walk::start(address, width);
-    while 0 < walk.left {
+    let mut cursor = AccessCursor::start(address, width);
+    while 0 < cursor.left {
         let step = write_step(
             &given.tags,
             &given.valid,
@@ -101,19 +101,19 @@ pub fn write(
             answers,
             log,
             &operand,
-            walk,
+            cursor,
         );
         let change = step.change;
         match change {
-            Change::Keep => {}
+            Change::Unchanged => {}
             _ => given = changed_by(given, step.line, change),
         }
-        walk = walk.next(step.count, step.records);
+        cursor = cursor.next(step.count, step.records);
     }
     Outcome {
         directory: given,
         number: 0,
         value: 0,
-        cycles: walk.records as u32,
+        cycles: cursor.records as u32,
     }
 }

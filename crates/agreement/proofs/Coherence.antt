@@ -10,13 +10,13 @@ use lib.ListN.{length, getD}
 use lib.Seq.{sets, length-sets}
 use Rattle.laws.proofs.Tests.{same-or}
 use Rattle.directory.specs.declared.steps.Directory.{Directory}
-use Rattle.directory.specs.Address.{setOf, tagOf, lineOf}
+use Rattle.directory.specs.Address.{setOf, tagOf, lineIndex}
 use Rattle.directory.specs.Steps.{afterFill}
 use Rattle.directory.specs.WellFormed.{Held, Same, WellFormed}
 use Rattle.directory.proofs.Laws.{fill-held}
 use Rattle.memory.specs.Bytes.{bytesAt}
 use Rattle.memory.specs.Parity.{Agrees}
-use Rattle.doubleword.specs.Doubleword.{slotOf}
+use Rattle.doubleword.specs.Doubleword.{dataOffset}
 use Rattle.access.specs.Access.{State}
 use Rattle.refusal.proofs.Accepted.{GoodMemory}
 use Rattle.memory.proofs.Places.{sets-below, sets-above, sets-in}
@@ -30,14 +30,14 @@ addressOf s tag = tag * 2048 + s * 16
 pub record Lines (d : Directory) (m array : List ℕ) : Type 0 where
   pub inside : (s w tag : ℕ) → s < 128 → w < 4 → Held d s w tag → addressOf s tag + 16 ≤ length m
   pub same : (s w tag : ℕ) → s < 128 → w < 4 → Held d s w tag → (o : ℕ) → o < 16 →
-      getD array (lineOf s w * 16 + o) 0 ≡ getD m (addressOf s tag + o) 0
+      getD array (lineIndex s w * 16 + o) 0 ≡ getD m (addressOf s tag + o) 0
 
 -- no line is held
 abbrev pub Empty : Directory → Type 0
 Empty d = (s w tag : ℕ) → s < 128 → w < 4 → Held d s w tag → ⊥
 
 -- NW = 1 only with CD = 1, and while no line is held
-pub record Off (d : Directory) : Type 0 where
+pub record NwInvariant (d : Directory) : Type 0 where
   pub disabled : d .nw ≡ true → d .cd ≡ true
   pub empty : d .nw ≡ true → Empty d
 
@@ -49,7 +49,7 @@ pub record Coherent (s : State) (m : List ℕ) : Type 0 where
   pub agrees : Agrees (s .memory)
   pub rams : s .memory .ram ≡ m
   pub lines : Lines (s .directory) m (s .array)
-  pub off : Off (s .directory)
+  pub off : NwInvariant (s .directory)
 
 -- fewer lines, and none
 pub fewer-lines : (d e : Directory) (m array : List ℕ) → ((s w tag : ℕ) → s < 128 → w < 4 → Held e s w tag → Held d s w tag) → Lines d m array → Lines e m array
@@ -81,10 +81,10 @@ line-back line h = line-around line ∙ omega arith
 
 -- the bytes of a held line
 pub held-bytes : (d : Directory) (m array : List ℕ) → Lines d m array → (line w : ℕ) → line % 16 ≡ 0 → w < 4 → Held d (setOf line) w (tagOf line) → (from n : ℕ) → from + n ≤ 16 →
-    bytesAt array (slotOf line w + from) n ≡ bytesAt m (line + from) n
+    bytesAt array (dataOffset line w + from) n ≡ bytesAt m (line + from) n
 held-bytes d m array l line w al wl h from n b =
-    bytes-same array m (slotOf line w + from) (line + from) n λ o k.
-    let e : slotOf line w + from + o ≡ slotOf line w + (from + o) = omega arith in
+    bytes-same array m (dataOffset line w + from) (line + from) n λ o k.
+    let e : dataOffset line w + from + o ≡ dataOffset line w + (from + o) = omega arith in
     let f : line + from + o ≡ line + (from + o) = omega arith in
     rw (e, f) (rw (line-back line al) at (l .same (setOf line) w (tagOf line) (omega arith) wl h (from + o) (omega arith)))
 
@@ -124,7 +124,7 @@ module _ (d : Directory) (m array : List ℕ) (l : Lines d m array) (line from :
 
   -- bytes put into a held line, in memory and in the data array
   pub stored-hit : WellFormed d → length array ≡ 8192 → line + 16 ≤ length m → (w : ℕ) → w < 4 → Held d (setOf line) w (tagOf line) →
-      Lines d (sets m (line + from) x) (sets array (slotOf line w + from) x)
+      Lines d (sets m (line + from) x) (sets array (dataOffset line w + from) x)
   stored-hit g a8 fits w wl hw =
       record {
         inside = λ s v tag sl vl h. rw length-sets (l .inside s v tag sl vl h);
@@ -135,14 +135,14 @@ module _ (d : Directory) (m array : List ℕ) (l : Lines d m array) (line from :
             let te : tag ≡ tagOf line = line-tag s tag line sl e in
             let h2 : Held d (setOf line) v (tagOf line) = rw (se, te) at h in
             let ve : v ≡ w = g .sets (setOf line) (omega arith) .apart v w (tagOf line) vl wl h2 hw in
-            let old : getD array (slotOf line w + o) 0 ≡ getD m (line + o) 0 = rw (e, se, ve) at (l .same s v tag sl vl h o ol) in
-            rw (e, se, ve) (same-line array m (slotOf line w) line from x o (omega arith) (omega arith) old))
+            let old : getD array (dataOffset line w + o) 0 ≡ getD m (line + o) 0 = rw (e, se, ve) at (l .same s v tag sl vl h o ol) in
+            rw (e, se, ve) (same-line array m (dataOffset line w) line from x o (omega arith) (omega arith) old))
             (λ ne.
-            let np : lineOf s v * 16 ≡ slotOf line w → ⊥ = λ e.
+            let np : lineIndex s v * 16 ≡ dataOffset line w → ⊥ = λ e.
             let se : s ≡ setOf line = omega arith in
             let ve : v ≡ w = omega arith in
             ne (let te : tag ≡ tagOf line = sym (h .1) ∙ rw (se, ve) (hw .1) in rw (se, te) (line-back line al)) in
-            other-line array (slotOf line w) from x (lineOf s v * 16) o (omega arith) (omega arith) fx ol np
+            other-line array (dataOffset line w) from x (lineIndex s v * 16) o (omega arith) (omega arith) fx ol np
             ∙ l .same s v tag sl vl h o ol
             ∙ sym (other-line m line from x (addressOf s tag) o al (omega arith) fx ol ne));
       }
@@ -150,13 +150,13 @@ module _ (d : Directory) (m array : List ℕ) (l : Lines d m array) (line from :
 -- a kept fill of a line that is not held
 pub filled-lines : (d : Directory) → WellFormed d → (m array : List ℕ) → Lines d m array → (line w : ℕ) → line % 16 ≡ 0 → line + 16 ≤ length m → length array ≡ 8192 → w < 4 →
     (x : List ℕ) → length x ≡ 16 → ((o : ℕ) → o < 16 → getD x o 0 ≡ getD m (line + o) 0) →
-    Lines (afterFill d (setOf line) w (tagOf line)) m (sets array (slotOf line w) x)
+    Lines (afterFill d (setOf line) w (tagOf line)) m (sets array (dataOffset line w) x)
 filled-lines d g m array l line w al fits a8 wl x xl hx =
     record {
       inside = λ s v tag sl vl h. ⊎-elim (λ n. rw (n .0 .0, n .1, line-back line al) fits) (λ n. l .inside s v tag sl vl (n .1)) (split s v tag vl h);
       same = λ s v tag sl vl h o ol.
           ⊎-elim
-          (λ n. rw (n .0 .0, n .0 .1, n .1, line-back line al) (sets-in array (slotOf line w) x o (rw xl ol) (omega arith) ∙ hx o ol))
+          (λ n. rw (n .0 .0, n .0 .1, n .1, line-back line al) (sets-in array (dataOffset line w) x o (rw xl ol) (omega arith) ∙ hx o ol))
           (λ n. other-slot s v o vl ol (λ e. n .0 (omega arith, omega arith)) ∙ l .same s v tag sl vl (n .1) o ol)
           (split s v tag vl h);
     }
@@ -165,9 +165,9 @@ filled-lines d g m array l line w al fits a8 wl x xl hx =
         (Same s v (setOf line) w × (tag ≡ tagOf line)) ⊎ ((Same s v (setOf line) w → ⊥) × Held d s v tag)
     split = fill-held d (setOf line) w (tagOf line) (g .sized) (omega arith) wl
 
-    other-slot : (s v o : ℕ) → v < 4 → o < 16 → (lineOf s v ≡ lineOf (setOf line) w → ⊥) → getD (sets array (slotOf line w) x) (lineOf s v * 16 + o) 0 ≡ getD array (lineOf s v * 16 + o) 0
+    other-slot : (s v o : ℕ) → v < 4 → o < 16 → (lineIndex s v ≡ lineIndex (setOf line) w → ⊥) → getD (sets array (dataOffset line w) x) (lineIndex s v * 16 + o) 0 ≡ getD array (lineIndex s v * 16 + o) 0
     other-slot s v o vl ol ne =
-        elim (decLt (lineOf s v) (lineOf (setOf line) w)) [
-          | yes c ↦ sets-below array (slotOf line w) x (lineOf s v * 16 + o) (omega arith)
-          | no c ↦ sets-above array (slotOf line w) x (lineOf s v * 16 + o) (let c2 : lineOf (setOf line) w < lineOf s v = omega arith in omega arith)
+        elim (decLt (lineIndex s v) (lineIndex (setOf line) w)) [
+          | yes c ↦ sets-below array (dataOffset line w) x (lineIndex s v * 16 + o) (omega arith)
+          | no c ↦ sets-above array (dataOffset line w) x (lineIndex s v * 16 + o) (let c2 : lineIndex (setOf line) w < lineIndex s v = omega arith in omega arith)
         ]

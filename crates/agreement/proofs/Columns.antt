@@ -13,9 +13,9 @@ use Rattle.access.specs.Board.{boardAnswers}
 use Rattle.refusal.specs.Refusal.{lentNumber, memoryNumber}
 use Rattle.lines.specs.declared.scanning.Event.{Event}
 use Rattle.lines.specs.declared.scanning.Event.the-variants.{Malformed, Read, Write, External, Snoop, Flush, Control, Reset}
-use Rattle.lines.specs.Fields.{bytesOf, linesOf}
+use Rattle.lines.specs.Fields.{pairBytes, linesOf}
 use Rattle.lines.specs.Scan.{scanned}
-use Rattle.events.specs.Perform.{Performed, blank, eventDone, lineDone}
+use Rattle.events.specs.Perform.{Performed, zeroLog, eventDone, lineDone}
 use Rattle.events.specs.Output.{stateAfter, rowsOf, start, outputOf}
 use Rattle.agreement.specs.Calls.{read, write, external, snoop, flush, control, reset, step}
 use Rattle.agreement.specs.Plain.{Plain}
@@ -42,13 +42,13 @@ module _ (s : State) (m : List ℕ) (c : Coherent s m) where
         values = refl;
       }
   event-good line (Read a w pcd) q =
-      let g = call-good s m c (read a w pcd (boardAnswers a w) blank) refl in
+      let g = call-good s m c (read a w pcd (boardAnswers a w) zeroLog) refl in
       record { coherent = g .coherent; numbers = g .numbers; values = g .values }
   event-good line (Write a w v) q =
-      let g = call-good s m c (write a w v (boardAnswers a w) blank) refl in
+      let g = call-good s m c (write a w v (boardAnswers a w) zeroLog) refl in
       record { coherent = g .coherent; numbers = g .numbers; values = g .values }
   event-good line (External a from) q =
-      let g = call-good s m c (external a (bytesOf (drop from line))) refl in
+      let g = call-good s m c (external a (pairBytes (drop from line))) refl in
       record { coherent = g .coherent; numbers = g .numbers; values = g .values }
   event-good line (Snoop a) q =
       let g = call-good s m c (snoop a) refl in

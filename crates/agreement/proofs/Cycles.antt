@@ -15,7 +15,8 @@ use Rattle.laws.proofs.Tests.{both, by-test, same-or}
 use Rattle.laws.proofs.Lists.{sets-append}
 use Rattle.memory.specs.Bytes.{bytesAt}
 use Rattle.memory.specs.Parity.{Memory, stored, Agrees}
-use Rattle.bus.specs.Bus.{Run, run, sizeOf, left, Cycle, cyclesOf, burst, through, brought, sent}
+use Rattle.bus.proofs.Flags.{words-length}
+use Rattle.bus.specs.Bus.{Run, run, sizeOf, wantedAfter, Cycle, cyclesOf, burst, through, bufferAfter, memoryAfter}
 use Rattle.bus.specs.Record.{Record, lanesOf, flagsOf, readRecord, writeRecord, writing, wordsOf, logged}
 use Rattle.bus.proofs.Sizing.{size-some, size-most}
 use Rattle.memory.proofs.Places.{bytes-at, bytes-length, sets-above, sets-below, sets-in}
@@ -43,8 +44,8 @@ over f (w ∷ ws) s = over f ws (f w s)
 
 -- what is left after a cycle: the other wanted bytes, or the rest of these before them
 left-cases : (P : List Run → Type 0) (x : ℕ) (w : Run) (ws : List Run) → (sizeOf x w ≡ w .count → P ws) →
-    (sizeOf x w < w .count → P (run (w .from + sizeOf x w) (w .count - sizeOf x w) ∷ ws)) → P (left x w ws)
-unfolding left
+    (sizeOf x w < w .count → P (run (w .from + sizeOf x w) (w .count - sizeOf x w) ∷ ws)) → P (wantedAfter x w ws)
+unfolding wantedAfter
 left-cases P x w ws f g =
     let m = size-most x (w .from) (w .count) in
     by-test (λ b. eqb (sizeOf x w) (w .count) ≡ b → P (cond b ws (run (w .from + sizeOf x w) (w .count - sizeOf x w) ∷ ws)))
@@ -53,12 +54,12 @@ left-cases P x w ws f g =
     (λ _ e. g (let n = eqb-false (sizeOf x w) (w .count) e in omega arith))
     refl
 
-left-each : (x : ℕ) (w : Run) (ws : List Run) → Within w → Each ws → Each (left x w ws)
+left-each : (x : ℕ) (w : Run) (ws : List Run) → Within w → Each ws → Each (wantedAfter x w ws)
 left-each x w ws g h =
     left-cases Each x w ws (λ e. h)
     (λ l. (record { some = omega arith; lanes = omega (arith, g .lanes); line = omega (arith, g .line) }, h))
 
-left-total : (x : ℕ) (w : Run) (ws : List Run) → sizeOf x w + total (left x w ws) ≡ w .count + total ws
+left-total : (x : ℕ) (w : Run) (ws : List Run) → sizeOf x w + total (wantedAfter x w ws) ≡ w .count + total ws
 left-total x w ws = left-cases (λ l. sizeOf x w + total l ≡ w .count + total ws) x w ws (λ e. rw e) (λ l. omega arith)
 
 -- cycles do what the wanted bytes ask for, for any work that can be done in parts
@@ -69,7 +70,7 @@ module _ {S : Type 0} (f : Run → S → S) (split : (a m n : ℕ) (s : S) → f
   through-cycles [] (w ∷ ws) g l s = absurd (omega (arith, g .0 .some))
   through-cycles (x ∷ xs) [] g l s = refl
   through-cycles (x ∷ xs) (w ∷ ws) g l s =
-      through-cycles xs (left x w ws) (left-each x w ws (g .0) (g .1)) (omega (arith, left-total x w ws, size-some x (w .from) (w .count) (g .0 .some))) (f (run (w .from) (sizeOf x w)) s)
+      through-cycles xs (wantedAfter x w ws) (left-each x w ws (g .0) (g .1)) (omega (arith, left-total x w ws, size-some x (w .from) (w .count) (g .0 .some))) (f (run (w .from) (sizeOf x w)) s)
       ∙ left-cases (λ l. over f l (f (run (w .from) (sizeOf x w)) s) ≡ over f ws (f w s)) x w ws
       (λ e. rw e)
       (λ k.
@@ -78,20 +79,20 @@ module _ {S : Type 0} (f : Run → S → S) (split : (a m n : ℕ) (s : S) → f
 
 -- READS
 
-brought-split : (ram : List ℕ) (line a m n : ℕ) (s : List ℕ) → brought ram line (run a (m + n)) s ≡ brought ram line (run (a + m) n) (brought ram line (run a m) s)
+brought-split : (ram : List ℕ) (line a m n : ℕ) (s : List ℕ) → bufferAfter ram line (run a (m + n)) s ≡ bufferAfter ram line (run (a + m) n) (bufferAfter ram line (run a m) s)
 brought-split ram line a m n s =
     let e : line + (a + m) ≡ line + a + m = omega arith in
     rw (bytes-split ram (line + a) m n, sets-append s a (bytesAt ram (line + a) m) (bytesAt ram (line + a + m) n), bytes-length ram (line + a) m, e)
 
 module _ (ram : List ℕ) (line : ℕ) where
-  brought-length : (r : Run) (b : List ℕ) → length b ≡ 16 → length (brought ram line r b) ≡ 16
+  brought-length : (r : Run) (b : List ℕ) → length b ≡ 16 → length (bufferAfter ram line r b) ≡ 16
   brought-length r b l = length-sets b (r .from) (bytesAt ram (line + r .from) (r .count)) ∙ l
 
   abbrev Same : List ℕ → ℕ → Type 0
   Same b o = getD b o 0 ≡ getD ram (line + o) 0
 
   -- a byte of the line buffer that a cycle brings is RAM's
-  lands : (r : Run) (b : List ℕ) (o : ℕ) → r .from + r .count ≤ length b → r .from ≤ o → o < r .from + r .count → Same (brought ram line r b) o
+  lands : (r : Run) (b : List ℕ) (o : ℕ) → r .from + r .count ≤ length b → r .from ≤ o → o < r .from + r .count → Same (bufferAfter ram line r b) o
   lands r b o l p q =
       let e : r .from + (o - r .from) ≡ o = omega arith in
       let f : line + r .from + (o - r .from) ≡ line + o = omega arith in
@@ -99,7 +100,7 @@ module _ (ram : List ℕ) (line : ℕ) where
       rw (e, f) at (sets-in b (r .from) (bytesAt ram (line + r .from) (r .count)) (o - r .from) (rw n (omega arith)) (omega arith) ∙ bytes-at ram (line + r .from) (r .count) (o - r .from) (omega arith))
 
   -- and one that is RAM's stays so
-  keeps : (r : Run) (b : List ℕ) (o : ℕ) → r .from + r .count ≤ length b → Same b o → Same (brought ram line r b) o
+  keeps : (r : Run) (b : List ℕ) (o : ℕ) → r .from + r .count ≤ length b → Same b o → Same (bufferAfter ram line r b) o
   keeps r b o l h =
       let n = bytes-length ram (line + r .from) (r .count) in
       elim (decLt o (r .from)) [
@@ -110,7 +111,7 @@ module _ (ram : List ℕ) (line : ℕ) where
         ]
       ]
 
-  over-keeps : (ws : List Run) → Each ws → (b : List ℕ) → length b ≡ 16 → (o : ℕ) → Same b o → Same (over (brought ram line) ws b) o
+  over-keeps : (ws : List Run) → Each ws → (b : List ℕ) → length b ≡ 16 → (o : ℕ) → Same b o → Same (over (bufferAfter ram line) ws b) o
   over-keeps [] g b l o h = h
   over-keeps (w ∷ ws) g b l o h = over-keeps ws (g .1) _ (brought-length w b l) o (keeps w b o (rw l (g .0 .line)) h)
 
@@ -118,10 +119,10 @@ module _ (ram : List ℕ) (line : ℕ) where
   covers o [] = false
   covers o (w ∷ ws) = (leb (w .from) o && ltb o (w .from + w .count)) || covers o ws
 
-  over-lands : (ws : List Run) → Each ws → (b : List ℕ) → length b ≡ 16 → (o : ℕ) → covers o ws ≡ true → Same (over (brought ram line) ws b) o
+  over-lands : (ws : List Run) → Each ws → (b : List ℕ) → length b ≡ 16 → (o : ℕ) → covers o ws ≡ true → Same (over (bufferAfter ram line) ws b) o
   over-lands [] g b l o h = absurd (let z : _≡_ {A = ℕ} 0 1 = cc in omega arith)
   over-lands (w ∷ ws) g b l o h =
-      by-test (λ c. (leb (w .from) o && ltb o (w .from + w .count)) ≡ c → (c || covers o ws) ≡ true → Same (over (brought ram line) ws (brought ram line w b)) o)
+      by-test (λ c. (leb (w .from) o && ltb o (w .from + w .count)) ≡ c → (c || covers o ws) ≡ true → Same (over (bufferAfter ram line) ws (bufferAfter ram line w b)) o)
       (leb (w .from) o && ltb o (w .from + w .count))
       (λ _ e _.
       let p = both (leb (w .from) o) _ e in
@@ -130,8 +131,8 @@ module _ (ram : List ℕ) (line : ℕ) where
       refl
       h
 
-  brought-cycles : (xs : List ℕ) (ws : List Run) → Each ws → total ws ≤ length xs → (b : List ℕ) → through (brought ram line) (cyclesOf xs ws) b ≡ over (brought ram line) ws b
-  brought-cycles = through-cycles (brought ram line) (brought-split ram line)
+  brought-cycles : (xs : List ℕ) (ws : List Run) → Each ws → total ws ≤ length xs → (b : List ℕ) → through (bufferAfter ram line) (cyclesOf xs ws) b ≡ over (bufferAfter ram line) ws b
+  brought-cycles = through-cycles (bufferAfter ram line) (brought-split ram line)
 
 -- what the burst order covers, whatever it starts with
 allBelow : (ℕ → Bool) → ℕ → Bool
@@ -186,7 +187,7 @@ burst-covers ram line (suc (suc (suc q))) = all-below (λ o. covers ram line o (
 
 -- a fill brings all of RAM's line
 pub fill-buffer : (ram : List ℕ) (line q : ℕ) (xs : List ℕ) → 16 ≤ length xs → (o : ℕ) → o < 16 →
-    getD (through (brought ram line) (cyclesOf xs (burst q)) (replicate 16 0)) o 0 ≡ getD ram (line + o) 0
+    getD (through (bufferAfter ram line) (cyclesOf xs (burst q)) (replicate 16 0)) o 0 ≡ getD ram (line + o) 0
 fill-buffer ram line q xs l o k =
     let t = burst-total q in
     rw (brought-cycles ram line xs (burst q) (burst-each q) (omega arith) (replicate 16 0))
@@ -194,7 +195,7 @@ fill-buffer ram line q xs l o k =
 
 -- a plain read brings the wanted bytes
 pub own-bytes : (ram : List ℕ) (line : ℕ) (w : Run) → Within w → (xs : List ℕ) → 16 ≤ length xs →
-    bytesAt (through (brought ram line) (cyclesOf xs (w ∷ [])) (replicate 16 0)) (w .from) (w .count) ≡ bytesAt ram (line + w .from) (w .count)
+    bytesAt (through (bufferAfter ram line) (cyclesOf xs (w ∷ [])) (replicate 16 0)) (w .from) (w .count) ≡ bytesAt ram (line + w .from) (w .count)
 own-bytes ram line w g xs l =
     rw (brought-cycles ram line xs (w ∷ []) (g, tt) (omega (arith, g .line)) (replicate 16 0))
     (bytes-same _ ram (w .from) (line + w .from) (w .count) λ o b.
@@ -203,17 +204,17 @@ own-bytes ram line w g xs l =
 
 -- WRITES
 
-sent-split : (buffer : List ℕ) (line a m n : ℕ) (s : Memory) → sent buffer line (run a (m + n)) s ≡ sent buffer line (run (a + m) n) (sent buffer line (run a m) s)
+sent-split : (buffer : List ℕ) (line a m n : ℕ) (s : Memory) → memoryAfter buffer line (run a (m + n)) s ≡ memoryAfter buffer line (run (a + m) n) (memoryAfter buffer line (run a m) s)
 sent-split buffer line a m n s =
     let e : line + (a + m) ≡ line + a + m = omega arith in
     rw (bytes-split buffer a m n, stored-append s (line + a) (bytesAt buffer a m) (bytesAt buffer (a + m) n), bytes-length buffer a m, e)
 
 -- write cycles store the wanted bytes
 pub own-stored : (x : List ℕ) (line : ℕ) (w : Run) → Within w → length x ≡ w .count → (xs : List ℕ) → 16 ≤ length xs → (m : Memory) →
-    through (sent (sets (replicate 16 0) (w .from) x) line) (cyclesOf xs (w ∷ [])) m ≡ stored m (line + w .from) x
+    through (memoryAfter (sets (replicate 16 0) (w .from) x) line) (cyclesOf xs (w ∷ [])) m ≡ stored m (line + w .from) x
 own-stored x line w g e xs l m =
     let buffer = sets (replicate 16 0) (w .from) x in
-    through-cycles (sent buffer line) (sent-split buffer line) xs (w ∷ []) (g, tt) (omega (arith, g .line)) m
+    through-cycles (memoryAfter buffer line) (sent-split buffer line) xs (w ∷ []) (g, tt) (omega (arith, g .line)) m
     ∙ ap (stored m (line + w .from)) (rw e at (bytes-sets (replicate 16 0) (w .from) x (rw e (g .line))))
 
 -- RECORDS
@@ -232,7 +233,7 @@ pub cycles-within : (xs : List ℕ) (ws : List Run) → Each ws → EachCycle (c
 unfolding cyclesOf
 cycles-within [] ws g = tt
 cycles-within (x ∷ xs) [] g = tt
-cycles-within (x ∷ xs) (w ∷ ws) g = (moved-within x w (g .0), cycles-within xs (left x w ws) (left-each x w ws (g .0) (g .1)))
+cycles-within (x ∷ xs) (w ∷ ws) g = (moved-within x w (g .0), cycles-within xs (wantedAfter x w ws) (left-each x w ws (g .0) (g .1)))
 
 -- no record carries 128
 abbrev carries : Record → ℕ
@@ -299,11 +300,6 @@ unfolding wordsOf
 words-at [] k h = refl
 words-at (r ∷ rs) zero h = h .0
 words-at (r ∷ rs) (suc k) h = let e : 3 * suc k + 1 ≡ suc (suc (suc (3 * k + 1))) = omega arith in rw e (words-at rs k (h .1))
-
-words-length : (rs : List Record) → length (wordsOf rs) ≡ 3 * length rs
-unfolding wordsOf
-words-length [] = refl
-words-length (r ∷ rs) = omega (arith, words-length rs)
 
 pub logged-sound : (log : List ℕ) (rs : List Record) → Sound rs → (k : ℕ) → k < length rs → getD (logged log 0 rs) (3 * k + 1) 0 / 128 % 2 ≡ 0
 logged-sound log rs h k l =

@@ -13,7 +13,7 @@ use Rattle.directory.specs.Address.{setOf}
 use Rattle.directory.specs.Steps.{stateOf, controlRefused}
 use Rattle.directory.proofs.Laws.{good-state-zero}
 use Rattle.access.specs.Access.{State, readNumber, writeNumber}
-use Rattle.access.specs.Masters.{masterNumber}
+use Rattle.access.specs.Masters.{externalWriteNumber}
 use Rattle.refusal.specs.Refusal.{when, orElse, ramNumber, memoryNumber, arrayNumber, lentNumber, badWidth, badAnswers, argumentNumber, valueNumber, externalNumber, viewAddressNumber, viewInputNumber, statesIn, statesOf}
 use Rattle.refusal.proofs.Accepted.{zero-or, first-or, GoodMemory}
 use Rattle.views.specs.View.{viewNumberIn}
@@ -65,8 +65,8 @@ module _ (s : State) (m : List ℕ) (c : Coherent s m) where
       ∙ ap (orElse (argumentNumber (length (s .memory .ram)) a w xs (length log))) (or-nothing (valueNumber w v) _ (states-clear a w))
       ∙ ap (λ (l : List ℕ). orElse (argumentNumber (length l) a w xs (length log)) (valueNumber w v)) (c .rams)
 
-  pub master-number : (a : ℕ) (x : List ℕ) → masterNumber (s .directory) (s .memory) a x ≡ externalNumber (length m) a (length x)
-  unfolding masterNumber
+  pub master-number : (a : ℕ) (x : List ℕ) → externalWriteNumber (s .directory) (s .memory) a x ≡ externalNumber (length m) a (length x)
+  unfolding externalWriteNumber
   master-number a x =
       zero-or (memoryNumber (length (s .memory .ram)) (length (s .memory .parity))) _ (memory-clear _ _ (c .lent))
       ∙ or-nothing (externalNumber (length (s .memory .ram)) a (length x)) _ (states-clear a (length x))

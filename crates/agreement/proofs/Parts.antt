@@ -7,7 +7,7 @@ use lib.ListN.{length, drop, length-take, length-drop}
 use lib.Seq.{sets}
 use Rattle.laws.proofs.Lists.{sets-append}
 use Rattle.memory.specs.Bytes.{bytesAt}
-use Rattle.bus.specs.Groups.{group}
+use Rattle.bus.specs.Groups.{groupSize}
 use Rattle.doubleword.specs.Doubleword.{Doubleword, doublewordsOf}
 use Rattle.memory.proofs.Places.{bytes-length}
 use Rattle.agreement.proofs.Bytes.{bytes-split}
@@ -43,7 +43,7 @@ abbrev pub allWritten : List ℕ → List ℕ → List Doubleword → List ℕ
 allWritten operand m [] = m
 allWritten operand m (w ∷ ws) = allWritten operand (written operand m w) ws
 
-pub parts-proper : (g : ℕ) (xs : List ℕ) (a n place size : ℕ) → length xs ≡ group * g → n ≤ 4 * g - a % 4 → a + n ≤ size → size % 16 ≡ 0 → EachProper size (doublewordsOf g xs a n place)
+pub parts-proper : (g : ℕ) (xs : List ℕ) (a n place size : ℕ) → length xs ≡ groupSize * g → n ≤ 4 * g - a % 4 → a + n ≤ size → size % 16 ≡ 0 → EachProper size (doublewordsOf g xs a n place)
 unfolding doublewordsOf
 parts-proper zero xs a n place size l b i z = tt
 parts-proper (suc g) xs a zero place size l b i z = tt

@@ -19,22 +19,22 @@ use Rattle.directory.proofs.Laws.{lookup-at, use-held, use-control, use-well-fo
 use Rattle.memory.specs.Bytes.{bytesAt}
 use Rattle.bus.specs.Bus.{ken, burst, lastAnswer}
 use Rattle.bus.specs.Record.{plainRead, filling}
-use Rattle.doubleword.specs.declared.change.Change.the-variants.{Keep, Fill}
-use Rattle.doubleword.specs.Doubleword.{Doubleword, Done, changed, slotOf, ownCycles, fillCycles, bufferOf, readHit, readPlain, readFill, readDone}
+use Rattle.doubleword.specs.declared.change.Change.the-variants.{Unchanged, Fill}
+use Rattle.doubleword.specs.Doubleword.{Doubleword, Done, changed, dataOffset, plainCycles, fillCycles, bufferOf, readHit, readPlain, readFill, readDone}
 use Rattle.access.specs.Access.{State, state, Progress, readOne, next, allOf}
 use Rattle.memory.proofs.Places.{bytes-at, bytes-length}
 use Rattle.agreement.proofs.Bytes.{bytes-same}
 use Rattle.agreement.proofs.Cycles.{Sound, sound-append, sound-reads, cycles-within, burst-each, fill-buffer, own-bytes}
-use Rattle.agreement.proofs.Coherence.{Lines, Off, Coherent, fewer-lines, held-bytes, filled-lines}
+use Rattle.agreement.proofs.Coherence.{Lines, NwInvariant, Coherent, fewer-lines, held-bytes, filled-lines}
 use Rattle.agreement.proofs.Parts.{Proper, EachProper, wantedOf, allWanted}
 
 -- another directory and data array beside the same memory
-pub coherent-with : (s : State) (m : List ℕ) → Coherent s m → (d : Directory) → WellFormed d → Off d → (array : List ℕ) → length array ≡ 8192 → Lines d m array → Coherent (state d (s .memory) array) m
+pub coherent-with : (s : State) (m : List ℕ) → Coherent s m → (d : Directory) → WellFormed d → NwInvariant d → (array : List ℕ) → length array ≡ 8192 → Lines d m array → Coherent (state d (s .memory) array) m
 coherent-with s m c d g o array a l =
     record { formed = g; lent = c .lent; lines-lent = a; agrees = c .agrees; rams = c .rams; lines = l; off = o }
 
 -- a use of a way
-pub use-off : (d : Directory) (r w : ℕ) → Off d → Off (afterUse d r w)
+pub use-off : (d : Directory) (r w : ℕ) → NwInvariant d → NwInvariant (afterUse d r w)
 use-off d r w o =
     let k = use-control d r w in
     record {
@@ -74,7 +74,7 @@ module _ (s : State) (m : List ℕ) (c : Coherent s m) (w : Doubleword) (ok : Pr
       record {
         coherent = coherent-with s m c d (c .formed) (c .off) (s .array) (c .lines-lent) (c .lines);
         gives = own-bytes (s .memory .ram) (w .line) (w .wanted) (ok .within) (w .answers) (ok .enough) ∙ ap (λ (l : List ℕ). wantedOf l w) (c .rams);
-        sound = sound-reads plainRead (omega arith) (s .memory) (c .agrees) (w .line) fits (ownCycles w) (cycles-within (w .answers) (w .wanted ∷ []) (ok .within, tt));
+        sound = sound-reads plainRead (omega arith) (s .memory) (c .agrees) (w .line) fits (plainCycles w) (cycles-within (w .answers) (w .wanted ∷ []) (ok .within, tt));
       }
 
   -- the line buffer after a fill has the memory's line
@@ -91,7 +91,7 @@ module _ (s : State) (m : List ℕ) (c : Coherent s m) (w : Doubleword) (ok : Pr
 
   -- a kept fill: only with CD = 0, so NW = 0
   kept-coherent : lookupOf d (w .line) ≡ Nothing → d .cd ≡ false →
-      Coherent (state (afterFill d (setOf (w .line)) victim (tagOf (w .line))) (s .memory) (sets (s .array) (slotOf (w .line) victim) (bytesAt buffer 0 16))) m
+      Coherent (state (afterFill d (setOf (w .line)) victim (tagOf (w .line))) (s .memory) (sets (s .array) (dataOffset (w .line) victim) (bytesAt buffer 0 16))) m
   kept-coherent e enabled =
       let vl = victim-below (d .valid) (d .lru) (setOf (w .line)) in
       let k = fill-control d (setOf (w .line)) victim (tagOf (w .line)) in
@@ -99,8 +99,8 @@ module _ (s : State) (m : List ℕ) (c : Coherent s m) (w : Doubleword) (ok : Pr
       coherent-with s m c (afterFill d (setOf (w .line)) victim (tagOf (w .line)))
       (fill-address-well-formed d (c .formed) (w .line) victim (omega (arith, fits, c .lent .most)) vl e)
       (record { disabled = λ h. absurd (never h); empty = λ h. absurd (never h) })
-      (sets (s .array) (slotOf (w .line) victim) (bytesAt buffer 0 16))
-      (length-sets (s .array) (slotOf (w .line) victim) (bytesAt buffer 0 16) ∙ c .lines-lent)
+      (sets (s .array) (dataOffset (w .line) victim) (bytesAt buffer 0 16))
+      (length-sets (s .array) (dataOffset (w .line) victim) (bytesAt buffer 0 16) ∙ c .lines-lent)
       (filled-lines d (c .formed) m (s .array) (c .lines) (w .line) victim (ok .aligned) (ok .inside) (c .lines-lent) vl (bytesAt buffer 0 16) (bytes-length buffer 0 16)
       (λ o l. bytes-at buffer 0 16 o l ∙ buffer-is (0 + o) (omega arith) ∙ ap (λ (i : ℕ). getD m (w .line + i) 0) (omega arith)))
 
@@ -109,7 +109,7 @@ module _ (s : State) (m : List ℕ) (c : Coherent s m) (w : Doubleword) (ok : Pr
   read-fill e enabled =
       record {
         coherent =
-            by-test (λ b. Coherent (state (changed d (w .line) (cond b (Fill victim) Keep)) (s .memory) (cond b (sets (s .array) (slotOf (w .line) victim) (bytesAt buffer 0 16)) (s .array))) m)
+            by-test (λ b. Coherent (state (changed d (w .line) (cond b (Fill victim) Unchanged)) (s .memory) (cond b (sets (s .array) (dataOffset (w .line) victim) (bytesAt buffer 0 16)) (s .array))) m)
             (ken (lastAnswer 0 (fillCycles w)))
             (λ _. kept-coherent e enabled)
             (λ _. coherent-with s m c d (c .formed) (c .off) (s .array) (c .lines-lent) (c .lines));
@@ -119,13 +119,13 @@ module _ (s : State) (m : List ℕ) (c : Coherent s m) (w : Doubleword) (ok : Pr
         sound = sound-reads filling (omega arith) (s .memory) (c .agrees) (w .line) fits (fillCycles w) (cycles-within (w .answers) (burst (w .wanted .from / 4)) (burst-each _));
       }
 
-  read-found : (may : Bool) → (may ≡ true → d .cd ≡ false) → (f : Found) → lookupOf d (w .line) ≡ f → ReadGood s m w (readDone f victim may (s .memory) (s .array) w)
+  read-found : (mayFill : Bool) → (mayFill ≡ true → d .cd ≡ false) → (f : Found) → lookupOf d (w .line) ≡ f → ReadGood s m w (readDone f victim mayFill (s .memory) (s .array) w)
   unfolding readDone
-  read-found may enabled (At way) e = read-hit way e
-  read-found may enabled Nothing e =
-      by-test (λ b. (may && ken (getD (w .answers) 0 0)) ≡ b → ReadGood s m w (cond b (readFill victim (s .memory) (s .array) w) (readPlain (s .memory) (s .array) w)))
-      (may && ken (getD (w .answers) 0 0))
-      (λ _ h. read-fill e (enabled (both may _ h .0)))
+  read-found mayFill enabled (At way) e = read-hit way e
+  read-found mayFill enabled Nothing e =
+      by-test (λ b. (mayFill && ken (getD (w .answers) 0 0)) ≡ b → ReadGood s m w (cond b (readFill victim (s .memory) (s .array) w) (readPlain (s .memory) (s .array) w)))
+      (mayFill && ken (getD (w .answers) 0 0))
+      (λ _ h. read-fill e (enabled (both mayFill _ h .0)))
       (λ _ _. read-plain)
       refl
 

@@ -13,11 +13,11 @@ use Rattle.directory.proofs.Laws.{snoop-held, snoop-control, snoop-none, snoop-
 use Rattle.memory.specs.Parity.{stored}
 use Rattle.access.specs.Access.{State, state}
 use Rattle.refusal.proofs.Accepted.{GoodExternal}
-use Rattle.agreement.proofs.Coherence.{addressOf, Lines, Off, Coherent, fewer-lines, line-set, stored-miss}
+use Rattle.agreement.proofs.Coherence.{addressOf, Lines, NwInvariant, Coherent, fewer-lines, line-set, stored-miss}
 use Rattle.agreement.proofs.Writing.{coherent-stored}
 
 module _ (s : State) (m : List ℕ) (c : Coherent s m) (a : ℕ) where
-  pub snooped-off : Off (afterSnoop (s .directory) a)
+  pub snooped-off : NwInvariant (afterSnoop (s .directory) a)
   snooped-off =
       let k = snoop-control (s .directory) (c .formed .sized) a in
       record {

@@ -15,21 +15,21 @@ use Rattle.directory.specs.Steps.{lookupOf, afterReset, afterFlush, afterContro
 use Rattle.directory.specs.WellFormed.{WellFormed}
 use Rattle.directory.proofs.Laws.{lookup-at, reset-none, reset-control, reset-well-formed, flush-none, flush-control, flush-well-formed, control-held, control-set, control-well-formed, control-accepted, control-refused, snoop-well-formed, snoop-accepted}
 use Rattle.memory.specs.Bytes.{bytesAt, valueOf}
-use Rattle.bus.specs.Groups.{groups}
-use Rattle.doubleword.specs.Doubleword.{slotOf, doublewordsOf}
+use Rattle.bus.specs.Groups.{groupCount}
+use Rattle.doubleword.specs.Doubleword.{dataOffset, doublewordsOf}
 use Rattle.access.specs.Access.{State, after, outcome, refused, accepted, operandOf, readNumber, writeNumber, readAll, writeAll, readCall, writeCall}
-use Rattle.access.specs.Masters.{masterNumber}
+use Rattle.access.specs.Masters.{externalWriteNumber}
 use Rattle.refusal.specs.Refusal.{argumentNumber, valueNumber}
 use Rattle.refusal.proofs.Accepted.{or-zero, arguments-accepted, external-accepted}
 use Rattle.access.proofs.Calls.{external-refused, external-done}
 use Rattle.views.specs.View.{shown}
 use Rattle.views.proofs.Viewing.{view-refused, view-done}
-use Rattle.agreement.specs.Calls.{Call, read, write, external, snoop, flush, control, view, reset, Step, leaving, directoryStep, step, nextState, viewNumberOf}
-use Rattle.agreement.specs.Plain.{Plain, plainly, plainNumber, plainDone, plain}
+use Rattle.agreement.specs.Calls.{Call, read, write, external, snoop, flush, control, view, reset, Step, callStep, directoryStep, step, nextState, viewNumberOf}
+use Rattle.agreement.specs.Plain.{Plain, plainAccepted, plainNumber, plainDone, plain}
 use Rattle.agreement.specs.Agreement.{NoParityError, setsNw}
 use Rattle.agreement.proofs.Bytes.{bytes-same, operand-bytes}
 use Rattle.agreement.proofs.Cycles.{logged-sound}
-use Rattle.agreement.proofs.Coherence.{Lines, Empty, Off, Coherent, fewer-lines, no-lines, line-around}
+use Rattle.agreement.proofs.Coherence.{Lines, Empty, NwInvariant, Coherent, fewer-lines, no-lines, line-around}
 use Rattle.agreement.proofs.Parts.{parts-proper, parts-wanted, parts-written}
 use Rattle.agreement.proofs.Reading.{coherent-with, read-all}
 use Rattle.agreement.proofs.Writing.{write-all}
@@ -47,7 +47,7 @@ pub record Good (x : Step) (p : Plain) : Type 0 where
 -- a call by its number: refused and nothing changed, or done
 module _ (s : State) (m : List ℕ) (c : Coherent s m) (x : Call) where
   abbrev unchanged : ℕ → List ℕ → Step
-  unchanged n log = leaving (after (outcome (s .directory) n 0 0) (s .memory) (s .array) log)
+  unchanged n log = callStep (after (outcome (s .directory) n 0 0) (s .memory) (s .array) log)
 
   by-number : (n : ℕ) → n ≡ plainNumber m x → (n ≡ 0 → Good (step s x) (plainDone m x)) → (log : List ℕ) → ((n ≡ 0 → ⊥) → step s x ≡ unchanged n log) →
       Good (step s x) (plain m x)
@@ -86,13 +86,13 @@ module _ (s : State) (m : List ℕ) (c : Coherent s m) where
       by-number s m c (read a w pcd xs log) (readNumber s a w xs log) (read-number s m c a w xs log)
       (λ z.
       let k = arguments-accepted (length m) a w xs (length log) (sym (read-number s m c a w xs log) ∙ z) in
-      let b : w ≤ 4 * groups - a % 4 = omega (arith, k .four) in
-      let r = read-all (doublewordsOf groups xs a w 0) s m c pcd (parts-proper groups xs a w 0 (length m) (k .served) b (k .inside) whole) in
+      let b : w ≤ 4 * groupCount - a % 4 = omega (arith, k .four) in
+      let r = read-all (doublewordsOf groupCount xs a w 0) s m c pcd (parts-proper groupCount xs a w 0 (length m) (k .served) b (k .inside) whole) in
       rw (read-done a w pcd xs log z)
       (record {
         coherent = r .coherent;
         numbers = refl;
-        values = ap valueOf (r .gives ∙ parts-wanted groups m xs a w 0 b);
+        values = ap valueOf (r .gives ∙ parts-wanted groupCount m xs a w 0 b);
         views = refl;
         sound = logged-sound log (readAll s a w pcd xs .records) (r .sound);
       }))
@@ -114,11 +114,11 @@ module _ (s : State) (m : List ℕ) (c : Coherent s m) where
       (λ z.
       let q = or-zero (argumentNumber (length m) a w xs (length log)) (valueNumber w v) (sym (write-number s m c a w v xs log) ∙ z) in
       let k = arguments-accepted (length m) a w xs (length log) (q .0) in
-      let b : w ≤ 4 * groups - a % 4 = omega (arith, k .four) in
-      let r = write-all (operandOf v) (doublewordsOf groups xs a w 0) s m c (parts-proper groups xs a w 0 (length m) (k .served) b (k .inside) whole) in
+      let b : w ≤ 4 * groupCount - a % 4 = omega (arith, k .four) in
+      let r = write-all (operandOf v) (doublewordsOf groupCount xs a w 0) s m c (parts-proper groupCount xs a w 0 (length m) (k .served) b (k .inside) whole) in
       rw (write-done a w v xs log z)
       (record {
-        coherent = rw (parts-written groups (operandOf v) m xs a w 0 b, operand-bytes v w (k .four)) at (r .coherent);
+        coherent = rw (parts-written groupCount (operandOf v) m xs a w 0 b, operand-bytes v w (k .four)) at (r .coherent);
         numbers = refl;
         values = refl;
         views = refl;
@@ -132,7 +132,7 @@ module _ (s : State) (m : List ℕ) (c : Coherent s m) where
   external-good : (a : ℕ) (x : List ℕ) → Good (step s (external a x)) (plain m (external a x))
   unfolding step plainNumber plainDone
   external-good a x =
-      let n = masterNumber (s .directory) (s .memory) a x in
+      let n = externalWriteNumber (s .directory) (s .memory) a x in
       by-number s m c (external a x) n (master-number s m c a x)
       (λ z.
       rw (external-done (s .directory) (s .memory) a x z)
@@ -149,7 +149,7 @@ module _ (s : State) (m : List ℕ) (c : Coherent s m) where
   -- THE DIRECTORY ALONE
 
   -- a call that changes nothing but the directory
-  changed-good : (d : Directory) → WellFormed d → Off d → Lines d m (s .array) → Good (directoryStep s (outcome d 0 0 0)) (plainly 0 [] m)
+  changed-good : (d : Directory) → WellFormed d → NwInvariant d → Lines d m (s .array) → Good (directoryStep s (outcome d 0 0 0)) (plainAccepted 0 [] m)
   changed-good d g o l =
       record {
         coherent = coherent-with s m c d g o (s .array) (c .lines-lent) l;
@@ -160,7 +160,7 @@ module _ (s : State) (m : List ℕ) (c : Coherent s m) where
       }
 
   -- a directory that holds no line
-  emptied-good : (d : Directory) → WellFormed d → (d .nw ≡ true → d .cd ≡ true) → Empty d → Good (directoryStep s (outcome d 0 0 0)) (plainly 0 [] m)
+  emptied-good : (d : Directory) → WellFormed d → (d .nw ≡ true → d .cd ≡ true) → Empty d → Good (directoryStep s (outcome d 0 0 0)) (plainAccepted 0 [] m)
   emptied-good d g e n = changed-good d g (record { disabled = e; empty = λ _. n }) (no-lines d m (s .array) n)
 
   snoop-good : (a : ℕ) → Good (step s (snoop a)) (plain m (snoop a))
@@ -208,7 +208,7 @@ module _ (s : State) (m : List ℕ) (c : Coherent s m) where
   unfolding shown
   shown-is a (At w) e =
       let k = lookup-at (s .directory) a w e in
-      bytes-same (s .array) m (slotOf a w) (a / 16 * 16) 16 λ o b.
+      bytes-same (s .array) m (dataOffset a w) (a / 16 * 16) 16 λ o b.
       rw (line-around a) at (c .lines .same (setOf a) w (tagOf a) (omega arith) (k .0) (k .1) o b)
   shown-is a Nothing e = ap (λ (l : List ℕ). bytesAt l (a / 16 * 16) 16) (c .rams)
 

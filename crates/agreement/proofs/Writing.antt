@@ -15,21 +15,21 @@ use Rattle.directory.specs.Steps.{lookupOf, afterUse}
 use Rattle.directory.specs.WellFormed.{WellFormed}
 use Rattle.directory.proofs.Laws.{lookup-at, lookup-nothing, use-kept, use-well-formed}
 use Rattle.memory.specs.Parity.{stored}
-use Rattle.bus.specs.Bus.{sent, through}
+use Rattle.bus.specs.Bus.{memoryAfter, through}
 use Rattle.bus.specs.Record.{writeRecord}
-use Rattle.doubleword.specs.declared.change.Change.the-variants.{Keep, Use}
-use Rattle.doubleword.specs.Doubleword.{Doubleword, Done, changed, slotOf, ownCycles, laid, writeThrough, hitArray, writeDone}
+use Rattle.doubleword.specs.declared.change.Change.the-variants.{Unchanged, Use}
+use Rattle.doubleword.specs.Doubleword.{Doubleword, Done, changed, dataOffset, plainCycles, writeBuffer, writeThrough, hitArray, writeDone}
 use Rattle.access.specs.Access.{State, state, Progress, writeOne, next, allOf}
 use Rattle.memory.proofs.Places.{bytes-length}
 use Rattle.agreement.proofs.Memories.{stored-ram, stored-parity, stored-agrees}
 use Rattle.agreement.proofs.Cycles.{Sound, sound-append, sound-writes, cycles-within, own-stored}
-use Rattle.agreement.proofs.Coherence.{Lines, Off, Coherent, line-set, line-tag, stored-miss, stored-hit}
+use Rattle.agreement.proofs.Coherence.{Lines, NwInvariant, Coherent, line-set, line-tag, stored-miss, stored-hit}
 use Rattle.agreement.proofs.Parts.{Proper, EachProper, givenOf, written, allWritten}
 use Rattle.agreement.proofs.Reading.{use-off, use-lines}
 
 -- bytes stored in RAM with their parity, and in the plain memory, beside a directory whose lines have them
 pub coherent-stored : (s : State) (m : List ℕ) → Coherent s m → (a : ℕ) (x : List ℕ) → a + length x ≤ length m →
-    (d : Directory) → WellFormed d → Off d → (array : List ℕ) → length array ≡ 8192 → Lines d (sets m a x) array →
+    (d : Directory) → WellFormed d → NwInvariant d → (array : List ℕ) → length array ≡ 8192 → Lines d (sets m a x) array →
     Coherent (state d (stored (s .memory) a x) array) (sets m a x)
 coherent-stored s m c a x fits d g o array al l =
     let e = stored-ram (s .memory) a x in
@@ -60,11 +60,11 @@ module _ (operand : List ℕ) (s : State) (m : List ℕ) (c : Coherent s m) (w :
   size : length x ≡ w .wanted .count
   size = bytes-length operand (w .place) (w .wanted .count)
 
-  sent-own : through (sent (laid operand w) (w .line)) (ownCycles w) (s .memory) ≡ stored (s .memory) (w .line + w .wanted .from) x
+  sent-own : through (memoryAfter (writeBuffer operand w) (w .line)) (plainCycles w) (s .memory) ≡ stored (s .memory) (w .line + w .wanted .from) x
   sent-own = own-stored x (w .line) (w .wanted) (ok .within) size (w .answers) (ok .enough) (s .memory)
 
-  own-sound : Sound (map (writeRecord (laid operand w) (w .line)) (ownCycles w))
-  own-sound = sound-writes (laid operand w) (w .line) (ownCycles w) (cycles-within (w .answers) (w .wanted ∷ []) (ok .within, tt))
+  own-sound : Sound (map (writeRecord (writeBuffer operand w) (w .line)) (plainCycles w))
+  own-sound = sound-writes (writeBuffer operand w) (w .line) (plainCycles w) (cycles-within (w .answers) (w .wanted ∷ []) (ok .within, tt))
 
   in-line : w .wanted .from + length x ≤ 16
   in-line = rw size (ok .within .line)
@@ -72,7 +72,7 @@ module _ (operand : List ℕ) (s : State) (m : List ℕ) (c : Coherent s m) (w :
   in-memory : w .line + w .wanted .from + length x ≤ length m
   in-memory = omega (arith, in-line, ok .inside)
 
-  write-miss : lookupOf d (w .line) ≡ Nothing → WriteGood s (written operand m w) w (writeThrough Keep (s .memory) (s .array) operand w)
+  write-miss : lookupOf d (w .line) ≡ Nothing → WriteGood s (written operand m w) w (writeThrough Unchanged (s .memory) (s .array) operand w)
   unfolding writeThrough changed
   write-miss e =
       let none = lookup-nothing d (w .line) e in
@@ -90,8 +90,8 @@ module _ (operand : List ℕ) (s : State) (m : List ℕ) (c : Coherent s m) (w :
       let g = use-well-formed d (c .formed) (setOf (w .line)) way (omega arith) (k .0) in
       record {
         coherent = rw sent-own (coherent-stored s m c (w .line + w .wanted .from) x in-memory (afterUse d (setOf (w .line)) way) g (use-off d (setOf (w .line)) way (c .off))
-            (sets (s .array) (slotOf (w .line) way + w .wanted .from) x)
-            (length-sets (s .array) (slotOf (w .line) way + w .wanted .from) x ∙ c .lines-lent)
+            (sets (s .array) (dataOffset (w .line) way + w .wanted .from) x)
+            (length-sets (s .array) (dataOffset (w .line) way + w .wanted .from) x ∙ c .lines-lent)
             (stored-hit (afterUse d (setOf (w .line)) way) m (s .array) (use-lines d (setOf (w .line)) way m (s .array) (c .lines)) (w .line) (w .wanted .from) x (ok .aligned) in-line g (c .lines-lent) (ok .inside) way (k .0)
             (use-kept d (setOf (w .line)) way (setOf (w .line)) way _ (k .1))));
         sound = own-sound;

@@ -30,7 +30,7 @@ unfoldable pub AgreesAll : State → List ℕ → List Call → Type 0
 AgreesAll s m [] = Unit {0}
 AgreesAll s m (c ∷ cs) = Matches (step s c) (plain m c) × AgreesAll (nextState (step s c)) (plain m c .memory) cs
 
--- Demand 3's premise on the list: no accepted control call sets NW to 1. One with CD = 0 and NW = 1 is refused by 9 and sets nothing.
+-- An accepted control call that sets NW to 1. One with CD = 0 and NW = 1 is refused by 9 and sets nothing.
 abbrev pub setsNw : Call → Bool
 setsNw (read address width pcd answers log) = false
 setsNw (write address width value answers log) = false
@@ -41,6 +41,7 @@ setsNw (control cd nw) = not (controlRefused cd nw) && nw
 setsNw (view address) = false
 setsNw reset = false
 
+-- Demand 3's premise on the list: "no accepted control call sets NW to 1".
 abbrev pub NeverSetsNw : List Call → Type 0
 NeverSetsNw [] = Unit {0}
 NeverSetsNw (c ∷ cs) = (setsNw c ≡ false) × NeverSetsNw cs
@@ -65,6 +66,7 @@ unfoldable pub ArisesAll : State → List Call → Type 0
 ArisesAll s [] = Unit {0}
 ArisesAll s (c ∷ cs) = Arises (step s c .leaves .outcome .number) × ArisesAll (nextState (step s c)) cs
 
+-- The claim, for every list with demand 3's premises.
 abbrev pub NumbersThatArise : Type 0
 NumbersThatArise =
     (m : Memory) (array : List ℕ) (cs : List Call) → Legal m array → NeverSetsNw cs → ArisesAll (state afterReset m array) cs

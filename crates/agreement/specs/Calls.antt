@@ -25,15 +25,15 @@ pub record Step : Type 0 where
   pub shown : List ℕ
 
 -- A call other than a view shows nothing.
-abbrev pub leaving : After → Step
-leaving a = record { leaves = a; shown = [] }
+abbrev pub callStep : After → Step
+callStep a = record { leaves = a; shown = [] }
 
 -- "A buffer that a call doesn't receive passes on as it was.": an external write has no data array and no log, a call on the directory alone no buffer.
 abbrev pub externalStep : State → Written → Step
-externalStep s w = leaving (after (w .outcome) (w .memory) (s .array) [])
+externalStep s w = callStep (after (w .outcome) (w .memory) (s .array) [])
 
 abbrev pub directoryStep : State → Outcome → Step
-directoryStep s o = leaving (after o (s .memory) (s .array) [])
+directoryStep s o = callStep (after o (s .memory) (s .array) [])
 
 -- A view and its number, of the state of the unit: those that `views` gives for its arrays.
 abbrev pub viewNumberOf : State → ℕ → ℕ
@@ -51,8 +51,8 @@ viewStep s number bytes =
 
 -- One step of the unit, by the definitions that the contracts of the calls cite.
 unfoldable pub step : State → Call → Step
-step s (read address width pcd answers log) = leaving (readCall s address width pcd answers log)
-step s (write address width value answers log) = leaving (writeCall s address width value answers log)
+step s (read address width pcd answers log) = callStep (readCall s address width pcd answers log)
+step s (write address width value answers log) = callStep (writeCall s address width value answers log)
 step s (external address bytes) = externalStep s (externalCall (s .directory) (s .memory) address bytes)
 step s (snoop address) = directoryStep s (snoopOutcome (s .directory) address)
 step s flush = directoryStep s (flushOutcome (s .directory))

@@ -30,20 +30,20 @@ plainNumber m (view address) = viewAddressNumber (length m) address
 plainNumber m reset = 0
 
 -- A call that is done.
-abbrev pub plainly : ℕ → List ℕ → List ℕ → Plain
-plainly value bytes m = record { number = 0; value = value; shown = bytes; memory = m }
+abbrev pub plainAccepted : ℕ → List ℕ → List ℕ → Plain
+plainAccepted value bytes m = record { number = 0; value = value; shown = bytes; memory = m }
 
 -- "A write or external write replaces its bytes; a read gives its bytes; a view gives its sixteen; snoop, flush, control and reset do nothing".
 -- "with the bytes taken little-endian"
 unfoldable pub plainDone : List ℕ → Call → Plain
-plainDone m (read address width pcd answers log) = plainly (valueOf (bytesAt m address width)) [] m
-plainDone m (write address width value answers log) = plainly 0 [] (sets m address (bytesOf width value))
-plainDone m (external address bytes) = plainly 0 [] (sets m address bytes)
-plainDone m (snoop address) = plainly 0 [] m
-plainDone m flush = plainly 0 [] m
-plainDone m (control cd nw) = plainly 0 [] m
-plainDone m (view address) = plainly 0 (bytesAt m (address / 16 * 16) 16) m
-plainDone m reset = plainly 0 [] m
+plainDone m (read address width pcd answers log) = plainAccepted (valueOf (bytesAt m address width)) [] m
+plainDone m (write address width value answers log) = plainAccepted 0 [] (sets m address (bytesOf width value))
+plainDone m (external address bytes) = plainAccepted 0 [] (sets m address bytes)
+plainDone m (snoop address) = plainAccepted 0 [] m
+plainDone m flush = plainAccepted 0 [] m
+plainDone m (control cd nw) = plainAccepted 0 [] m
+plainDone m (view address) = plainAccepted 0 (bytesAt m (address / 16 * 16) 16) m
+plainDone m reset = plainAccepted 0 [] m
 
 -- "a call meeting 4 to 10 does nothing and answers that number."
 unfoldable pub plain : List ℕ → Call → Plain

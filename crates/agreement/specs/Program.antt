@@ -9,10 +9,10 @@ use Rattle.access.specs.Access.{State}
 use Rattle.access.specs.Board.{boardAnswers}
 use Rattle.lines.specs.declared.scanning.Event.{Event}
 use Rattle.lines.specs.declared.scanning.Event.the-variants.{Malformed, Read, Write, External, Snoop, Flush, Control, Reset}
-use Rattle.lines.specs.Fields.{bytesOf, linesOf}
+use Rattle.lines.specs.Fields.{pairBytes, linesOf}
 use Rattle.lines.specs.Scan.{scanned}
 use Rattle.lines.specs.Row.{header, rowOf}
-use Rattle.events.specs.Perform.{blank, lineDone}
+use Rattle.events.specs.Perform.{zeroLog, lineDone}
 use Rattle.events.specs.Output.{stateAfter, start, outputOf}
 use Rattle.agreement.specs.Calls.{read, write, external, snoop, flush, control, reset}
 use Rattle.agreement.specs.Plain.{Plain, plain}
@@ -21,14 +21,15 @@ use Rattle.agreement.specs.Agreement.{setsNw}
 -- The plain memory's answer to an event: to the call that the event makes, and 11 to a malformed line, which "changes nothing".
 unfoldable pub plainEvent : List ℕ → List ℕ → Event → Plain
 plainEvent m line Malformed = record { number = 11; value = 0; shown = []; memory = m }
-plainEvent m line (Read address width pcd) = plain m (read address width pcd (boardAnswers address width) blank)
-plainEvent m line (Write address width value) = plain m (write address width value (boardAnswers address width) blank)
-plainEvent m line (External address from) = plain m (external address (bytesOf (drop from line)))
+plainEvent m line (Read address width pcd) = plain m (read address width pcd (boardAnswers address width) zeroLog)
+plainEvent m line (Write address width value) = plain m (write address width value (boardAnswers address width) zeroLog)
+plainEvent m line (External address from) = plain m (external address (pairBytes (drop from line)))
 plainEvent m line (Snoop address) = plain m (snoop address)
 plainEvent m line Flush = plain m flush
 plainEvent m line (Control cd nw) = plain m (control cd nw)
 plainEvent m line Reset = plain m reset
 
+-- The same of a line.
 abbrev pub plainLine : List ℕ → List ℕ → Plain
 plainLine m line = plainEvent m line (scanned line)
 
@@ -61,6 +62,7 @@ eventSetsNw Flush = false
 eventSetsNw (Control cd nw) = setsNw (control cd nw)
 eventSetsNw Reset = false
 
+-- No line of an input is such a one.
 abbrev pub NoLineSetsNw : List (List ℕ) → Type 0
 NoLineSetsNw [] = Unit {0}
 NoLineSetsNw (line ∷ lines) = (eventSetsNw (scanned line) ≡ false) × NoLineSetsNw lines

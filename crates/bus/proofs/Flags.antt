@@ -4,9 +4,9 @@ use mathlib.Core.Path.{_≡_, refl}
 use mathlib.Core.List.{List, [], _∷_}
 use native.Mathlib.Omega.{arith}
 use native.Mathlib.Nat.{pow-suc}
-use lib.ListN.{set}
+use lib.ListN.{length, set}
 use lib.Seq.{sets}
-use Rattle.bus.specs.Record.{lanesOf}
+use Rattle.bus.specs.Record.{Record, lanesOf, wordsOf}
 
 -- The flags of as many bytes from the next lane on.
 pub lanes-next : (lane n : ℕ) → lanesOf (suc lane) n ≡ lanesOf lane n * 2
@@ -31,3 +31,9 @@ three-words l i a b c =
     let e : i + 1 ≡ suc i = omega arith in
     let f : i + 2 ≡ suc (suc i) = omega arith in
     rw (e, f)
+
+-- Records are three words each.
+pub words-length : (rs : List Record) → length (wordsOf rs) ≡ 3 * length rs
+unfolding wordsOf
+words-length [] = refl
+words-length (r ∷ rs) = omega (arith, words-length rs)

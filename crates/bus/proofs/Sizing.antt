@@ -1,4 +1,4 @@
--- Laws of sizing and of turns: what a cycle moves, and what is wanted after it.
+-- Laws of sizing and of cursors: what a cycle moves, and what is wanted after it.
 use Prim.Native.Nat.{ℕ, zero, suc, _+_, _*_, _-_, _%_, _≤_, _<_}
 use mathlib.Core.Path.{_≡_, refl, sym, _∙_, ap}
 use mathlib.Core.Bool.{cond}
@@ -9,20 +9,20 @@ use lib.ListN.{getD}
 use borrow.Author.Tests.{eq-eqb, ne-eqb}
 use Rattle.laws.proofs.Below.{four}
 use Rattle.laws.proofs.Tests.{by-test, same-or, cond-true, cond-false}
-use Rattle.bus.specs.declared.cycle.Turn.{Turn}
-use Rattle.bus.specs.Bus.{bs8, bs16, Run, run, room, sizeOf, left, none, burst}
-use Rattle.bus.specs.Turns.{burstAt, later, wantedAt, nextTurn, Ready}
+use Rattle.bus.specs.declared.cycle.CycleCursor.{CycleCursor}
+use Rattle.bus.specs.Bus.{bs8, bs16, Run, run, sizeLimit, sizeOf, wantedAfter, none, burst}
+use Rattle.bus.specs.CycleLoop.{burstAt, later, wantedAt, cycleNext, CycleNeeds}
 
-room-some : (x from : ℕ) → 0 < room x from
-unfolding room
-room-some x from =
+limit-some : (x from : ℕ) → 0 < sizeLimit x from
+unfolding sizeLimit
+limit-some x from =
     by-test (λ b. 0 < cond b 1 (cond (bs16 x) (2 - from % 2) (4 - from % 4))) (bs8 x) (λ _. omega arith)
     (λ _. by-test (λ b. 0 < cond b (2 - from % 2) (4 - from % 4)) (bs16 x) (λ _. omega arith) (λ _. omega arith))
 
 -- a cycle moves at least one byte of those wanted, and no others
 pub size-some : (x from count : ℕ) → 0 < count → 0 < sizeOf x (run from count)
 unfolding sizeOf
-size-some x from count h = let r = room-some x from in omega arith
+size-some x from count h = let r = limit-some x from in omega arith
 
 pub size-most : (x from count : ℕ) → sizeOf x (run from count) ≤ count
 unfolding sizeOf
@@ -32,7 +32,7 @@ size-most x from count = omega arith
 abbrev Whole : ℕ → Type 0
 Whole from = (from % 4 ≡ 0) × (from < 16)
 
-pub burst-whole : (start turn : ℕ) → start < 4 → turn < 4 → Whole (burstAt start turn)
+burst-whole : (start turn : ℕ) → start < 4 → turn < 4 → Whole (burstAt start turn)
 unfolding burst
 burst-whole start turn sl tl =
     four (λ s. Whole (burstAt s turn))
@@ -60,16 +60,16 @@ pub burst-later : (start : ℕ) → start < 4 → burst start ≡ run (start * 4
 unfolding burst later
 burst-later start sl = four (λ s. burst s ≡ run (s * 4) 4 ∷ later s 0 3) refl refl refl refl start sl
 
--- the turn after a cycle, by what the cycle left
-module _ (start : ℕ) (t : Turn) (x : ℕ) where
+-- the cursor after a cycle, by what the cycle left
+module _ (start : ℕ) (t : CycleCursor) (x : ℕ) where
   abbrev size : ℕ
   size = sizeOf x (run (t .from) (t .count))
 
-  abbrev pub doneTurn : Turn
-  doneTurn = record { from = t .from; count = 0; turn = t .turn; left = 0; used = t .used + 1; answer = x }
+  abbrev pub doneNext : CycleCursor
+  doneNext = record { from = t .from; count = 0; turn = t .turn; left = 0; used = t .used + 1; answer = x }
 
-  abbrev pub wholeTurn : Turn
-  wholeTurn =
+  abbrev pub wholeNext : CycleCursor
+  wholeNext =
       record {
         from = burstAt start (t .turn + 1);
         count = 4;
@@ -79,8 +79,8 @@ module _ (start : ℕ) (t : Turn) (x : ℕ) where
         answer = x;
       }
 
-  abbrev pub partTurn : Turn
-  partTurn =
+  abbrev pub partNext : CycleCursor
+  partNext =
       record {
         from = t .from + size;
         count = t .count - size;
@@ -90,38 +90,38 @@ module _ (start : ℕ) (t : Turn) (x : ℕ) where
         answer = x;
       }
 
-  pub next-done : size ≡ t .count → t .left ≡ 0 → nextTurn start t x ≡ doneTurn
-  unfolding nextTurn
+  pub next-done : size ≡ t .count → t .left ≡ 0 → cycleNext start t x ≡ doneNext
+  unfolding cycleNext
   next-done e f = rw (eq-eqb _ _ e, eq-eqb _ _ f)
 
-  pub next-whole : size ≡ t .count → (t .left ≡ 0 → ⊥) → nextTurn start t x ≡ wholeTurn
-  unfolding nextTurn
+  pub next-whole : size ≡ t .count → (t .left ≡ 0 → ⊥) → cycleNext start t x ≡ wholeNext
+  unfolding cycleNext
   next-whole e n = rw (eq-eqb _ _ e, ne-eqb _ _ n)
 
-  pub next-part : (size ≡ t .count → ⊥) → nextTurn start t x ≡ partTurn
-  unfolding nextTurn
+  pub next-part : (size ≡ t .count → ⊥) → cycleNext start t x ≡ partNext
+  unfolding cycleNext
   next-part n = rw (ne-eqb _ _ n)
 
-  -- what holds of each of the three holds of the next turn
+  -- what holds of each of the three holds of the next cursor
   pub next-cases :
-      (P : Turn → Type 0) →
-      (size ≡ t .count → t .left ≡ 0 → P doneTurn) →
-      (size ≡ t .count → (t .left ≡ 0 → ⊥) → P wholeTurn) →
-      ((size ≡ t .count → ⊥) → P partTurn) →
-      P (nextTurn start t x)
+      (P : CycleCursor → Type 0) →
+      (size ≡ t .count → t .left ≡ 0 → P doneNext) →
+      (size ≡ t .count → (t .left ≡ 0 → ⊥) → P wholeNext) →
+      ((size ≡ t .count → ⊥) → P partNext) →
+      P (cycleNext start t x)
   next-cases P f g h =
       same-or _ size (t .count)
       (λ e. same-or _ (t .left) 0 (λ k. rw (next-done e k) (f e k)) (λ n. rw (next-whole e n) (g e n)))
       (λ n. rw (next-part n) (h n))
 
-  pub next-used : (nextTurn start t x .used ≡ t .used + 1) × (nextTurn start t x .answer ≡ x)
+  pub next-used : (cycleNext start t x .used ≡ t .used + 1) × (cycleNext start t x .answer ≡ x)
   next-used = next-cases (λ r. (r .used ≡ t .used + 1) × (r .answer ≡ x)) (λ _ _. (refl, refl)) (λ _ _. (refl, refl)) (λ _. (refl, refl))
 
-  pub next-ready : (n : ℕ) → start < 4 → 0 < t .count → Ready t n → Ready (nextTurn start t x) n
+  pub next-ready : (n : ℕ) → start < 4 → 0 < t .count → CycleNeeds t n → CycleNeeds (cycleNext start t x) n
   next-ready n sl some r =
       let k = size-some x (t .from) (t .count) some in
       let m = size-most x (t .from) (t .count) in
-      next-cases (λ u. Ready u n)
+      next-cases (λ u. CycleNeeds u n)
       (λ e z. record { lanes = omega (arith, r .lanes); line = r .line; turns = omega (arith, r .turns); enough = omega (arith, r .enough) })
       (λ e z.
       let b = burst-whole start (t .turn + 1) sl (omega (arith, r .turns)) in
@@ -129,15 +129,15 @@ module _ (start : ℕ) (t : Turn) (x : ℕ) where
       (λ z. record { lanes = omega (arith, r .lanes); line = omega (arith, r .lanes, r .line); turns = r .turns; enough = omega (arith, r .enough) })
 
 -- what is wanted at a turn: nothing exactly where the count is 0
-pub wanted-some : (start : ℕ) (t : Turn) → 0 < t .count → wantedAt start t ≡ run (t .from) (t .count) ∷ later start (t .turn) (t .left)
+pub wanted-some : (start : ℕ) (t : CycleCursor) → 0 < t .count → wantedAt start t ≡ run (t .from) (t .count) ∷ later start (t .turn) (t .left)
 unfolding wantedAt
 wanted-some start t h = rw (ne-eqb (t .count) 0 (λ e. omega arith))
 
-pub wanted-none : (start : ℕ) (t : Turn) → t .count ≡ 0 → wantedAt start t ≡ []
+pub wanted-none : (start : ℕ) (t : CycleCursor) → t .count ≡ 0 → wantedAt start t ≡ []
 unfolding wantedAt
 wanted-none start t e = rw (eq-eqb (t .count) 0 e)
 
-none-count : (start : ℕ) (t : Turn) → none (wantedAt start t) ≡ eqb (t .count) 0
+none-count : (start : ℕ) (t : CycleCursor) → none (wantedAt start t) ≡ eqb (t .count) 0
 unfolding wantedAt
 none-count start t =
     by-test (λ b. none (cond b [] (run (t .from) (t .count) ∷ later start (t .turn) (t .left))) ≡ b) (eqb (t .count) 0) (λ _. refl) (λ _. refl)
@@ -146,29 +146,29 @@ later-none : (start turn n : ℕ) → n ≡ 0 → later start turn n ≡ []
 unfolding later
 later-none start turn n e = rw e
 
--- the doublewords after a turn are the next one and those after it
+-- the doublewords of the burst order after a turn are the next one and those after it
 later-next : (start turn n : ℕ) → (n ≡ 0 → ⊥) → later start turn n ≡ run (burstAt start (turn + 1)) 4 ∷ later start (turn + 1) (n - 1)
 unfolding later
 later-next start turn zero z = absurd (z refl)
 later-next start turn (suc n) z = let e : suc n - 1 ≡ n = omega arith in rw e
 
--- the next turn wants what a cycle left
-module _ (start : ℕ) (t : Turn) (x : ℕ) (some : 0 < t .count) where
+-- the next cursor wants what a cycle left
+module _ (start : ℕ) (t : CycleCursor) (x : ℕ) (some : 0 < t .count) where
   abbrev after : List Run
   after = later start (t .turn) (t .left)
 
-  pub wanted-next : wantedAt start (nextTurn start t x) ≡ left x (run (t .from) (t .count)) after
-  unfolding left
+  pub wanted-next : wantedAt start (cycleNext start t x) ≡ wantedAfter x (run (t .from) (t .count)) after
+  unfolding wantedAfter
   wanted-next =
       let m = size-most x (t .from) (t .count) in
-      next-cases start t x (λ u. wantedAt start u ≡ left x (run (t .from) (t .count)) after)
-      (λ e z. wanted-none start (doneTurn start t x) refl ∙ sym (later-none start (t .turn) (t .left) z) ∙ sym (cond-true _ _ _ (eq-eqb _ _ e)))
-      (λ e z. wanted-some start (wholeTurn start t x) (omega arith) ∙ sym (later-next start (t .turn) (t .left) z) ∙ sym (cond-true _ _ _ (eq-eqb _ _ e)))
-      (λ z. wanted-some start (partTurn start t x) (omega arith) ∙ sym (cond-false _ _ _ (ne-eqb _ _ z)))
+      next-cases start t x (λ u. wantedAt start u ≡ wantedAfter x (run (t .from) (t .count)) after)
+      (λ e z. wanted-none start (doneNext start t x) refl ∙ sym (later-none start (t .turn) (t .left) z) ∙ sym (cond-true _ _ _ (eq-eqb _ _ e)))
+      (λ e z. wanted-some start (wholeNext start t x) (omega arith) ∙ sym (later-next start (t .turn) (t .left) z) ∙ sym (cond-true _ _ _ (eq-eqb _ _ e)))
+      (λ z. wanted-some start (partNext start t x) (omega arith) ∙ sym (cond-false _ _ _ (ne-eqb _ _ z)))
 
   -- a cycle is the last exactly where the next turn wants nothing
-  pub last-next : eqb (nextTurn start t x .count) 0 ≡ none (left x (run (t .from) (t .count)) after)
-  last-next = sym (none-count start (nextTurn start t x)) ∙ ap none wanted-next
+  pub last-next : eqb (cycleNext start t x .count) 0 ≡ none (wantedAfter x (run (t .from) (t .count)) after)
+  last-next = sym (none-count start (cycleNext start t x)) ∙ ap none wanted-next
 
 -- the burst order picked by turn, then by start
 pub burst-picked : (start turn a b c d : ℕ) → start < 4 → turn < 4 →

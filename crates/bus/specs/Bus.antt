@@ -26,16 +26,16 @@ abbrev pub run : ℕ → ℕ → Run
 run from count = record { from = from; count = count }
 
 -- "with BS8# that byte alone; with BS16# all wanted bytes in its half of the doubleword; otherwise all. With both, BS8# rules." (001, 002)
-unfoldable pub room : ℕ → ℕ → ℕ
-room x from = cond (bs8 x) 1 (cond (bs16 x) (2 - from % 2) (4 - from % 4))
+unfoldable pub sizeLimit : ℕ → ℕ → ℕ
+sizeLimit x from = cond (bs8 x) 1 (cond (bs16 x) (2 - from % 2) (4 - from % 4))
 
 -- "A cycle moves part of the bytes still wanted, starting with the lowest": so many of them.
 unfoldable pub sizeOf : ℕ → Run → ℕ
-sizeOf x w = min (w .count) (room x (w .from))
+sizeOf x w = min (w .count) (sizeLimit x (w .from))
 
 -- What is wanted after a cycle with this answer.
-unfoldable pub left : ℕ → Run → List Run → List Run
-left x w ws =
+unfoldable pub wantedAfter : ℕ → Run → List Run → List Run
+wantedAfter x w ws =
     cond (eqb (sizeOf x w) (w .count)) ws
     (run (w .from + sizeOf x w) (w .count - sizeOf x w) ∷ ws)
 
@@ -45,6 +45,7 @@ pub record Cycle : Type 0 where
   pub answer : ℕ
   pub last : Bool
 
+-- Nothing is wanted.
 abbrev pub none : List Run → Bool
 none [] = true
 none (w ∷ ws) = false
@@ -54,7 +55,7 @@ unfoldable pub cyclesOf : List ℕ → List Run → List Cycle
 cyclesOf [] ws = []
 cyclesOf (x ∷ xs) [] = []
 cyclesOf (x ∷ xs) (w ∷ ws) =
-    record { moved = run (w .from) (sizeOf x w); answer = x; last = none (left x w ws) } ∷ cyclesOf xs (left x w ws)
+    record { moved = run (w .from) (sizeOf x w); answer = x; last = none (wantedAfter x w ws) } ∷ cyclesOf xs (wantedAfter x w ws)
 
 -- "Starting at byte 0, 4, 8 or 12, the order is 0-4-8-12, 4-0-12-8, 8-12-0-4 or 12-8-4-0." (002) By the doubleword that it starts with.
 unfoldable pub burst : ℕ → List Run
@@ -74,8 +75,8 @@ through f [] s = s
 through f (c ∷ cs) s = through f cs (f (c .moved) s)
 
 -- "Bytes keep their own lanes": a read cycle brings bytes of RAM's line into the same places of a line buffer, a write cycle sends them from there.
-abbrev pub brought : List ℕ → ℕ → Run → List ℕ → List ℕ
-brought ram line r buffer = sets buffer (r .from) (bytesAt ram (line + r .from) (r .count))
+abbrev pub bufferAfter : List ℕ → ℕ → Run → List ℕ → List ℕ
+bufferAfter ram line r buffer = sets buffer (r .from) (bytesAt ram (line + r .from) (r .count))
 
-abbrev pub sent : List ℕ → ℕ → Run → Memory → Memory
-sent buffer line r m = stored m (line + r .from) (bytesAt buffer (r .from) (r .count))
+abbrev pub memoryAfter : List ℕ → ℕ → Run → Memory → Memory
+memoryAfter buffer line r m = stored m (line + r .from) (bytesAt buffer (r .from) (r .count))

@@ -7,7 +7,7 @@ use Rattle.memory.specs.Bytes.{bytesAt, wordIn}
 use Rattle.memory.specs.Parity.{Memory, wrongIn}
 use Rattle.bus.specs.Bus.{Cycle}
 
--- "doubleword address; flags; data, unmoved lanes 0".
+-- "doubleword address; flags; data, unmoved lanes 0": `word` is the third, data.
 pub record Record : Type 0 where
   pub address : ℕ
   pub flags : ℕ
@@ -32,7 +32,7 @@ filling = 32
 unfoldable pub flagsOf : ℕ → ℕ → ℕ → Bool → Bool → ℕ
 flagsOf lane count kind last wrong = lanesOf lane count + kind + cond last 64 0 + cond wrong 128 0
 
--- A read cycle's record, and a write cycle's, of a line that starts at an address.
+-- A read cycle's record, of a line that starts at an address.
 unfoldable pub readRecord : ℕ → Memory → ℕ → Cycle → Record
 readRecord kind m line c =
     record {
@@ -43,7 +43,7 @@ readRecord kind m line c =
       word = wordIn (c .moved .from % 4) (bytesAt (m .ram) (line + c .moved .from) (c .moved .count));
     }
 
--- A write cycle moves bytes of the line buffer and checks no parity.
+-- A write cycle's record: it moves bytes of the line buffer and checks no parity.
 unfoldable pub writeRecord : List ℕ → ℕ → Cycle → Record
 writeRecord buffer line c =
     record {

@@ -1,12 +1,11 @@
 // The cycles of a doubleword: sizing, burst order, and the loops that make them.
 ghost use mathlib.Core.Path.{_≡_};
-ghost use mathlib.Core.List.{[], _∷_, map};
+ghost use mathlib.Core.List.{[], _∷_};
 ghost use Prim.Native.Nat.{_+_, _≤_, _<_};
 ghost use lib.ListN.{length, getD};
 ghost use Rattle.memory.specs.Parity.{memory};
-ghost use Rattle.bus.specs.Bus.{room, run, sizeOf};
-ghost use Rattle.bus.specs.Record.{logged, readRecord, writeRecord};
-ghost use Rattle.bus.specs.Turns.{beginTurn, burstAt, cycleAt, nextTurn, Ready, Room, ReadCycle, ReadCycles, WriteCycle, WriteCycles};
+ghost use Rattle.bus.specs.Bus.{sizeLimit, run, sizeOf};
+ghost use Rattle.bus.specs.CycleLoop.{BufferNeeds, burstAt, cycleBegin, CycleNeeds, cycleNext, ReadCycle, ReadCycles, WriteCycle, WriteCycles};
 use crate::record::flags_of;
 use crate::record::put_record;
 use memory::any_wrong;
@@ -16,7 +15,7 @@ use memory::store_bytes;
 
 // What is left between two cycles: the wanted bytes of the doubleword now on the bus, its turn in the burst order, the
 // doublewords after it, the answers used and the last of them. Nothing is wanted where count is 0.
-pub struct Turn {
+pub struct CycleCursor {
     pub from: usize,
     pub count: usize,
     pub turn: usize,
@@ -26,8 +25,8 @@ pub struct Turn {
 }
 
 // The bytes that an answer lets a cycle move from an offset on.
-fn room_of(answer: u8, from: usize) -> usize
-    ensures { λ r. ⌜ r ≡ room answer from ⌝ }
+fn size_limit(answer: u8, from: usize) -> usize
+    ensures { λ r. ⌜ r ≡ sizeLimit answer from ⌝ }
 {
     if answer / 2 % 2 == 1 {
         return 1;
@@ -42,8 +41,8 @@ fn room_of(answer: u8, from: usize) -> usize
 fn size_of(answer: u8, from: usize, count: usize) -> usize
     ensures { λ r. ⌜ r ≡ sizeOf answer (run from count) ⌝ }
 {
-    let room = room_of(answer, from);
-    if count <= room { count } else { room }
+    let limit = size_limit(answer, from);
+    if count <= limit { count } else { limit }
 }
 
 fn pick(n: usize, first: usize, second: usize, third: usize, fourth: usize) -> usize
@@ -72,12 +71,12 @@ fn burst_offset(start: usize, turn: usize) -> usize
     )
 }
 
-impl Turn {
+impl CycleCursor {
     // Before the first cycle: so many bytes from an offset on, and so many doublewords after them.
-    pub fn begin(from: usize, count: usize, left: usize) -> Turn
-        ensures { λ r. ⌜ r ≡ beginTurn from count left ⌝ }
+    pub fn begin(from: usize, count: usize, left: usize) -> CycleCursor
+        ensures { λ r. ⌜ r ≡ cycleBegin from count left ⌝ }
     {
-        Turn {
+        CycleCursor {
             from,
             count,
             turn: 0,
@@ -88,13 +87,13 @@ impl Turn {
     }
 
     // What is left after a cycle with this answer.
-    fn next(self, start: usize, answer: u8) -> Turn
+    fn next(self, start: usize, answer: u8) -> CycleCursor
         requires { ⌜ (start < 4) × (self .turn + self .left ≤ 3) × (self .from < 16) × (self .count ≤ 4) × (self .used < 64) ⌝ }
-        ensures { λ r. ⌜ r ≡ nextTurn start self answer ⌝ }
+        ensures { λ r. ⌜ r ≡ cycleNext start self answer ⌝ }
     {
         let size = size_of(answer, self.from, self.count);
         if size != self.count {
-            return Turn {
+            return CycleCursor {
                 from: self.from + size,
                 count: self.count - size,
                 turn: self.turn,
@@ -104,7 +103,7 @@ impl Turn {
             };
         }
         if self.left == 0 {
-            return Turn {
+            return CycleCursor {
                 from: self.from,
                 count: 0,
                 turn: self.turn,
@@ -113,7 +112,7 @@ impl Turn {
                 answer,
             };
         }
-        Turn {
+        CycleCursor {
             from: burst_offset(start, self.turn + 1),
             count: 4,
             turn: self.turn + 1,
@@ -131,13 +130,13 @@ fn read_cycle(
     answers: &[u8],
     log: &mut [u32],
     buffer: &mut [u8],
-    t: Turn,
+    t: CycleCursor,
     start: usize,
     line: usize,
     first: usize,
     kind: u32,
-) -> Turn
-    requires { ⌜ (0 < t .count) × (start < 4) × (kind ≤ 32) × Ready t (length (now answers)) × Room line first (length (now ram)) (length (now parity)) (length (now answers)) (length (now log)) (length (now buffer)) ⌝ }
+) -> CycleCursor
+    requires { ⌜ (0 < t .count) × (start < 4) × (kind ≤ 32) × CycleNeeds t (length (now answers)) × BufferNeeds line first (length (now ram)) (length (now parity)) (length (now answers)) (length (now log)) (length (now buffer)) ⌝ }
     ensures { λ r. ⌜ ReadCycle kind (memory (now (ram .entry)) (now (parity .entry))) start line first t (getD (now (answers .entry)) (t .used) 0) (now (log .entry)) (now (buffer .entry)) r (now (log .exit)) (now (buffer .exit)) ⌝ }
 {
     let used = t.used;
@@ -155,20 +154,20 @@ fn read_cycle(
     next
 }
 
-// The read cycles from a turn on, all of them.
+// The read cycles from a cursor on, all of them.
 pub fn read_cycles(
     ram: &[u8],
     parity: &[u8],
     answers: &[u8],
     log: &mut [u32],
     buffer: &mut [u8],
-    begin: Turn,
+    begin: CycleCursor,
     start: usize,
     line: usize,
     first: usize,
     kind: u32,
-) -> Turn
-    requires { ⌜ (begin .used ≡ 0) × (begin .answer ≡ 0) × (start < 4) × (kind ≤ 32) × Ready begin (length (now answers)) × Room line first (length (now ram)) (length (now parity)) (length (now answers)) (length (now log)) (length (now buffer)) ⌝ }
+) -> CycleCursor
+    requires { ⌜ (begin .used ≡ 0) × (begin .answer ≡ 0) × (start < 4) × (kind ≤ 32) × CycleNeeds begin (length (now answers)) × BufferNeeds line first (length (now ram)) (length (now parity)) (length (now answers)) (length (now log)) (length (now buffer)) ⌝ }
     ensures { λ r. ⌜ ReadCycles kind (memory (now (ram .entry)) (now (parity .entry))) (now (answers .entry)) start line first begin (now (log .entry)) (now (buffer .entry)) r (now (log .exit)) (now (buffer .exit)) ⌝ }
 {
     let mut t = begin;
@@ -197,11 +196,11 @@ fn write_cycle(
     answers: &[u8],
     log: &mut [u32],
     buffer: &[u8],
-    t: Turn,
+    t: CycleCursor,
     line: usize,
     first: usize,
-) -> Turn
-    requires { ⌜ (0 < t .count) × Ready t (length (now answers)) × Room line first (length (now ram)) (length (now parity)) (length (now answers)) (length (now log)) (length (now buffer)) ⌝ }
+) -> CycleCursor
+    requires { ⌜ (0 < t .count) × CycleNeeds t (length (now answers)) × BufferNeeds line first (length (now ram)) (length (now parity)) (length (now answers)) (length (now log)) (length (now buffer)) ⌝ }
     ensures { λ r. ⌜ WriteCycle (now (buffer .entry)) line first t (getD (now (answers .entry)) (t .used) 0) (memory (now (ram .entry)) (now (parity .entry))) (now (log .entry)) r (memory (now (ram .exit)) (now (parity .exit))) (now (log .exit)) ⌝ }
 {
     let used = t.used;
@@ -217,18 +216,18 @@ fn write_cycle(
     next
 }
 
-// The write cycles from a turn on, all of them.
+// The write cycles from a cursor on, all of them.
 pub fn write_cycles(
     ram: &mut [u8],
     parity: &mut [u8],
     answers: &[u8],
     log: &mut [u32],
     buffer: &[u8],
-    begin: Turn,
+    begin: CycleCursor,
     line: usize,
     first: usize,
-) -> Turn
-    requires { ⌜ (begin .used ≡ 0) × (begin .answer ≡ 0) × Ready begin (length (now answers)) × Room line first (length (now ram)) (length (now parity)) (length (now answers)) (length (now log)) (length (now buffer)) ⌝ }
+) -> CycleCursor
+    requires { ⌜ (begin .used ≡ 0) × (begin .answer ≡ 0) × CycleNeeds begin (length (now answers)) × BufferNeeds line first (length (now ram)) (length (now parity)) (length (now answers)) (length (now log)) (length (now buffer)) ⌝ }
     ensures { λ r. ⌜ WriteCycles (now (buffer .entry)) (now (answers .entry)) line first begin (memory (now (ram .entry)) (now (parity .entry))) (now (log .entry)) r (memory (now (ram .exit)) (now (parity .exit))) (now (log .exit)) ⌝ }
 {
     let mut t = begin;

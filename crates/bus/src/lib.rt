@@ -3,6 +3,6 @@
 mod cycle;
 mod record;
 
-pub use cycle::Turn;
+pub use cycle::CycleCursor;
 pub use cycle::read_cycles;
 pub use cycle::write_cycles;

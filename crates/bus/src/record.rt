@@ -2,9 +2,9 @@
 ghost use mathlib.Core.Path.{_≡_};
 ghost use mathlib.Core.Bool.{cond};
 ghost use mathlib.Core.List.{[], _∷_};
-ghost use Prim.Native.Nat.{_+_, _*_, _≤_, _<_};
+ghost use Prim.Native.Nat.{_+_, _*_, _≤_};
 ghost use lib.ListN.{length};
-ghost use Rattle.bus.specs.Record.{Record, flagsOf, lanesOf, logged};
+ghost use Rattle.bus.specs.Record.{flagsOf, lanesOf, logged};
 
 // The flags of lane 0 on.
 fn low_lanes(count: usize) -> u32
@@ -40,6 +40,7 @@ fn flag_if(on: bool, flag: u32) -> u32
     if on { flag } else { 0 }
 }
 
+// The flags of a cycle. kind: 0 for a plain read, 16 for a write, 32 for a fill.
 pub fn flags_of(lane: usize, count: usize, kind: u32, last: bool, wrong: bool) -> u32
     requires { ⌜ (lane + count ≤ 4) × (kind ≤ 32) ⌝ }
     ensures { λ r. ⌜ r ≡ flagsOf lane count kind last wrong ⌝ }

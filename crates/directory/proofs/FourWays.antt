@@ -10,7 +10,7 @@ use Rattle.directory.specs.declared.ways.Found.{Found}
 use Rattle.directory.specs.declared.ways.Found.the-variants.{At, Nothing}
 use Rattle.directory.specs.Address.{setOf, tagOf}
 use Rattle.directory.specs.Lru.{lruAfter, lruWay}
-use Rattle.directory.specs.Ways.{markAt, holds, lowest, wayOr, lookupIn, victimIn}
+use Rattle.directory.specs.Ways.{validIn, holds, lowest, wayOr, lookupIn, victimIn}
 use Rattle.laws.proofs.Tests.{differ}
 use Rattle.laws.proofs.Below.{four}
 
@@ -92,7 +92,7 @@ lru-after-below n w l = four (λ w. lruAfter n w < 8) (omega arith) (omega arith
 pub victim-below : (valid : List Bool) (lru : List ℕ) (s : ℕ) → victimIn valid lru s < 4
 unfolding victimIn
 victim-below valid lru s =
-    way-or-below (λ w. not (markAt valid s w)) (lruWay (getD lru s 0)) (lru-way-below _)
+    way-or-below (λ w. not (validIn valid s w)) (lruWay (getD lru s 0)) (lru-way-below _)
 
 pub lookup-below : (tags : List ℕ) (valid : List Bool) (a w : ℕ) → lookupIn tags valid a ≡ At w → w < 4
 unfolding lookupIn

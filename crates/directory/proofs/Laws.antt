@@ -10,7 +10,7 @@ use borrow.Author.Tests.{eqb-true, eq-eqb, ne-eqb}
 use Rattle.directory.specs.declared.steps.Directory.{Directory}
 use Rattle.directory.specs.declared.ways.Found.{Found}
 use Rattle.directory.specs.declared.ways.Found.the-variants.{At, Nothing}
-use Rattle.directory.specs.Address.{setOf, tagOf, lineOf}
+use Rattle.directory.specs.Address.{setOf, tagOf, lineIndex}
 use Rattle.directory.specs.Lru.{lruAfter}
 use Rattle.directory.specs.Ways.{holds, lookupIn}
 use Rattle.directory.specs.Steps.{validAt, tagAt, lruAt, lookupOf, stateOf, afterUse, afterFill, afterReset, afterControl, controlRefused, controlCall, afterFlush, invalidated, afterSnoop, snoopCall}
@@ -59,7 +59,7 @@ module _ (d : Directory) (a : ℕ) where
 
 pub reset-none : (s w tag : ℕ) → s < 128 → w < 4 → Held afterReset s w tag → ⊥
 unfolding afterReset
-reset-none s w tag sl wl h = differ (h .0) (getD-replicate 512 (lineOf s w) false false (omega arith))
+reset-none s w tag sl wl h = differ (h .0) (getD-replicate 512 (lineIndex s w) false false (omega arith))
 
 pub reset-lookup : (a : ℕ) → lookupOf afterReset a ≡ Nothing
 reset-lookup a = none-lookup afterReset a λ w l. reset-none (setOf a) w (tagOf a) (omega arith) l
@@ -227,7 +227,7 @@ module _ (d : Directory) (cd nw : Bool) where
 module _ (d : Directory) where
   pub flush-none : (s w tag : ℕ) → s < 128 → w < 4 → Held (afterFlush d) s w tag → ⊥
   unfolding afterFlush
-  flush-none s w tag sl wl h = differ (h .0) (getD-replicate 512 (lineOf s w) false false (omega arith))
+  flush-none s w tag sl wl h = differ (h .0) (getD-replicate 512 (lineIndex s w) false false (omega arith))
 
   pub flush-lookup : (a : ℕ) → lookupOf (afterFlush d) a ≡ Nothing
   flush-lookup a = none-lookup (afterFlush d) a λ w l. flush-none (setOf a) w (tagOf a) (omega arith) l

@@ -6,9 +6,9 @@ use mathlib.Core.List.{List}
 use lib.ListN.{set}
 use Rattle.directory.specs.declared.steps.Directory.{Directory}
 use Rattle.directory.specs.declared.ways.Found.the-variants.{At, Nothing}
-use Rattle.directory.specs.Address.{setOf, lineOf}
+use Rattle.directory.specs.Address.{setOf, lineIndex}
 use Rattle.directory.specs.State.{stateIn}
-use Rattle.directory.specs.Steps.{directoryOf, answer, afterSnoop, invalidated, snoopCall}
+use Rattle.directory.specs.Steps.{directoryOf, directoryResult, afterSnoop, invalidated, snoopCall}
 use Rattle.directory.specs.Ways.{lookupIn}
 use Rattle.directory.proofs.Laws.{snoop-off, snoop-on, snoop-accepted, snoop-refused}
 
@@ -16,25 +16,25 @@ module _ (tags : List ℕ) (valid : List Bool) (lru : List ℕ) (cd nw : Bool) (
   abbrev d : Directory
   d = directoryOf tags valid lru cd nw
 
-  pub drop-off : nw ≡ true → d ≡ afterSnoop d a
-  drop-off e = sym (snoop-off d a e)
+  pub invalidate-off : nw ≡ true → d ≡ afterSnoop d a
+  invalidate-off e = sym (snoop-off d a e)
 
   module _ (on : nw ≡ false) where
-    pub drop-nothing : lookupIn tags valid a ≡ Nothing → d ≡ afterSnoop d a
+    pub invalidate-nothing : lookupIn tags valid a ≡ Nothing → d ≡ afterSnoop d a
     unfolding invalidated
-    drop-nothing e = sym (snoop-on d a on ∙ rw e)
+    invalidate-nothing e = sym (snoop-on d a on ∙ rw e)
 
-    pub drop-at : (s w : ℕ) → s ≡ setOf a → lookupIn tags valid a ≡ At w → directoryOf tags (set valid (lineOf s w) false) lru cd nw ≡ afterSnoop d a
+    pub invalidate-at : (s w : ℕ) → s ≡ setOf a → lookupIn tags valid a ≡ At w → directoryOf tags (set valid (lineIndex s w) false) lru cd nw ≡ afterSnoop d a
     unfolding invalidated
-    drop-at s w es e = sym (snoop-on d a on ∙ rw (e, es))
+    invalidate-at s w es e = sym (snoop-on d a on ∙ rw (e, es))
 
   -- the snoop call by the number of the set's state
   module _ (n s : ℕ) (es : s ≡ setOf a) (en : n ≡ stateIn tags valid lru s) where
     number-is : n ≡ stateIn tags valid lru (setOf a)
     number-is = en ∙ ap (stateIn tags valid lru) es
 
-    pub snoop-turned-away : (n ≡ 0 → ⊥) → answer d n ≡ snoopCall d a
-    snoop-turned-away h = ap (answer d) number-is ∙ sym (snoop-refused d a (λ z. h (number-is ∙ z)))
+    pub snoop-refused-in-place : (n ≡ 0 → ⊥) → directoryResult d n ≡ snoopCall d a
+    snoop-refused-in-place h = ap (directoryResult d) number-is ∙ sym (snoop-refused d a (λ z. h (number-is ∙ z)))
 
-    pub snoop-made : n ≡ 0 → (valid′ : List Bool) → directoryOf tags valid′ lru cd nw ≡ afterSnoop d a → answer (directoryOf tags valid′ lru cd nw) 0 ≡ snoopCall d a
-    snoop-made z valid′ e = ap (λ (x : Directory). answer x 0) e ∙ sym (snoop-accepted d a (sym number-is ∙ z))
+    pub snoop-accepted-in-place : n ≡ 0 → (valid′ : List Bool) → directoryOf tags valid′ lru cd nw ≡ afterSnoop d a → directoryResult (directoryOf tags valid′ lru cd nw) 0 ≡ snoopCall d a
+    snoop-accepted-in-place z valid′ e = ap (λ (x : Directory). directoryResult x 0) e ∙ sym (snoop-accepted d a (sym number-is ∙ z))

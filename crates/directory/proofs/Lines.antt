@@ -6,7 +6,7 @@ use native.Mathlib.Omega.{arith}
 use lib.ListN.{length, getD, set}
 use lib.Seq.{getD-set-same, getD-set-other}
 use Rattle.directory.specs.declared.steps.Directory.{Directory}
-use Rattle.directory.specs.Address.{lineOf}
+use Rattle.directory.specs.Address.{lineIndex}
 use Rattle.directory.specs.Lru.{lruAfter}
 use Rattle.directory.specs.Steps.{lruAt, afterUse}
 use Rattle.directory.specs.WellFormed.{Held, Same, Sized, WellFormed}
@@ -15,7 +15,7 @@ use Rattle.directory.proofs.FourWays.{lru-after-below}
 
 -- a line is named by one set and one way
 module _ (s w r v : ℕ) (wl : w < 4) (vl : v < 4) where
-  line-other : (Same r v s w → ⊥) → lineOf r v ≡ lineOf s w → ⊥
+  line-other : (Same r v s w → ⊥) → lineIndex r v ≡ lineIndex s w → ⊥
   line-other n e =
       let i : r ≡ s = omega arith in
       let j : v ≡ w = omega arith in
@@ -23,7 +23,7 @@ module _ (s w r v : ℕ) (wl : w < 4) (vl : v < 4) where
 
   pub same-line : (P : Type 0) → (Same r v s w → P) → ((Same r v s w → ⊥) → P) → P
   same-line P f g =
-      same-or P (lineOf r v) (lineOf s w)
+      same-or P (lineIndex r v) (lineIndex s w)
       (λ e.
       let i : r ≡ s = omega arith in
       let j : v ≡ w = omega arith in
@@ -32,13 +32,13 @@ module _ (s w r v : ℕ) (wl : w < 4) (vl : v < 4) where
 
   -- an array of lines after a store: every other line has its own element
   module _ {A : Type 0} (l : List A) (x z : A) where
-    pub stored-other : (Same r v s w → ⊥) → getD (set l (lineOf s w) x) (lineOf r v) z ≡ getD l (lineOf r v) z
+    pub stored-other : (Same r v s w → ⊥) → getD (set l (lineIndex s w) x) (lineIndex r v) z ≡ getD l (lineIndex r v) z
     stored-other n = let o = line-other n in rw getD-set-other
 
 -- and the stored line the new one
 pub stored-line : {A : Type 0} (l : List A) (x z : A) (s w : ℕ) → length l ≡ 512 → s < 128 → w < 4 →
-    getD (set l (lineOf s w) x) (lineOf s w) z ≡ x
-stored-line l x z s w e sl wl = let i : lineOf s w < length l = rw e (omega arith) in rw getD-set-same
+    getD (set l (lineIndex s w) x) (lineIndex s w) z ≡ x
+stored-line l x z s w e sl wl = let i : lineIndex s w < length l = rw e (omega arith) in rw getD-set-same
 
 -- a set's LRU number after a use of one of its ways, or of another set's
 pub use-lru-here : (d : Directory) → Sized d → (s w : ℕ) → s < 128 → lruAt (afterUse d s w) s ≡ lruAfter (lruAt d s) w

@@ -12,5 +12,5 @@ abbrev pub byteOf : ℕ → ℕ
 byteOf address = address % 16
 
 -- "A line is named by set and way 0 to 3": its place among the 512 tags and valid marks.
-abbrev pub lineOf : ℕ → ℕ → ℕ
-lineOf set way = set * 4 + way
+abbrev pub lineIndex : ℕ → ℕ → ℕ
+lineIndex set way = set * 4 + way

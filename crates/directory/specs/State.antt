@@ -4,14 +4,14 @@ use mathlib.Core.Bool.{Bool, cond, _&&_, _||_}
 use mathlib.Core.List.{List}
 use lib.Dec.{eqb, ltb}
 use lib.ListN.{getD}
-use Rattle.directory.specs.Ways.{markAt, tagIn}
+use Rattle.directory.specs.Ways.{validIn, tagIn}
 
--- "21. Two valid lines with one tag.": in any pair of ways.
+-- Two ways of a set are valid and have one tag.
 abbrev pub samePair : List ℕ → List Bool → ℕ → ℕ → ℕ → Bool
 samePair tags valid set way other =
-    markAt valid set way && markAt valid set other && eqb (tagIn tags set way) (tagIn tags set other)
+    validIn valid set way && validIn valid set other && eqb (tagIn tags set way) (tagIn tags set other)
 
--- Of the six pairs, any.
+-- "21. Two valid lines with one tag.": any of the six pairs.
 unfoldable pub sameTags : List ℕ → List Bool → ℕ → Bool
 sameTags tags valid set =
     samePair tags valid set 0 1
@@ -21,11 +21,11 @@ sameTags tags valid set =
     || samePair tags valid set 1 3
     || samePair tags valid set 2 3
 
--- "22. A valid tag above 2,097,151.": in any way.
+-- A way of a set is valid and its tag is above the limit.
 abbrev pub tagAbove : List ℕ → List Bool → ℕ → ℕ → Bool
-tagAbove tags valid set way = markAt valid set way && ltb 2097151 (tagIn tags set way)
+tagAbove tags valid set way = validIn valid set way && ltb 2097151 (tagIn tags set way)
 
--- Of the four ways, any.
+-- "22. A valid tag above 2,097,151.": any of the four ways.
 unfoldable pub tagsAbove : List ℕ → List Bool → ℕ → Bool
 tagsAbove tags valid set =
     tagAbove tags valid set 0

@@ -5,24 +5,25 @@ use mathlib.Core.List.{List}
 use lib.Dec.{eqb}
 use lib.ListN.{getD, set, replicate}
 use Rattle.directory.specs.declared.steps.Directory.{Directory}
-use Rattle.directory.specs.declared.steps.Answer.{Answer}
+use Rattle.directory.specs.declared.steps.DirectoryResult.{DirectoryResult}
 use Rattle.directory.specs.declared.ways.Found.{Found}
 use Rattle.directory.specs.declared.ways.Found.the-variants.{At, Nothing}
-use Rattle.directory.specs.Address.{setOf, lineOf}
+use Rattle.directory.specs.Address.{setOf, lineIndex}
 use Rattle.directory.specs.Lru.{lruAfter}
-use Rattle.directory.specs.Ways.{markAt, tagIn, lookupIn, victimIn}
+use Rattle.directory.specs.Ways.{validIn, tagIn, lookupIn, victimIn}
 use Rattle.directory.specs.State.{stateIn}
 
--- "The directory holds 512 tags, 512 valid marks and 128 LRU numbers, with CD and NW.": a directory of these, and what a call answers.
+-- "The directory holds 512 tags, 512 valid marks and 128 LRU numbers, with CD and NW.": a directory of these.
 abbrev pub directoryOf : List ℕ → List Bool → List ℕ → Bool → Bool → Directory
 directoryOf tags valid lru cd nw = record { tags = tags; valid = valid; lru = lru; cd = cd; nw = nw }
 
-abbrev pub answer : Directory → ℕ → Answer
-answer d number = record { directory = d; number = number }
+-- What a call on the directory alone answers: the directory, and 0 or the number that turns it away.
+abbrev pub directoryResult : Directory → ℕ → DirectoryResult
+directoryResult d number = record { directory = d; number = number }
 
 -- What a directory has of a line and of a set, and the questions asked of it.
 abbrev pub validAt : Directory → ℕ → ℕ → Bool
-validAt d s w = markAt (d .valid) s w
+validAt d s w = validIn (d .valid) s w
 
 abbrev pub tagAt : Directory → ℕ → ℕ → ℕ
 tagAt d s w = tagIn (d .tags) s w
@@ -54,8 +55,8 @@ afterUse d s w =
 unfoldable pub afterFill : Directory → ℕ → ℕ → ℕ → Directory
 afterFill d s w tag =
     record {
-      tags = set (d .tags) (lineOf s w) tag;
-      valid = set (d .valid) (lineOf s w) true;
+      tags = set (d .tags) (lineIndex s w) tag;
+      valid = set (d .valid) (lineIndex s w) true;
       lru = set (d .lru) s (lruAfter (lruAt d s) w);
       cd = d .cd;
       nw = d .nw;
@@ -82,7 +83,7 @@ abbrev pub controlRefused : Bool → Bool → Bool
 controlRefused cd nw = not cd && nw
 
 -- The control call, refused or not.
-unfoldable pub controlCall : Directory → Bool → Bool → Answer
+unfoldable pub controlCall : Directory → Bool → Bool → DirectoryResult
 controlCall d cd nw =
     cond (controlRefused cd nw)
     (record { directory = d; number = 9 })
@@ -99,24 +100,24 @@ afterFlush d =
       nw = d .nw;
     }
 
--- "A snoop invalidates the line holding its address. With NW = 1 it changes nothing." (001, 002)
+-- The directory with the line that a lookup found invalid, and as it was where none was found.
 unfoldable pub invalidated : Directory → ℕ → Found → Directory
 invalidated d s (At w) =
     record {
       tags = d .tags;
-      valid = set (d .valid) (lineOf s w) false;
+      valid = set (d .valid) (lineIndex s w) false;
       lru = d .lru;
       cd = d .cd;
       nw = d .nw;
     }
 invalidated d s Nothing = d
 
--- The snoop step.
+-- "A snoop invalidates the line holding its address. With NW = 1 it changes nothing." (001, 002)
 unfoldable pub afterSnoop : Directory → ℕ → Directory
 afterSnoop d address = cond (d .nw) d (invalidated d (setOf address) (lookupOf d address))
 
 -- A snoop is turned away because of the state of its set, whatever NW is.
-unfoldable pub snoopCall : Directory → ℕ → Answer
+unfoldable pub snoopCall : Directory → ℕ → DirectoryResult
 snoopCall d address =
     cond (eqb (stateOf d (setOf address)) 0)
     (record { directory = afterSnoop d address; number = 0 })

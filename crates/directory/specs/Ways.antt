@@ -6,19 +6,19 @@ use lib.Dec.{eqb}
 use lib.ListN.{getD}
 use Rattle.directory.specs.declared.ways.Found.{Found}
 use Rattle.directory.specs.declared.ways.Found.the-variants.{At, Nothing}
-use Rattle.directory.specs.Address.{tagOf, setOf, lineOf}
+use Rattle.directory.specs.Address.{tagOf, setOf, lineIndex}
 use Rattle.directory.specs.Lru.{lruWay}
 
 -- The valid mark of a line, and its tag.
-abbrev pub markAt : List Bool → ℕ → ℕ → Bool
-markAt valid set way = getD valid (lineOf set way) false
+abbrev pub validIn : List Bool → ℕ → ℕ → Bool
+validIn valid set way = getD valid (lineIndex set way) false
 
 abbrev pub tagIn : List ℕ → ℕ → ℕ → ℕ
-tagIn tags set way = getD tags (lineOf set way) 0
+tagIn tags set way = getD tags (lineIndex set way) 0
 
 -- A way of a set is valid and has a tag.
 abbrev pub holds : List ℕ → List Bool → ℕ → ℕ → ℕ → Bool
-holds tags valid set way tag = markAt valid set way && eqb (tagIn tags set way) tag
+holds tags valid set way tag = validIn valid set way && eqb (tagIn tags set way) tag
 
 -- The answer `Found`: `At` is the lowest of the ways 0 to 3 for which a test holds, `Nothing` says that it holds for none.
 unfoldable pub lowest : Bool → Bool → Bool → Bool → Found
@@ -44,8 +44,8 @@ unfoldable pub victimIn : List Bool → List ℕ → ℕ → ℕ
 victimIn valid lru set =
     wayOr
     (lowest
-    (not (markAt valid set 0))
-    (not (markAt valid set 1))
-    (not (markAt valid set 2))
-    (not (markAt valid set 3)))
+    (not (validIn valid set 0))
+    (not (validIn valid set 1))
+    (not (validIn valid set 2))
+    (not (validIn valid set 3)))
     (lruWay (getD lru set 0))

@@ -1,6 +1,5 @@
 // The parts of an address.
 ghost use mathlib.Core.Path.{_≡_};
-ghost use Prim.Native.Nat.{_<_, _≤_};
 ghost use Rattle.directory.specs.Address.{setOf, tagOf};
 
 pub fn tag_of(address: u32) -> u32

@@ -4,7 +4,7 @@ ghost use mathlib.Core.Path.{_≡_};
 ghost use mathlib.Core.Bool.{Bool};
 ghost use mathlib.Core.List.{List};
 ghost use Prim.Native.Nat.{ℕ, _<_};
-ghost use Rattle.directory.specs.Steps.{afterFill, afterFlush, afterSnoop, afterUse, answer, directoryOf, snoopCall};
+ghost use Rattle.directory.specs.Steps.{afterFill, afterFlush, afterSnoop, afterUse, directoryResult, directoryOf, snoopCall};
 use crate::address::set_of;
 use crate::lru::lru_after;
 use crate::state::state_number;
@@ -48,7 +48,12 @@ pub fn flush_in_place(valid: &mut [bool; 512])
 }
 
 // The plain snoop step.
-pub fn drop_in_place<'a>(tags: &'a [u32; 512], valid: &'a mut [bool; 512], nw: bool, address: u32)
+pub fn invalidate_in_place<'a>(
+    tags: &'a [u32; 512],
+    valid: &'a mut [bool; 512],
+    nw: bool,
+    address: u32,
+)
     ensures { λ _. ⌜ ((lru : List ℕ) (cd : Bool) → directoryOf (now (tags .entry)) (now (valid .exit)) lru cd nw
         ≡ afterSnoop (directoryOf (now (tags .entry)) (now (valid .entry)) lru cd nw) address) ⌝ }
 {
@@ -70,13 +75,13 @@ pub fn snoop_in_place<'a>(
     nw: bool,
     address: u32,
 ) -> u32
-    ensures { λ r. ⌜ ((cd : Bool) → answer (directoryOf (now (tags .entry)) (now (valid .exit)) (now (lru .entry)) cd nw) r
+    ensures { λ r. ⌜ ((cd : Bool) → directoryResult (directoryOf (now (tags .entry)) (now (valid .exit)) (now (lru .entry)) cd nw) r
         ≡ snoopCall (directoryOf (now (tags .entry)) (now (valid .entry)) (now (lru .entry)) cd nw) address) ⌝ }
 {
     let number = state_number(tags, valid, lru, set_of(address));
     if number != 0 {
         return number;
     }
-    drop_in_place(tags, valid, nw, address);
+    invalidate_in_place(tags, valid, nw, address);
     0
 }

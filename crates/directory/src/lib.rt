@@ -9,14 +9,14 @@ mod ways;
 
 pub use address::set_of;
 pub use address::tag_of;
-pub use in_place::drop_in_place;
 pub use in_place::fill_in_place;
 pub use in_place::flush_in_place;
+pub use in_place::invalidate_in_place;
 pub use in_place::snoop_in_place;
 pub use in_place::use_in_place;
 pub use state::state_number;
-pub use steps::Answer;
 pub use steps::Directory;
+pub use steps::DirectoryResult;
 pub use ways::Found;
 pub use ways::lookup;
 pub use ways::victim;

@@ -20,7 +20,7 @@ pub struct Directory {
 
 // What a call answers: 0 where it was done, the number where it was refused, and the directory.
 #[repr(C)]
-pub struct Answer {
+pub struct DirectoryResult {
     pub directory: Directory,
     pub number: u32,
 }
@@ -62,6 +62,7 @@ impl Directory {
         self.used(set, way)
     }
 
+    // The plain step: sets any pair, also the one that the control call refuses.
     pub fn with_control(mut self, cd: bool, nw: bool) -> Self
         ensures { λ r. ⌜ r ≡ afterControl self cd nw ⌝ }
     {
@@ -77,6 +78,7 @@ impl Directory {
         self
     }
 
+    // The plain step: changes nothing with NW = 1, and checks no state.
     pub fn snooped(mut self, address: u32) -> Self
         ensures { λ r. ⌜ r ≡ afterSnoop self address ⌝ }
     {
@@ -92,35 +94,35 @@ impl Directory {
     }
 
     // The control call: 9 for CD = 0 with NW = 1.
-    pub fn control(self, cd: bool, nw: bool) -> Answer
+    pub fn control(self, cd: bool, nw: bool) -> DirectoryResult
         ensures { λ r. ⌜ r ≡ controlCall self cd nw ⌝ }
     {
         if !cd & nw {
-            return Answer {
+            return DirectoryResult {
                 directory: self,
                 number: 9,
             };
         }
         let directory = self.with_control(cd, nw);
-        Answer {
+        DirectoryResult {
             directory,
             number: 0,
         }
     }
 
     // The snoop call: the state of the address's set is checked first, whatever NW is.
-    pub fn snoop(self, address: u32) -> Answer
+    pub fn snoop(self, address: u32) -> DirectoryResult
         ensures { λ r. ⌜ r ≡ snoopCall self address ⌝ }
     {
         let number = state_number(&self.tags, &self.valid, &self.lru, set_of(address));
         if number != 0 {
-            return Answer {
+            return DirectoryResult {
                 directory: self,
                 number,
             };
         }
         let directory = self.snooped(address);
-        Answer {
+        DirectoryResult {
             directory,
             number: 0,
         }

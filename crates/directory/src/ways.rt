@@ -2,7 +2,7 @@
 ghost use mathlib.Core.Path.{_≡_};
 ghost use mathlib.Core.Bool.{not};
 ghost use Prim.Native.Nat.{_<_};
-ghost use Rattle.directory.specs.Ways.{holds, lookupIn, lowest, markAt, victimIn, wayOr};
+ghost use Rattle.directory.specs.Ways.{holds, lookupIn, lowest, validIn, victimIn, wayOr};
 use crate::address::set_of;
 use crate::address::tag_of;
 use crate::lru::lru_way;
@@ -72,7 +72,7 @@ pub fn lookup<'a>(tags: &'a [u32; 512], valid: &'a [bool; 512], address: u32) ->
 
 fn is_invalid(valid: &[bool; 512], set: usize, way: usize) -> bool
     requires { ⌜ (set < 128) × (way < 4) ⌝ }
-    ensures { λ r. ⌜ r ≡ not (markAt (now (valid .entry)) set way) ⌝ }
+    ensures { λ r. ⌜ r ≡ not (validIn (now (valid .entry)) set way) ⌝ }
 {
     let line = set * 4 + way;
     !valid[line]

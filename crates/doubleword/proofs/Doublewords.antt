@@ -13,31 +13,31 @@ use Rattle.directory.specs.declared.ways.Found.the-variants.{At, Nothing}
 use Rattle.directory.specs.Address.{setOf}
 use Rattle.directory.specs.Ways.{lookupIn, victimIn}
 use Rattle.directory.proofs.FourWays.{lookup-below, victim-below}
-use Rattle.bus.specs.declared.cycle.Turn.{Turn}
+use Rattle.bus.specs.declared.cycle.CycleCursor.{CycleCursor}
 use Rattle.memory.specs.Bytes.{bytesAt}
 use Rattle.memory.specs.Parity.{Memory}
-use Rattle.bus.specs.Bus.{ken, Cycle, cyclesOf, lastAnswer, through, brought}
+use Rattle.bus.specs.Bus.{ken, Cycle, cyclesOf, lastAnswer, through, bufferAfter}
 use Rattle.bus.specs.Record.{readRecord, writeRecord, wordsOf, plainRead, filling}
-use Rattle.bus.specs.Turns.{beginTurn, later, wantedAt, Ready, Room, ReadCycles, WriteCycles}
+use Rattle.bus.specs.CycleLoop.{cycleBegin, later, wantedAt, CycleNeeds, BufferNeeds, ReadCycles, WriteCycles}
 use Rattle.bus.proofs.Sizing.{wanted-some, burst-later}
 use Rattle.doubleword.specs.declared.change.Change.{Change}
-use Rattle.doubleword.specs.declared.change.Change.the-variants.{Keep, Use, Fill}
-use Rattle.doubleword.specs.declared.change.Moved.{Moved}
+use Rattle.doubleword.specs.declared.change.Change.the-variants.{Unchanged, Use, Fill}
+use Rattle.doubleword.specs.declared.change.DoublewordResult.{DoublewordResult}
 use Rattle.doubleword.specs.declared.change.Wanted.{Wanted}
-use Rattle.bus.specs.Groups.{group}
-use Rattle.doubleword.specs.Doubleword.{Doubleword, slotOf, ownCycles, fillCycles, laid, hitArray, readDone, readHit, readFill, readPlain, writeDone, writeThrough}
-use Rattle.doubleword.specs.Moves.{doublewordOf, Spot, Missed, missCycles, keptChange, keptArray, BelowFour, Reads, Sends, Writes}
+use Rattle.bus.specs.Groups.{groupSize}
+use Rattle.doubleword.specs.Doubleword.{Doubleword, dataOffset, plainCycles, fillCycles, writeBuffer, hitArray, readDone, readHit, readFill, readPlain, writeDone, writeThrough}
+use Rattle.doubleword.specs.DoublewordCode.{doublewordOf, DoublewordNeeds, ReadMiss, missCycles, keptChange, keptArray, BelowFour, Reads, PlainWrite, Writes}
 
--- the turns that a doubleword's own bytes, and a fill of its line, begin with
-abbrev pub ownTurn : Wanted → Turn
-ownTurn w = beginTurn (w .from) (w .count) 0
+-- the cursors that a doubleword's own bytes, and a fill of its line, begin with
+abbrev pub plainStart : Wanted → CycleCursor
+plainStart w = cycleBegin (w .from) (w .count) 0
 
-abbrev pub fillTurn : Wanted → Turn
-fillTurn w = beginTurn (w .from / 4 * 4) 4 3
+abbrev pub fillStart : Wanted → CycleCursor
+fillStart w = cycleBegin (w .from / 4 * 4) 4 3
 
-module _ (w : Wanted) (first ram parity answers log : ℕ) (z : Spot w first ram parity answers log) where
-  pub spot-room : (buffer : ℕ) → buffer ≡ 16 → Room (w .line) first ram parity answers log buffer
-  spot-room buffer e =
+module _ (w : Wanted) (first ram parity answers log : ℕ) (z : DoublewordNeeds w first ram parity answers log) where
+  pub buffer-needs : (buffer : ℕ) → buffer ≡ 16 → BufferNeeds (w .line) first ram parity answers log buffer
+  buffer-needs buffer e =
       record {
         aligned = z .aligned;
         inside = z .inside;
@@ -48,30 +48,30 @@ module _ (w : Wanted) (first ram parity answers log : ℕ) (z : Spot w first ram
         whole = e;
       }
 
-  pub own-ready : Ready (ownTurn w) answers
-  own-ready =
+  pub plain-needs : CycleNeeds (plainStart w) answers
+  plain-needs =
       record { lanes = z .lanes; line = z .line; turns = omega arith; enough = omega (arith, z .lanes, z .served) }
 
-  pub fill-ready : Ready (fillTurn w) answers
-  fill-ready =
+  pub fill-needs : CycleNeeds (fillStart w) answers
+  fill-needs =
       record { lanes = omega arith; line = omega (arith, z .line); turns = omega arith; enough = omega (arith, z .served) }
 
--- the cycles that those turns make
+-- the cycles that those cursors make
 module _ (w : Wanted) (answers : List ℕ) where
-  pub own-cycles : (start : ℕ) → 0 < w .count → cyclesOf answers (wantedAt start (ownTurn w)) ≡ ownCycles (doublewordOf w answers)
+  pub plain-cycles : (start : ℕ) → 0 < w .count → cyclesOf answers (wantedAt start (plainStart w)) ≡ plainCycles (doublewordOf w answers)
   unfolding later
-  own-cycles start some = rw (wanted-some start (ownTurn w) some)
+  plain-cycles start some = rw (wanted-some start (plainStart w) some)
 
-  pub fill-cycles : w .from < 16 → cyclesOf answers (wantedAt (w .from / 4) (fillTurn w)) ≡ fillCycles (doublewordOf w answers)
+  pub fill-cycles : w .from < 16 → cyclesOf answers (wantedAt (w .from / 4) (fillStart w)) ≡ fillCycles (doublewordOf w answers)
   fill-cycles l =
-      rw (wanted-some (w .from / 4) (fillTurn w) (omega arith), ← burst-later (w .from / 4) (omega arith))
+      rw (wanted-some (w .from / 4) (fillStart w) (omega arith), ← burst-later (w .from / 4) (omega arith))
 
 -- what the cycles of a doubleword that missed leave
-module _ (m : Memory) (w : Wanted) (answers : List ℕ) (first : ℕ) (log₀ buffer₀ : List ℕ) (r : Turn) (log buffer : List ℕ) (e : length answers ≡ group) where
-  pub missed-own : 0 < w .count → ReadCycles 0 m answers (w .from / 4) (w .line) first (ownTurn w) log₀ buffer₀ r log buffer →
-      Missed false m (doublewordOf w answers) first log₀ buffer₀ r log buffer
+module _ (m : Memory) (w : Wanted) (answers : List ℕ) (first : ℕ) (log₀ buffer₀ : List ℕ) (r : CycleCursor) (log buffer : List ℕ) (e : length answers ≡ groupSize) where
+  pub missed-own : 0 < w .count → ReadCycles 0 m answers (w .from / 4) (w .line) first (plainStart w) log₀ buffer₀ r log buffer →
+      ReadMiss false m (doublewordOf w answers) first log₀ buffer₀ r log buffer
   missed-own some k =
-      let q = own-cycles w answers (w .from / 4) some in
+      let q = plain-cycles w answers (w .from / 4) some in
       record {
         logs = rw (← q) (k .logs);
         brings = rw (← q) (k .brings);
@@ -80,8 +80,8 @@ module _ (m : Memory) (w : Wanted) (answers : List ℕ) (first : ℕ) (log₀ bu
         most = omega (arith, k .most);
       }
 
-  pub missed-fill : w .from < 16 → ReadCycles 32 m answers (w .from / 4) (w .line) first (fillTurn w) log₀ buffer₀ r log buffer →
-      Missed true m (doublewordOf w answers) first log₀ buffer₀ r log buffer
+  pub missed-fill : w .from < 16 → ReadCycles 32 m answers (w .from / 4) (w .line) first (fillStart w) log₀ buffer₀ r log buffer →
+      ReadMiss true m (doublewordOf w answers) first log₀ buffer₀ r log buffer
   missed-fill l k =
       let q = fill-cycles w answers l in
       record {
@@ -93,8 +93,8 @@ module _ (m : Memory) (w : Wanted) (answers : List ℕ) (first : ℕ) (log₀ bu
       }
 
 -- a miss, as its cycles and the fill's end leave it
-pub missed-done : (fills : Bool) (m : Memory) (w : Doubleword) (victim first : ℕ) (array₀ log₀ operand₀ : List ℕ) (t : Turn) (change : Change) (log buffer array operand : List ℕ) →
-    Missed fills m w first log₀ (replicate 16 0) t log buffer →
+pub missed-done : (fills : Bool) (m : Memory) (w : Doubleword) (victim first : ℕ) (array₀ log₀ operand₀ : List ℕ) (t : CycleCursor) (change : Change) (log buffer array operand : List ℕ) →
+    ReadMiss fills m w first log₀ (replicate 16 0) t log buffer →
     change ≡ keptChange (fills && eqb (t .answer % 2) 1) victim →
     array ≡ keptArray (fills && eqb (t .answer % 2) 1) victim (w .line) buffer array₀ →
     operand ≡ sets operand₀ (w .place) (bytesAt buffer (w .wanted .from) (w .wanted .count)) →
@@ -116,34 +116,34 @@ missed-done false m w victim first array₀ log₀ operand₀ t change log buffe
       arrays = ea;
       logs = k .logs;
       bytes = eo ∙ rw (k .brings);
-      made = k .made ∙ sym (length-map (ownCycles w) (readRecord plainRead m (w .line)));
+      made = k .made ∙ sym (length-map (plainCycles w) (readRecord plainRead m (w .line)));
       most = k .most;
     }
 
 -- a read leaves memory as it was
-pub read-memory : (f : Found) (victim : ℕ) (may : Bool) (m : Memory) (array : List ℕ) (w : Doubleword) → readDone f victim may m array w .memory ≡ m
+pub read-memory : (f : Found) (victim : ℕ) (mayFill : Bool) (m : Memory) (array : List ℕ) (w : Doubleword) → readDone f victim mayFill m array w .memory ≡ m
 unfolding readDone readHit readFill readPlain
-read-memory (At way) victim may m array w = refl
-read-memory Nothing victim may m array w =
-    by-test (λ b. cond b (readFill victim m array w) (readPlain m array w) .memory ≡ m) (may && ken (getD (w .answers) 0 0)) (λ _. refl) (λ _. refl)
+read-memory (At way) victim mayFill m array w = refl
+read-memory Nothing victim mayFill m array w =
+    by-test (λ b. cond b (readFill victim m array w) (readPlain m array w) .memory ≡ m) (mayFill && ken (getD (w .answers) 0 0)) (λ _. refl) (λ _. refl)
 
 -- read cycles leave the length of the line buffer
-through-length : (ram : List ℕ) (line : ℕ) (cs : List Cycle) (buffer : List ℕ) → length (through (brought ram line) cs buffer) ≡ length buffer
+through-length : (ram : List ℕ) (line : ℕ) (cs : List Cycle) (buffer : List ℕ) → length (through (bufferAfter ram line) cs buffer) ≡ length buffer
 unfolding through
 through-length ram line [] buffer = refl
 through-length ram line (c ∷ cs) buffer =
-    through-length ram line cs (brought ram line (c .moved) buffer)
+    through-length ram line cs (bufferAfter ram line (c .moved) buffer)
     ∙ length-sets buffer (c .moved .from) (bytesAt ram (line + c .moved .from) (c .moved .count))
 
-pub missed-length : {fills : Bool} {m : Memory} {w : Doubleword} {first : ℕ} {log₀ buffer₀ : List ℕ} {r : Turn} {log buffer : List ℕ} →
-    Missed fills m w first log₀ buffer₀ r log buffer → length buffer ≡ length buffer₀
+pub missed-length : {fills : Bool} {m : Memory} {w : Doubleword} {first : ℕ} {log₀ buffer₀ : List ℕ} {r : CycleCursor} {log buffer : List ℕ} →
+    ReadMiss fills m w first log₀ buffer₀ r log buffer → length buffer ≡ length buffer₀
 missed-length {fills} {m} {w} {buffer₀ = buffer₀} k = ap length (k .brings) ∙ through-length (m .ram) (w .line) (missCycles fills w) buffer₀
 
 -- a hit, and a miss, by what the lookup found
-module _ (f : Found) (victim : ℕ) (may : Bool) (m : Memory) (array : List ℕ) (w : Doubleword) where
-  pub hit-reads : (way slot first : ℕ) (log operand₀ operand : List ℕ) → f ≡ At way → slot ≡ slotOf (w .line) way →
+module _ (f : Found) (victim : ℕ) (mayFill : Bool) (m : Memory) (array : List ℕ) (w : Doubleword) where
+  pub hit-reads : (way slot first : ℕ) (log operand₀ operand : List ℕ) → f ≡ At way → slot ≡ dataOffset (w .line) way →
       operand ≡ sets operand₀ (w .place) (bytesAt array (slot + w .wanted .from) (w .wanted .count)) →
-      Reads (readDone f victim may m array w) (w .place) first log operand₀ (record { change = Use way; records = 0 }) array log operand
+      Reads (readDone f victim mayFill m array w) (w .place) first log operand₀ (record { change = Use way; records = 0 }) array log operand
   unfolding readDone readHit wordsOf
   hit-reads way slot first log operand₀ operand e s o =
       rw e
@@ -156,19 +156,19 @@ module _ (f : Found) (victim : ℕ) (may : Bool) (m : Memory) (array : List ℕ)
         most = omega arith;
       })
 
-  pub miss-reads : (first : ℕ) (log₀ operand₀ : List ℕ) (r : Moved) (array′ log operand : List ℕ) → f ≡ Nothing →
-      Reads (cond (may && ken (getD (w .answers) 0 0)) (readFill victim m array w) (readPlain m array w)) (w .place) first log₀ operand₀ r array′ log operand →
-      Reads (readDone f victim may m array w) (w .place) first log₀ operand₀ r array′ log operand
+  pub miss-reads : (first : ℕ) (log₀ operand₀ : List ℕ) (r : DoublewordResult) (array′ log operand : List ℕ) → f ≡ Nothing →
+      Reads (cond (mayFill && ken (getD (w .answers) 0 0)) (readFill victim m array w) (readPlain m array w)) (w .place) first log₀ operand₀ r array′ log operand →
+      Reads (readDone f victim mayFill m array w) (w .place) first log₀ operand₀ r array′ log operand
   unfolding readDone
   miss-reads first log₀ operand₀ r array′ log operand e k = rw e k
 
 -- what the write cycles of a doubleword leave
-pub own-sends : (operand answers : List ℕ) (w : Wanted) (first : ℕ) (m₀ : Memory) (log₀ : List ℕ) (t : Turn) (buffer : List ℕ) (m : Memory) (log : List ℕ) →
-    0 < w .count → length answers ≡ group → buffer ≡ laid operand (doublewordOf w answers) →
-    WriteCycles buffer answers (w .line) first (ownTurn w) m₀ log₀ t m log →
-    Sends operand (doublewordOf w answers) first m₀ log₀ (t .used) m log
-own-sends operand answers w first m₀ log₀ t buffer m log some a e k =
-    let q = own-cycles w answers 0 some in
+pub plain-write : (operand answers : List ℕ) (w : Wanted) (first : ℕ) (m₀ : Memory) (log₀ : List ℕ) (t : CycleCursor) (buffer : List ℕ) (m : Memory) (log : List ℕ) →
+    0 < w .count → length answers ≡ groupSize → buffer ≡ writeBuffer operand (doublewordOf w answers) →
+    WriteCycles buffer answers (w .line) first (plainStart w) m₀ log₀ t m log →
+    PlainWrite operand (doublewordOf w answers) first m₀ log₀ (t .used) m log
+plain-write operand answers w first m₀ log₀ t buffer m log some a e k =
+    let q = plain-cycles w answers 0 some in
     record {
       logs = rw (← e, ← q) (k .logs);
       sends = rw (← e, ← q) (k .sends);
@@ -178,7 +178,7 @@ own-sends operand answers w first m₀ log₀ t buffer m log some a e k =
 
 -- a write by what the lookup found
 module _ (f : Found) (stays : Bool) (m₀ : Memory) (array operand : List ℕ) (w : Doubleword) (first : ℕ) (log₀ : List ℕ) where
-  pub stay-writes : (way slot : ℕ) (array′ : List ℕ) → f ≡ At way → stays ≡ true → slot ≡ slotOf (w .line) way →
+  pub stay-writes : (way slot : ℕ) (array′ : List ℕ) → f ≡ At way → stays ≡ true → slot ≡ dataOffset (w .line) way →
       array′ ≡ sets array (slot + w .wanted .from) (bytesAt operand (w .place) (w .wanted .count)) →
       Writes (writeDone f stays m₀ array operand w) first log₀ (record { change = Use way; records = 0 }) m₀ array′ log₀
   unfolding writeDone hitArray wordsOf
@@ -193,7 +193,7 @@ module _ (f : Found) (stays : Bool) (m₀ : Memory) (array operand : List ℕ) (
         most = omega arith;
       })
 
-  through-writes : (change : Change) (array′ : List ℕ) (r : ℕ) (m : Memory) (log : List ℕ) → Sends operand w first m₀ log₀ r m log →
+  through-writes : (change : Change) (array′ : List ℕ) (r : ℕ) (m : Memory) (log : List ℕ) → PlainWrite operand w first m₀ log₀ r m log →
       Writes (writeThrough change m₀ array′ operand w) first log₀ (record { change = change; records = r }) m array′ log
   unfolding writeThrough
   through-writes change array′ r m log k =
@@ -202,31 +202,31 @@ module _ (f : Found) (stays : Bool) (m₀ : Memory) (array operand : List ℕ) (
         memories = k .sends;
         arrays = refl;
         logs = k .logs;
-        made = k .made ∙ sym (length-map (ownCycles w) (writeRecord (laid operand w) (w .line)));
+        made = k .made ∙ sym (length-map (plainCycles w) (writeRecord (writeBuffer operand w) (w .line)));
         most = k .most;
       }
 
-  pub hit-writes : (way slot : ℕ) (array′ : List ℕ) (r : ℕ) (m : Memory) (log : List ℕ) → f ≡ At way → stays ≡ false → slot ≡ slotOf (w .line) way →
-      array′ ≡ sets array (slot + w .wanted .from) (bytesAt operand (w .place) (w .wanted .count)) → Sends operand w first m₀ log₀ r m log →
+  pub hit-writes : (way slot : ℕ) (array′ : List ℕ) (r : ℕ) (m : Memory) (log : List ℕ) → f ≡ At way → stays ≡ false → slot ≡ dataOffset (w .line) way →
+      array′ ≡ sets array (slot + w .wanted .from) (bytesAt operand (w .place) (w .wanted .count)) → PlainWrite operand w first m₀ log₀ r m log →
       Writes (writeDone f stays m₀ array operand w) first log₀ (record { change = Use way; records = r }) m array′ log
   unfolding writeDone hitArray
   hit-writes way slot array′ r m log e b s a k =
       let h : array′ ≡ hitArray way array operand w = rw s at a in
       rw (e, b, h) (through-writes (Use way) (hitArray way array operand w) r m log k)
 
-  pub miss-writes : (r : ℕ) (m : Memory) (log : List ℕ) → f ≡ Nothing → Sends operand w first m₀ log₀ r m log →
-      Writes (writeDone f stays m₀ array operand w) first log₀ (record { change = Keep; records = r }) m array log
+  pub miss-writes : (r : ℕ) (m : Memory) (log : List ℕ) → f ≡ Nothing → PlainWrite operand w first m₀ log₀ r m log →
+      Writes (writeDone f stays m₀ array operand w) first log₀ (record { change = Unchanged; records = r }) m array log
   unfolding writeDone
-  miss-writes r m log e k = rw e (through-writes Keep array r m log k)
+  miss-writes r m log e k = rw e (through-writes Unchanged array r m log k)
 
 -- the way of a change is below 4
-read-below : (f : Found) (victim : ℕ) (may : Bool) (m : Memory) (array : List ℕ) (w : Doubleword) → ((way : ℕ) → f ≡ At way → way < 4) → victim < 4 →
-    BelowFour (readDone f victim may m array w .change)
+read-below : (f : Found) (victim : ℕ) (mayFill : Bool) (m : Memory) (array : List ℕ) (w : Doubleword) → ((way : ℕ) → f ≡ At way → way < 4) → victim < 4 →
+    BelowFour (readDone f victim mayFill m array w .change)
 unfolding readDone readHit readFill readPlain
-read-below (At way) victim may m array w h l = h way refl
-read-below Nothing victim may m array w h l =
-    by-test (λ b. BelowFour (cond b (readFill victim m array w) (readPlain m array w) .change)) (may && ken (getD (w .answers) 0 0))
-    (λ _. by-test (λ b. BelowFour (cond b (Fill victim) Keep)) (ken (lastAnswer 0 (fillCycles w))) (λ _. l) (λ _. tt))
+read-below (At way) victim mayFill m array w h l = h way refl
+read-below Nothing victim mayFill m array w h l =
+    by-test (λ b. BelowFour (cond b (readFill victim m array w) (readPlain m array w) .change)) (mayFill && ken (getD (w .answers) 0 0))
+    (λ _. by-test (λ b. BelowFour (cond b (Fill victim) Unchanged)) (ken (lastAnswer 0 (fillCycles w))) (λ _. l) (λ _. tt))
     (λ _. tt)
 
 write-below : (f : Found) (stays : Bool) (m : Memory) (array operand : List ℕ) (w : Doubleword) → ((way : ℕ) → f ≡ At way → way < 4) →
@@ -237,11 +237,11 @@ write-below (At way) stays m array operand w h =
     (λ _. h way refl) (λ _. h way refl)
 write-below Nothing stays m array operand w h = tt
 
-pub reads-below : (tags : List ℕ) (valid : List Bool) (lru : List ℕ) (may : Bool) (m : Memory) (array : List ℕ) (w : Doubleword) {place first : ℕ} {log₀ operand₀ : List ℕ} {r : Moved} {array′ log operand : List ℕ} →
-    Reads (readDone (lookupIn tags valid (w .line)) (victimIn valid lru (setOf (w .line))) may m array w) place first log₀ operand₀ r array′ log operand → BelowFour (r .change)
-reads-below tags valid lru may m array w k =
-    rw (k .change) (read-below _ _ may m array w (lookup-below tags valid (w .line)) (victim-below valid lru (setOf (w .line))))
+pub reads-below : (tags : List ℕ) (valid : List Bool) (lru : List ℕ) (mayFill : Bool) (m : Memory) (array : List ℕ) (w : Doubleword) {place first : ℕ} {log₀ operand₀ : List ℕ} {r : DoublewordResult} {array′ log operand : List ℕ} →
+    Reads (readDone (lookupIn tags valid (w .line)) (victimIn valid lru (setOf (w .line))) mayFill m array w) place first log₀ operand₀ r array′ log operand → BelowFour (r .change)
+reads-below tags valid lru mayFill m array w k =
+    rw (k .change) (read-below _ _ mayFill m array w (lookup-below tags valid (w .line)) (victim-below valid lru (setOf (w .line))))
 
-pub writes-below : (tags : List ℕ) (valid : List Bool) (stays : Bool) (m₀ : Memory) (array operand : List ℕ) (w : Doubleword) {first : ℕ} {log₀ : List ℕ} {r : Moved} {m : Memory} {array′ log : List ℕ} →
+pub writes-below : (tags : List ℕ) (valid : List Bool) (stays : Bool) (m₀ : Memory) (array operand : List ℕ) (w : Doubleword) {first : ℕ} {log₀ : List ℕ} {r : DoublewordResult} {m : Memory} {array′ log : List ℕ} →
     Writes (writeDone (lookupIn tags valid (w .line)) stays m₀ array operand w) first log₀ r m array′ log → BelowFour (r .change)
 writes-below tags valid stays m₀ array operand w k = rw (k .change) (write-below _ stays m₀ array operand w (lookup-below tags valid (w .line)))

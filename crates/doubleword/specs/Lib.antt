@@ -1,4 +1,4 @@
 -- One doubleword by document 01: what a reader must believe of this crate.
--- `Moves` alone is no rule: it says what the parts of the code leave.
+-- `DoublewordCode` alone is no rule: it says what the parts of the code leave.
 pub mod Doubleword
-pub mod Moves
+pub mod DoublewordCode

@@ -3,19 +3,19 @@ ghost use mathlib.Core.Path.{_≡_};
 ghost use mathlib.Core.Bool.{Bool};
 ghost use Prim.Native.Nat.{_+_, _≤_, _<_};
 ghost use Rattle.directory.specs.Steps.{directoryOf};
-ghost use Rattle.doubleword.specs.Doubleword.{changed, slotOf};
-ghost use Rattle.doubleword.specs.Moves.{BelowFour};
+ghost use Rattle.doubleword.specs.Doubleword.{changed, dataOffset};
+ghost use Rattle.doubleword.specs.DoublewordCode.{BelowFour};
 use directory::Directory;
 
 // What a doubleword does to the directory: nothing, a use of a way, or a kept fill of a way.
 pub enum Change {
-    Keep,
+    Unchanged,
     Use(usize),
     Fill(usize),
 }
 
 // The directory's change, and the records of the cycles made.
-pub struct Moved {
+pub struct DoublewordResult {
     pub change: Change,
     pub records: usize,
 }
@@ -29,20 +29,20 @@ pub struct Wanted {
 }
 
 // Where the data array holds the line of an address, in a way.
-pub fn slot_of(line: u32, way: usize) -> usize
+pub fn data_offset(line: u32, way: usize) -> usize
     requires { ⌜ way < 4 ⌝ }
-    ensures { λ r. ⌜ (r ≡ slotOf line way) × (r + 16 ≤ 8192) ⌝ }
+    ensures { λ r. ⌜ (r ≡ dataOffset line way) × (r + 16 ≤ 8192) ⌝ }
 {
     (directory::set_of(line) * 4 + way) * 16
 }
 
-// The directory after its change: the one step of a doubleword. It copies the directory, so the calls spare it for `Keep`.
+// The directory after its change: the one step of a doubleword. It copies the directory, so the calls spare it for `Unchanged`.
 pub fn changed_by(directory: Directory, line: u32, change: Change) -> Directory
     requires { ⌜ BelowFour change ⌝ }
     ensures { λ r. ⌜ r ≡ changed directory line change ⌝ }
 {
     match change {
-        Change::Keep => directory,
+        Change::Unchanged => directory,
         Change::Use(way) => directory.used(directory::set_of(line), way),
         Change::Fill(way) => {
             directory.filled(directory::set_of(line), way, directory::tag_of(line))
@@ -63,7 +63,7 @@ pub fn change_in_place(
         ≡ changed (directoryOf (now (tags .entry)) (now (valid .entry)) (now (lru .entry)) cd nw) line change) ⌝ }
 {
     match change {
-        Change::Keep => {}
+        Change::Unchanged => {}
         Change::Use(way) => directory::use_in_place(lru, directory::set_of(line), way),
         Change::Fill(way) => {
             directory::fill_in_place(

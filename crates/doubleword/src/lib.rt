@@ -5,10 +5,10 @@ mod reading;
 mod writing;
 
 pub use change::Change;
-pub use change::Moved;
+pub use change::DoublewordResult;
 pub use change::Wanted;
 pub use change::change_in_place;
 pub use change::changed_by;
-pub use change::slot_of;
+pub use change::data_offset;
 pub use reading::read_doubleword;
 pub use writing::write_doubleword;

@@ -6,12 +6,12 @@ ghost use Rattle.directory.specs.Address.{setOf};
 ghost use Rattle.directory.specs.Ways.{lookupIn, victimIn};
 ghost use Rattle.memory.specs.Parity.{memory};
 ghost use Rattle.doubleword.specs.Doubleword.{readDone};
-ghost use Rattle.doubleword.specs.Moves.{doublewordOf, keptArray, keptChange, Missed, Reads, Spot};
+ghost use Rattle.doubleword.specs.DoublewordCode.{doublewordOf, keptArray, keptChange, ReadMiss, Reads, DoublewordNeeds};
 use crate::change::Change;
-use crate::change::Moved;
+use crate::change::DoublewordResult;
 use crate::change::Wanted;
-use crate::change::slot_of;
-use bus::Turn;
+use crate::change::data_offset;
+use bus::CycleCursor;
 use bus::read_cycles;
 use directory::Found;
 use memory::copy_bytes;
@@ -26,14 +26,14 @@ fn read_missed(
     w: Wanted,
     first: usize,
     fills: bool,
-) -> Turn
-    requires { ⌜ Spot w first (length (now ram)) (length (now parity)) (length (now answers)) (length (now log)) × (length (now buffer) ≡ 16) ⌝ }
-    ensures { λ r. ⌜ Missed fills (memory (now (ram .entry)) (now (parity .entry))) (doublewordOf w (now (answers .entry))) first (now (log .entry)) (now (buffer .entry)) r (now (log .exit)) (now (buffer .exit)) ⌝ }
+) -> CycleCursor
+    requires { ⌜ DoublewordNeeds w first (length (now ram)) (length (now parity)) (length (now answers)) (length (now log)) × (length (now buffer) ≡ 16) ⌝ }
+    ensures { λ r. ⌜ ReadMiss fills (memory (now (ram .entry)) (now (parity .entry))) (doublewordOf w (now (answers .entry))) first (now (log .entry)) (now (buffer .entry)) r (now (log .exit)) (now (buffer .exit)) ⌝ }
 {
     let line = w.line as usize;
     let start = w.from / 4;
     if fills {
-        let whole = Turn::begin(start * 4, 4, 3);
+        let whole = CycleCursor::begin(start * 4, 4, 3);
         return read_cycles(
             ram,
             parity,
@@ -47,14 +47,14 @@ fn read_missed(
             32,
         );
     }
-    let own = Turn::begin(w.from, w.count, 0);
+    let plain = CycleCursor::begin(w.from, w.count, 0);
     read_cycles(
         ram,
         parity,
         answers,
         log,
         buffer,
-        own,
+        plain,
         start,
         line,
         first,
@@ -77,10 +77,10 @@ fn keep_line<'a>(
 {
     if kept {
         let way = directory::victim(valid, lru, directory::set_of(line));
-        copy_bytes(buffer, 0, data, slot_of(line, way), 16);
+        copy_bytes(buffer, 0, data, data_offset(line, way), 16);
         return Change::Fill(way);
     }
-    Change::Keep
+    Change::Unchanged
 }
 
 // One doubleword of a read: its bytes go into the operand.
@@ -97,8 +97,8 @@ pub fn read_doubleword<'a>(
     operand: &mut [u8],
     w: Wanted,
     first: usize,
-) -> Moved
-    requires { ⌜ Spot w first (length (now ram)) (length (now parity)) (length (now answers)) (length (now log)) × (length (now «data») ≡ 8192) × (w .place + w .count ≤ length (now operand)) ⌝ }
+) -> DoublewordResult
+    requires { ⌜ DoublewordNeeds w first (length (now ram)) (length (now parity)) (length (now answers)) (length (now log)) × (length (now «data») ≡ 8192) × (w .place + w .count ≤ length (now operand)) ⌝ }
     ensures { λ r. ⌜ Reads (readDone (lookupIn (now (tags .entry)) (now (valid .entry)) (w .line)) (victimIn (now (valid .entry)) (now (lru .entry)) (setOf (w .line)))
         «may_fill» (memory (now (ram .entry)) (now (parity .entry))) (now («data» .entry)) (doublewordOf w (now (answers .entry))))
         (w .place) first (now (log .entry)) (now (operand .entry)) r (now («data» .exit)) (now (log .exit)) (now (operand .exit)) ⌝ }
@@ -106,12 +106,12 @@ pub fn read_doubleword<'a>(
     if let Found::At(way) = directory::lookup(tags, valid, w.line) {
         copy_bytes(
             data,
-            slot_of(w.line, way) + w.from,
+            data_offset(w.line, way) + w.from,
             operand,
             w.place,
             w.count,
         );
-        return Moved {
+        return DoublewordResult {
             change: Change::Use(way),
             records: 0,
         };
@@ -122,7 +122,7 @@ pub fn read_doubleword<'a>(
     copy_bytes(&buffer, w.from, operand, w.place, w.count);
     let kept = fills & (t.answer % 2 == 1);
     let change = keep_line(valid, lru, data, &buffer, w.line, kept);
-    Moved {
+    DoublewordResult {
         change,
         records: t.used,
     }

@@ -5,12 +5,12 @@ ghost use lib.ListN.{length};
 ghost use Rattle.directory.specs.Ways.{lookupIn};
 ghost use Rattle.memory.specs.Parity.{memory};
 ghost use Rattle.doubleword.specs.Doubleword.{writeDone};
-ghost use Rattle.doubleword.specs.Moves.{doublewordOf, Sends, Spot, Writes};
+ghost use Rattle.doubleword.specs.DoublewordCode.{doublewordOf, PlainWrite, DoublewordNeeds, Writes};
 use crate::change::Change;
-use crate::change::Moved;
+use crate::change::DoublewordResult;
 use crate::change::Wanted;
-use crate::change::slot_of;
-use bus::Turn;
+use crate::change::data_offset;
+use bus::CycleCursor;
 use bus::write_cycles;
 use directory::Found;
 use memory::copy_bytes;
@@ -25,19 +25,19 @@ fn write_through(
     w: Wanted,
     first: usize,
 ) -> usize
-    requires { ⌜ Spot w first (length (now ram)) (length (now parity)) (length (now answers)) (length (now log)) × (w .place + w .count ≤ length (now operand)) ⌝ }
-    ensures { λ r. ⌜ Sends (now (operand .entry)) (doublewordOf w (now (answers .entry))) first (memory (now (ram .entry)) (now (parity .entry))) (now (log .entry)) r (memory (now (ram .exit)) (now (parity .exit))) (now (log .exit)) ⌝ }
+    requires { ⌜ DoublewordNeeds w first (length (now ram)) (length (now parity)) (length (now answers)) (length (now log)) × (w .place + w .count ≤ length (now operand)) ⌝ }
+    ensures { λ r. ⌜ PlainWrite (now (operand .entry)) (doublewordOf w (now (answers .entry))) first (memory (now (ram .entry)) (now (parity .entry))) (now (log .entry)) r (memory (now (ram .exit)) (now (parity .exit))) (now (log .exit)) ⌝ }
 {
     let mut buffer = [0u8; 16];
     copy_bytes(operand, w.place, &mut buffer, w.from, w.count);
-    let own = Turn::begin(w.from, w.count, 0);
+    let plain = CycleCursor::begin(w.from, w.count, 0);
     let t = write_cycles(
         ram,
         parity,
         answers,
         log,
         &buffer,
-        own,
+        plain,
         w.line as usize,
         first,
     );
@@ -57,8 +57,8 @@ pub fn write_doubleword<'a>(
     operand: &[u8],
     w: Wanted,
     first: usize,
-) -> Moved
-    requires { ⌜ Spot w first (length (now ram)) (length (now parity)) (length (now answers)) (length (now log)) × (length (now «data») ≡ 8192) × (w .place + w .count ≤ length (now operand)) ⌝ }
+) -> DoublewordResult
+    requires { ⌜ DoublewordNeeds w first (length (now ram)) (length (now parity)) (length (now answers)) (length (now log)) × (length (now «data») ≡ 8192) × (w .place + w .count ≤ length (now operand)) ⌝ }
     ensures { λ r. ⌜ Writes (writeDone (lookupIn (now (tags .entry)) (now (valid .entry)) (w .line)) stays
         (memory (now (ram .entry)) (now (parity .entry))) (now («data» .entry)) (now (operand .entry)) (doublewordOf w (now (answers .entry))))
         first (now (log .entry)) r (memory (now (ram .exit)) (now (parity .exit))) (now («data» .exit)) (now (log .exit)) ⌝ }
@@ -68,24 +68,24 @@ pub fn write_doubleword<'a>(
             operand,
             w.place,
             data,
-            slot_of(w.line, way) + w.from,
+            data_offset(w.line, way) + w.from,
             w.count,
         );
         if stays {
-            return Moved {
+            return DoublewordResult {
                 change: Change::Use(way),
                 records: 0,
             };
         }
         let records = write_through(ram, parity, answers, log, operand, w, first);
-        return Moved {
+        return DoublewordResult {
             change: Change::Use(way),
             records,
         };
     }
     let records = write_through(ram, parity, answers, log, operand, w, first);
-    Moved {
-        change: Change::Keep,
+    DoublewordResult {
+        change: Change::Unchanged,
         records,
     }
 }

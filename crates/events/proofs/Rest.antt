@@ -19,17 +19,17 @@ use Rattle.events.specs.Perform.{performed, lineDone}
 use Rattle.events.specs.Output.{rowFor, rowsOf, start, outputOf}
 
 -- The rows that are left at a place of the input, from a state and the number of the next event.
-abbrev pub left : List ℕ → State → ℕ → ℕ → List ℕ
-left input s event place = rowsOf s event (linesOf (drop place input))
+abbrev pub rowsLeft : List ℕ → State → ℕ → ℕ → List ℕ
+rowsLeft input s event place = rowsOf s event (linesOf (drop place input))
 
-pub left-none : (input : List ℕ) (s : State) (event place : ℕ) → length input ≤ place → left input s event place ≡ []
+pub rows-left-none : (input : List ℕ) (s : State) (event place : ℕ) → length input ≤ place → rowsLeft input s event place ≡ []
 unfolding rowsOf linesOf withoutEmptyEnd partsOf
-left-none input s event place h = rw (drop-of-length-le input h)
+rows-left-none input s event place h = rw (drop-of-length-le input h)
 
 -- The next line's row comes first.
-left-next : (input : List ℕ) (s : State) (event place : ℕ) (rest : List ℕ) (e : ℕ) (done : Outcome) (m : Memory) (array : List ℕ) → place < length input → rest ≡ take (length input - place) (drop place input) → e ≡ indexOf newline rest → performed done m array ≡ lineDone s (take e rest) → left input s event place ≡ rowFor event done ++ left input (state (done .directory) m array) (event + 1) (place + e + 1)
+rows-left-next : (input : List ℕ) (s : State) (event place : ℕ) (rest : List ℕ) (e : ℕ) (done : Outcome) (m : Memory) (array : List ℕ) → place < length input → rest ≡ take (length input - place) (drop place input) → e ≡ indexOf newline rest → performed done m array ≡ lineDone s (take e rest) → rowsLeft input s event place ≡ rowFor event done ++ rowsLeft input (state (done .directory) m array) (event + 1) (place + e + 1)
 unfolding rowsOf
-left-next input s event place rest e done m array h r i d =
+rows-left-next input s event place rest e done m array h r i d =
     let whole : rest ≡ drop place input = r ∙ take-all (length input - place) (drop place input) (omega (arith, length-drop place input)) in
     let some : 0 < length (drop place input) = omega (arith, length-drop place input) in
     let at : e ≡ indexOf newline (drop place input) = i ∙ ap (indexOf newline) whole in
@@ -39,11 +39,11 @@ left-next input s event place rest e done m array h r i d =
     rw (lines-next (drop place input) e some at, far, line, add-one event)
 
 -- Its row put, what is left after it gives what was left before it.
-pub line-done : (input : List ℕ) (s : State) (event place : ℕ) (rest : List ℕ) (e : ℕ) (done : Outcome) (m : Memory) (array out printed whole : List ℕ) (at next total : ℕ) → place < length input → rest ≡ take (length input - place) (drop place input) → e ≡ indexOf newline rest → performed done m array ≡ lineDone s (take e rest) → next ≡ at + length (rowFor event done) → printed ≡ sets out at (rowFor event done) → at + length (left input s event place) ≡ total → sets out at (left input s event place) ≡ whole → (next + length (left input (state (done .directory) m array) (event + 1) (place + e + 1)) ≡ total) × (sets printed next (left input (state (done .directory) m array) (event + 1) (place + e + 1)) ≡ whole)
+pub line-done : (input : List ℕ) (s : State) (event place : ℕ) (rest : List ℕ) (e : ℕ) (done : Outcome) (m : Memory) (array out printed whole : List ℕ) (at next total : ℕ) → place < length input → rest ≡ take (length input - place) (drop place input) → e ≡ indexOf newline rest → performed done m array ≡ lineDone s (take e rest) → next ≡ at + length (rowFor event done) → printed ≡ sets out at (rowFor event done) → at + length (rowsLeft input s event place) ≡ total → sets out at (rowsLeft input s event place) ≡ whole → (next + length (rowsLeft input (state (done .directory) m array) (event + 1) (place + e + 1)) ≡ total) × (sets printed next (rowsLeft input (state (done .directory) m array) (event + 1) (place + e + 1)) ≡ whole)
 line-done input s event place rest e done m array out printed whole at next total h r i d n p t w =
     let row = rowFor event done in
-    let after = left input (state (done .directory) m array) (event + 1) (place + e + 1) in
-    let both = left-next input s event place rest e done m array h r i d in (
+    let after = rowsLeft input (state (done .directory) m array) (event + 1) (place + e + 1) in
+    let both = rows-left-next input s event place rest e done m array h r i d in (
       omega (arith, t, ap length both, length-append row after, n),
       rw (n, p) (sym (sets-append out at row after) ∙ ap (sets out at) (sym both) ∙ w),
     )

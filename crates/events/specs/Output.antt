@@ -16,6 +16,7 @@ use Rattle.events.specs.Perform.{Performed, lineDone}
 abbrev pub rowFor : ℕ → Outcome → List ℕ
 rowFor event o = rowOf event (o .number) (o .value) (o .cycles)
 
+-- The state that the next line meets.
 abbrev pub stateAfter : Performed → State
 stateAfter p = state (p .outcome .directory) (p .memory) (p .array)
 

@@ -6,12 +6,12 @@ ghost use Rattle.memory.specs.Parity.{memory};
 ghost use Rattle.access.specs.Access.{outcome, readCall, state, writeCall};
 ghost use Rattle.access.specs.Board.{boardAnswers};
 ghost use Rattle.access.specs.Masters.{externalCall, written};
-ghost use Rattle.lines.specs.Fields.{bytesOf};
-ghost use Rattle.events.specs.Perform.{afterAccess, blank, lineDone, performed};
+ghost use Rattle.lines.specs.Fields.{pairBytes};
+ghost use Rattle.events.specs.Perform.{accessEvent, zeroLog, lineDone, performed};
 use access::Outcome;
 use directory::Directory;
 use lines::Event;
-use lines::bytes_of;
+use lines::pair_bytes;
 use lines::scan;
 
 // The line's event with the board's answers. A malformed line answers 11.
@@ -66,7 +66,7 @@ fn perform_read(
     pcd: bool,
 ) -> Outcome
     ensures { λ r. ⌜ performed r (memory (now (ram .entry)) (now (parity .entry))) (now («data» .exit))
-        ≡ afterAccess (readCall (state given (memory (now (ram .entry)) (now (parity .entry))) (now («data» .entry))) address width pcd (boardAnswers address width) blank) ⌝ }
+        ≡ accessEvent (readCall (state given (memory (now (ram .entry)) (now (parity .entry))) (now («data» .entry))) address width pcd (boardAnswers address width) zeroLog) ⌝ }
 {
     let answers = access::board_answers(address, width);
     let mut log = [0u32; 96];
@@ -94,7 +94,7 @@ fn perform_write(
     value: u32,
 ) -> Outcome
     ensures { λ r. ⌜ performed r (memory (now (ram .exit)) (now (parity .exit))) (now («data» .exit))
-        ≡ afterAccess (writeCall (state given (memory (now (ram .entry)) (now (parity .entry))) (now («data» .entry))) address width value (boardAnswers address width) blank) ⌝ }
+        ≡ accessEvent (writeCall (state given (memory (now (ram .entry)) (now (parity .entry))) (now («data» .entry))) address width value (boardAnswers address width) zeroLog) ⌝ }
 {
     let answers = access::board_answers(address, width);
     let mut log = [0u32; 96];
@@ -121,9 +121,9 @@ fn perform_external(
 ) -> Outcome
     requires { ⌜ length (now pairs) ≤ 80 ⌝ }
     ensures { λ r. ⌜ written r (memory (now (ram .exit)) (now (parity .exit)))
-        ≡ externalCall given (memory (now (ram .entry)) (now (parity .entry))) address (bytesOf (now (pairs .entry))) ⌝ }
+        ≡ externalCall given (memory (now (ram .entry)) (now (parity .entry))) address (pairBytes (now (pairs .entry))) ⌝ }
 {
     let mut bytes = [0u8; 80];
-    let count = bytes_of(pairs, &mut bytes);
+    let count = pair_bytes(pairs, &mut bytes);
     access::external_write(given, ram, parity, address, &bytes[..count])
 }

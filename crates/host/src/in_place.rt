@@ -4,14 +4,14 @@ ghost use mathlib.Core.Path.{_≡_};
 ghost use mathlib.Core.Bool.{Bool};
 ghost use mathlib.Core.List.{List};
 ghost use Prim.Native.Nat.{ℕ};
-ghost use Rattle.directory.specs.Steps.{afterFlush, answer, directoryOf, snoopCall};
+ghost use Rattle.directory.specs.Steps.{afterFlush, directoryResult, directoryOf, snoopCall};
 ghost use Rattle.memory.specs.Parity.{memory};
 ghost use Rattle.access.specs.Access.{after, outcome, readCall, state, writeCall};
 ghost use Rattle.access.specs.Masters.{externalCall, written};
-use access::Walk;
+use access::AccessCursor;
 use access::read_step;
 use access::write_step;
-use directory::drop_in_place;
+use directory::invalidate_in_place;
 use doubleword::change_in_place;
 use memory::bytes_of;
 use memory::store_bytes;
@@ -32,7 +32,7 @@ pub struct CallResult {
     pub cycles: u32,
 }
 
-fn turned_away(number: u32) -> CallResult
+fn refused(number: u32) -> CallResult
     ensures { λ r. ⌜ r ≡ record { number = number; value = 0; cycles = 0 } ⌝ }
 {
     CallResult {
@@ -63,15 +63,15 @@ pub extern "C" fn unit486_read_in_place<'a>(
 {
     let number = input_number(ram, parity, data, answers, log, address, width);
     if number != 0 {
-        return turned_away(number);
+        return refused(number);
     }
     let bad = states_number(tags, valid, lru, address, width);
     if bad != 0 {
-        return turned_away(bad);
+        return refused(bad);
     }
     let mut operand = [0u8; 4];
-    let mut walk = Walk::start(address, width);
-    while 0 < walk.left {
+    let mut cursor = AccessCursor::start(address, width);
+    while 0 < cursor.left {
         let step = read_step(
             tags,
             valid,
@@ -83,16 +83,16 @@ pub extern "C" fn unit486_read_in_place<'a>(
             answers,
             log,
             &mut operand,
-            walk,
+            cursor,
         );
         let change = step.change;
         change_in_place(tags, valid, lru, step.line, change);
-        walk = walk.next(step.count, step.records);
+        cursor = cursor.next(step.count, step.records);
     }
     CallResult {
         number: 0,
         value: word_of(operand),
-        cycles: walk.records as u32,
+        cycles: cursor.records as u32,
     }
 }
 
@@ -118,16 +118,16 @@ pub extern "C" fn unit486_write_in_place<'a>(
 {
     let number = input_number(ram, parity, data, answers, log, address, width);
     if number != 0 {
-        return turned_away(number);
+        return refused(number);
     }
     let states = states_number(tags, valid, lru, address, width);
     let bad = or_else(value_number(width, value), states);
     if bad != 0 {
-        return turned_away(bad);
+        return refused(bad);
     }
     let operand = bytes_of(value);
-    let mut walk = Walk::start(address, width);
-    while 0 < walk.left {
+    let mut cursor = AccessCursor::start(address, width);
+    while 0 < cursor.left {
         let step = write_step(
             tags,
             valid,
@@ -138,16 +138,16 @@ pub extern "C" fn unit486_write_in_place<'a>(
             answers,
             log,
             &operand,
-            walk,
+            cursor,
         );
         let change = step.change;
         change_in_place(tags, valid, lru, step.line, change);
-        walk = walk.next(step.count, step.records);
+        cursor = cursor.next(step.count, step.records);
     }
     CallResult {
         number: 0,
         value: 0,
-        cycles: walk.records as u32,
+        cycles: cursor.records as u32,
     }
 }
 
@@ -178,7 +178,7 @@ pub extern "C" fn unit486_external_write_in_place<'a>(
         return bad;
     }
     store_bytes(bytes, 0, ram, parity, address as usize, count);
-    drop_in_place(tags, valid, nw, address);
+    invalidate_in_place(tags, valid, nw, address);
     0
 }
 
@@ -190,7 +190,7 @@ pub extern "C" fn unit486_snoop_in_place<'a>(
     nw: bool,
     address: u32,
 ) -> u32
-    ensures { λ r. ⌜ ((cd : Bool) → answer (directoryOf (now (tags .entry)) (now (valid .exit)) (now (lru .entry)) cd nw) r
+    ensures { λ r. ⌜ ((cd : Bool) → directoryResult (directoryOf (now (tags .entry)) (now (valid .exit)) (now (lru .entry)) cd nw) r
         ≡ snoopCall (directoryOf (now (tags .entry)) (now (valid .entry)) (now (lru .entry)) cd nw) address) ⌝ }
 {
     directory::snoop_in_place(tags, valid, lru, nw, address)

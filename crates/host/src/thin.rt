@@ -1,3 +1,4 @@
+// The one call on a directory by `&mut`; its proof is by hand, since the prover walks no reference to a struct by itself.
 ghost use mathlib.Core.Path.{_≡_};
 ghost use Rattle.directory.specs.Steps.{snoopCall};
 use directory::Directory;

@@ -12,7 +12,7 @@ use lib.Seq.{drop-cons}
 use borrow.Author.Tests.{ltb-true, ltb-false, lt-ltb, le-ltb, le-leb, lt-leb}
 use Rattle.laws.proofs.Tests.{by-test, both}
 use Rattle.lines.specs.declared.numbers.Number.the-variants.{Value, NotANumber}
-use Rattle.lines.specs.Number.{isDigit, allAre, valueAfter, valueOf, isNumber, numberOf, bitOf, digitsOf, decimal}
+use Rattle.lines.specs.Number.{isDigit, allAre, valueAfter, decimalValue, isNumber, numberOf, bitOf, digitsOf, decimal}
 
 -- one byte more is looked at, and none is left
 pub all-step : (test : ℕ → Bool) (l : List ℕ) (k : ℕ) → k < length l → allAre test (drop k l) ≡ (test (getD l k 0) && allAre test (drop (k + 1) l))
@@ -40,19 +40,19 @@ pub number-long : (field : List ℕ) → 10 < length field → NotANumber ≡ nu
 unfolding numberOf isNumber
 number-long field h = simp (lt-leb (length field) 10 h, and-false)
 
-pub number-other : (field : List ℕ) → allAre isDigit field ≡ false → NotANumber ≡ numberOf field
+number-other : (field : List ℕ) → allAre isDigit field ≡ false → NotANumber ≡ numberOf field
 unfolding numberOf isNumber
 number-other field e = simp (e, and-false)
 
-pub number-large : (field : List ℕ) → 4294967295 < valueOf field → NotANumber ≡ numberOf field
+pub number-large : (field : List ℕ) → 4294967295 < decimalValue field → NotANumber ≡ numberOf field
 unfolding numberOf isNumber
-number-large field h = simp (lt-leb (valueOf field) 4294967295 h, and-false)
+number-large field h = simp (lt-leb (decimalValue field) 4294967295 h, and-false)
 
 -- and those that are one
-pub number-value : (field : List ℕ) → 1 ≤ length field → length field ≤ 10 → allAre isDigit field ≡ true → valueOf field ≤ 4294967295 → Value (valueOf field) ≡ numberOf field
+pub number-value : (field : List ℕ) → 1 ≤ length field → length field ≤ 10 → allAre isDigit field ≡ true → decimalValue field ≤ 4294967295 → Value (decimalValue field) ≡ numberOf field
 unfolding numberOf isNumber
 number-value field some few digits small =
-    simp (le-leb 1 (length field) some, le-leb (length field) 10 few, digits, le-leb (valueOf field) 4294967295 small)
+    simp (le-leb 1 (length field) some, le-leb (length field) 10 few, digits, le-leb (decimalValue field) 4294967295 small)
 
 -- a byte that is no digit, from the k-th on, is one of all
 pub other-at : (field : List ℕ) (k : ℕ) → k < length field → isDigit (getD field k 0) ≡ false → allAre isDigit (drop k field) ≡ allAre isDigit field → NotANumber ≡ numberOf field
@@ -105,11 +105,11 @@ all-snoc test [] c a e = rw e
 all-snoc test (d ∷ l) c a e = let (h, t) = both (test d) (allAre test l) a in rw (h, all-snoc test l c t e)
 
 -- The text of a number has its value, digits only, and no more of them than its size asks for.
-digits-value : (most n : ℕ) → n < most → valueOf (digitsOf most n) ≡ n
+digits-value : (most n : ℕ) → n < most → decimalValue (digitsOf most n) ≡ n
 unfolding digitsOf valueAfter
 digits-value zero n h = absurd (omega (arith, h))
 digits-value (suc most) n h =
-    by-test (λ t. ltb n 10 ≡ t → valueOf (cond t [] (digitsOf most (n / 10)) ++ ((48 + n % 10) ∷ [])) ≡ n) (ltb n 10)
+    by-test (λ t. ltb n 10 ≡ t → decimalValue (cond t [] (digitsOf most (n / 10)) ++ ((48 + n % 10) ∷ [])) ≡ n) (ltb n 10)
     (λ _ e. omega (arith, ltb-true n 10 e))
     (λ _ e. let m : 10 ≤ n = ltb-false n 10 e in rw (value-snoc 0 (digitsOf most (n / 10)) (48 + n % 10), digits-value most (n / 10) (omega (arith, h))) (omega arith))
     refl
@@ -145,7 +145,7 @@ decimal-most n h = digits-most (suc n) 9 n (omega (arith, h))
 pub printed-scanned : (n : ℕ) → n ≤ 4294967295 → numberOf (decimal n) ≡ Value n
 unfolding decimal
 printed-scanned n h =
-    let v : valueOf (digitsOf (suc n) n) ≡ n = digits-value (suc n) n (omega arith) in
+    let v : decimalValue (digitsOf (suc n) n) ≡ n = digits-value (suc n) n (omega arith) in
     sym (rw v at (number-value (digitsOf (suc n) n) (digits-some n n) (decimal-most n h) (digits-all (suc n) n) (rw v h)))
 
 -- a field of one byte, and one of none or more

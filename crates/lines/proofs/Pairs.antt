@@ -6,7 +6,7 @@ use native.Mathlib.Numerals.{add-one}
 use native.Mathlib.Omega.{arith}
 use lib.ListN.{length, take, drop, getD, set, replicate, drop-of-length-le, length-drop, length-replicate}
 use lib.Seq.{sets, drop-cons, take-all, take-at, sets-eq, length-sets}
-use Rattle.lines.specs.Fields.{hexOf, bytesOf}
+use Rattle.lines.specs.Fields.{hexOf, pairBytes}
 
 -- the next byte of a text put in its place
 pub put-next : (out text : List ℕ) (k : ℕ) → k < length text → sets (set out k (getD text k 0)) (k + 1) (drop (k + 1) text) ≡ sets out k (drop k text)
@@ -16,33 +16,33 @@ pub put-none : (out text : List ℕ) (k : ℕ) → length text ≤ k → sets ou
 put-none out text k h = rw (drop-of-length-le text h)
 
 -- the next pair
-pairs-cons : (l : List ℕ) (k : ℕ) → 2 * k + 1 < length l → bytesOf (drop (2 * k) l) ≡ (hexOf (getD l (2 * k) 0) * 16 + hexOf (getD l (2 * k + 1) 0)) ∷ bytesOf (drop (2 * (k + 1)) l)
-unfolding bytesOf
+pairs-cons : (l : List ℕ) (k : ℕ) → 2 * k + 1 < length l → pairBytes (drop (2 * k) l) ≡ (hexOf (getD l (2 * k) 0) * 16 + hexOf (getD l (2 * k + 1) 0)) ∷ pairBytes (drop (2 * (k + 1)) l)
+unfolding pairBytes
 pairs-cons l k h =
     let e : 2 * (k + 1) ≡ suc (suc (2 * k)) = omega arith in
     rw (e, add-one (2 * k), drop-cons l (2 * k) 0 (omega arith), drop-cons l (suc (2 * k)) 0 (omega arith))
 
-pub pair-next : (out l : List ℕ) (k high low : ℕ) → 2 * k + 1 < length l → high ≡ hexOf (getD l (2 * k) 0) → low ≡ hexOf (getD l (2 * k + 1) 0) → sets (set out k (high * 16 + low)) (k + 1) (bytesOf (drop (2 * (k + 1)) l)) ≡ sets out k (bytesOf (drop (2 * k) l))
+pub pair-next : (out l : List ℕ) (k high low : ℕ) → 2 * k + 1 < length l → high ≡ hexOf (getD l (2 * k) 0) → low ≡ hexOf (getD l (2 * k + 1) 0) → sets (set out k (high * 16 + low)) (k + 1) (pairBytes (drop (2 * (k + 1)) l)) ≡ sets out k (pairBytes (drop (2 * k) l))
 pair-next out l k high low h e f = rw (e, f, pairs-cons l k h, add-one k)
 
 -- less than a pair says no byte
-pairs-short : (l : List ℕ) → length l ≤ 1 → bytesOf l ≡ []
-unfolding bytesOf
+pairs-short : (l : List ℕ) → length l ≤ 1 → pairBytes l ≡ []
+unfolding pairBytes
 pairs-short [] h = refl
 pairs-short (c ∷ []) h = refl
 pairs-short (c ∷ d ∷ l) h = absurd (omega (arith, h))
 
-pub pair-none : (out l : List ℕ) (k : ℕ) → length l / 2 ≤ k → sets out k (bytesOf (drop (2 * k) l)) ≡ out
+pub pair-none : (out l : List ℕ) (k : ℕ) → length l / 2 ≤ k → sets out k (pairBytes (drop (2 * k) l)) ≡ out
 pair-none out l k h = rw (pairs-short (drop (2 * k) l) (omega (arith, length-drop (2 * k) l)))
 
-pub pairs-length : (l : List ℕ) → length (bytesOf l) ≡ length l / 2
-unfolding bytesOf
+pub pairs-length : (l : List ℕ) → length (pairBytes l) ≡ length l / 2
+unfolding pairBytes
 pairs-length [] = omega arith
 pairs-length (c ∷ []) = omega arith
 pairs-length (c ∷ d ∷ l) = omega (arith, pairs-length l)
 
 -- bytes put at the start of zeros are what the start then holds
-pub front-bytes : (n : ℕ) (bytes : List ℕ) → length bytes ≤ n → take (length bytes) (sets (replicate n 0) 0 bytes) ≡ bytes
+front-bytes : (n : ℕ) (bytes : List ℕ) → length bytes ≤ n → take (length bytes) (sets (replicate n 0) 0 bytes) ≡ bytes
 front-bytes n bytes h =
     rw (sets-eq bytes (replicate n 0) 0 (omega (arith, length-replicate {A = ℕ} n 0))) (take-at bytes _ (length bytes) refl)
 

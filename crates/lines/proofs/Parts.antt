@@ -46,7 +46,7 @@ parts-more separator (c ∷ cs) h =
     (λ _ f. rw (parts-more separator cs (omega (arith, f))))
     h
 
-pub index-most : (separator : ℕ) (l : List ℕ) → indexOf separator l ≤ length l
+index-most : (separator : ℕ) (l : List ℕ) → indexOf separator l ≤ length l
 unfolding indexOf indexAfter
 index-most separator [] = omega arith
 index-most separator (c ∷ cs) =

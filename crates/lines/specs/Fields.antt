@@ -42,6 +42,7 @@ linesOf input = withoutEmptyEnd (partsOf newline input)
 abbrev pub isUpper : ℕ → Bool
 isUpper c = leb 65 c && leb c 70
 
+-- An uppercase hex digit.
 abbrev pub isHex : ℕ → Bool
 isHex c = isDigit c || isUpper c
 
@@ -54,7 +55,7 @@ unfoldable pub isPairs : List ℕ → Bool
 isPairs field = eqb (length field % 2) 0 && allAre isHex field
 
 -- The bytes that the pairs say.
-unfoldable pub bytesOf : List ℕ → List ℕ
-bytesOf [] = []
-bytesOf (c ∷ []) = []
-bytesOf (c ∷ d ∷ rest) = (hexOf c * 16 + hexOf d) ∷ bytesOf rest
+unfoldable pub pairBytes : List ℕ → List ℕ
+pairBytes [] = []
+pairBytes (c ∷ []) = []
+pairBytes (c ∷ d ∷ rest) = (hexOf c * 16 + hexOf d) ∷ pairBytes rest

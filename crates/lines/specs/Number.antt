@@ -21,17 +21,18 @@ unfoldable pub valueAfter : ℕ → List ℕ → ℕ
 valueAfter n [] = n
 valueAfter n (c ∷ cs) = valueAfter (n * 10 + (c - 48)) cs
 
-abbrev pub valueOf : List ℕ → ℕ
-valueOf digits = valueAfter 0 digits
+-- The number that digits say.
+abbrev pub decimalValue : List ℕ → ℕ
+decimalValue digits = valueAfter 0 digits
 
 -- "Other numbers: 1 to 10 decimal digits, up to 4,294,967,295"
 unfoldable pub isNumber : List ℕ → Bool
 isNumber field =
-    leb 1 (length field) && leb (length field) 10 && allAre isDigit field && leb (valueOf field) 4294967295
+    leb 1 (length field) && leb (length field) 10 && allAre isDigit field && leb (decimalValue field) 4294967295
 
 -- `Value` for such a field, `NotANumber` for any other.
 unfoldable pub numberOf : List ℕ → Number
-numberOf field = cond (isNumber field) (Value (valueOf field)) NotANumber
+numberOf field = cond (isNumber field) (Value (decimalValue field)) NotANumber
 
 -- "PCD, CD, NW one digit 0 or 1"
 unfoldable pub bitOf : List ℕ → Number

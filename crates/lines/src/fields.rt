@@ -4,7 +4,7 @@ ghost use Prim.Native.Nat.{_≤_};
 ghost use lib.ListN.{length};
 ghost use lib.Seq.{sets};
 ghost use Rattle.bytes.specs.Bytes.{indexOf};
-ghost use Rattle.lines.specs.Fields.{bytesOf, hexOf, isHex, isPairs};
+ghost use Rattle.lines.specs.Fields.{pairBytes, hexOf, isHex, isPairs};
 
 // The place of the first separator, or the text's length.
 pub fn end_of(text: &[u8], separator: u8) -> usize
@@ -43,9 +43,9 @@ fn hex_of(c: u8) -> u8
 }
 
 // Puts the bytes that the pairs say at the start of bytes, and answers how many there are.
-pub fn bytes_of(field: &[u8], bytes: &mut [u8]) -> usize
+pub fn pair_bytes(field: &[u8], bytes: &mut [u8]) -> usize
     requires { ⌜ length (now field) ≤ length (now bytes) ⌝ }
-    ensures { λ r. ⌜ (r ≡ length (bytesOf (now (field .entry)))) × (now (bytes .exit) ≡ sets (now (bytes .entry)) 0 (bytesOf (now (field .entry)))) ⌝ }
+    ensures { λ r. ⌜ (r ≡ length (pairBytes (now (field .entry)))) × (now (bytes .exit) ≡ sets (now (bytes .entry)) 0 (pairBytes (now (field .entry)))) ⌝ }
 {
     let count = field.len() / 2;
     let mut k: usize = 0;

@@ -4,8 +4,8 @@ mod numbers;
 mod rows;
 mod scanning;
 
-pub use fields::bytes_of;
 pub use fields::end_of;
+pub use fields::pair_bytes;
 pub use numbers::Number;
 pub use numbers::print_number;
 pub use numbers::scan_number;

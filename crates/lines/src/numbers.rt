@@ -12,6 +12,7 @@ pub enum Number {
     NotANumber,
 }
 
+// What a field says: a number of 1 to 10 decimal digits up to 4,294,967,295, or none.
 pub fn scan_number(field: &[u8]) -> Number
     ensures { λ r. ⌜ r ≡ numberOf (now (field .entry)) ⌝ }
 {

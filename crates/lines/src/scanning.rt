@@ -22,6 +22,7 @@ pub enum Event {
     Reset,
 }
 
+// The event of a line of at most 80 bytes; any other line is malformed.
 pub fn scan(line: &[u8]) -> Event
     ensures { λ r. ⌜ r ≡ scanned (now (line .entry)) ⌝ }
 {

@@ -9,12 +9,12 @@ unfoldable pub bytesAt : List ℕ → ℕ → ℕ → List ℕ
 bytesAt l i zero = []
 bytesAt l i (suc n) = getD l i 0 ∷ bytesAt l (suc i) n
 
--- "little-endian": the number of some bytes, and so many bytes of a number.
+-- "little-endian": the number that some bytes say.
 unfoldable pub valueOf : List ℕ → ℕ
 valueOf [] = 0
 valueOf (b ∷ bs) = b + 256 * valueOf bs
 
--- The lowest bytes of a number, the lowest first.
+-- So many bytes of a number, the lowest first.
 unfoldable pub bytesOf : ℕ → ℕ → List ℕ
 bytesOf zero v = []
 bytesOf (suc n) v = v % 256 ∷ bytesOf n (v / 256)

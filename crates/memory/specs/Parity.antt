@@ -23,7 +23,7 @@ onesOf (suc n) x = x % 2 + onesOf n (x / 2)
 unfoldable pub dpOf : ℕ → ℕ
 dpOf b = onesOf 8 b % 2
 
--- "bits 0 to 3 are DP0 to DP3": the bit of a lane of a parity byte, and the bit of a RAM byte.
+-- "bits 0 to 3 are DP0 to DP3": the bit of a lane of a parity byte.
 unfoldable pub laneBit : ℕ → ℕ → ℕ
 laneBit p lane = p / 2 ^ lane % 2
 
@@ -35,22 +35,22 @@ dpAt parity a = laneBit (getD parity (a / 4) 0) (a % 4)
 unfoldable pub withDp : ℕ → ℕ → ℕ → ℕ
 withDp p lane bit = p % 2 ^ lane + bit * 2 ^ lane + p % 16 / 2 ^ (lane + 1) * 2 ^ (lane + 1)
 
--- One byte put into RAM, with its parity; and bytes from an address on, which every writer does.
+-- One byte put into RAM, with its parity.
 unfoldable pub put : Memory → ℕ → ℕ → Memory
 put m a b =
     memory (set (m .ram) a b)
     (set (m .parity) (a / 4) (withDp (getD (m .parity) (a / 4) 0) (a % 4) (dpOf b)))
 
--- Bytes put in one after another, from an address on.
+-- Bytes put in one after another, from an address on: what every writer does.
 unfoldable pub stored : Memory → ℕ → List ℕ → Memory
 stored m a [] = m
 stored m a (b ∷ bs) = stored (put m a b) (suc a) bs
 
--- "wrong parity in a moved byte": of one byte, and of any of so many from an address on.
+-- "wrong parity in a moved byte": of one byte.
 unfoldable pub wrongAt : Memory → ℕ → Bool
 wrongAt m a = not (eqb (dpAt (m .parity) a) (dpOf (getD (m .ram) a 0)))
 
--- Whether any of so many bytes is wrong.
+-- Whether any of so many bytes from an address on is wrong.
 unfoldable pub wrongIn : Memory → ℕ → ℕ → Bool
 wrongIn m a zero = false
 wrongIn m a (suc n) = wrongAt m a || wrongIn m (suc a) n

@@ -8,7 +8,7 @@ use lib.Dec.{eqb, ltb}
 use lib.ListN.{length}
 use borrow.Author.Tests.{eq-eqb, ne-eqb, eqb-true, eqb-false, ltb-true, ltb-false, not-false}
 use Rattle.laws.proofs.Tests.{neither, cond-true, cond-false, same-or, by-test}
-use Rattle.bus.specs.Groups.{group, groups}
+use Rattle.bus.specs.Groups.{groupSize, groupCount}
 use Rattle.refusal.specs.Refusal.{when, orElse, badRam, memoryNumber, lentNumber, badWidth, badAnswers, argumentNumber, ramNumber, arrayNumber, viewInputNumber, externalNumber}
 
 -- neither of two numbers is met
@@ -106,8 +106,8 @@ pub record GoodArguments (ram address width answers log : ℕ) : Type 0 where
   pub some : 0 < width
   pub four : width ≤ 4
   pub inside : address + width ≤ ram
-  pub served : answers ≡ group * groups
-  pub room : 3 * (group * groups) ≤ log
+  pub served : answers ≡ groupSize * groupCount
+  pub room : 3 * (groupSize * groupCount) ≤ log
 
 width-good : (width : ℕ) → badWidth width ≡ false → (0 < width) × (width ≤ 4)
 width-good width e =
@@ -128,13 +128,13 @@ arguments-accepted ram address width answers log e =
     let q = or-zero (when (ltb ram (address + width)) 5) _ (p .1) in
     let r = or-zero (when (badAnswers answers) 6) _ (q .1) in
     let w = width-good width (when-zero (badWidth width) 4 (omega arith) (p .0)) in
-    let a = neither (not (eqb (length answers) (group * groups))) _ (when-zero (badAnswers answers) 6 (omega arith) (r .0)) in
+    let a = neither (not (eqb (length answers) (groupSize * groupCount))) _ (when-zero (badAnswers answers) 6 (omega arith) (r .0)) in
     record {
       some = w .0;
       four = w .1;
       inside = ltb-false ram (address + width) (when-zero (ltb ram (address + width)) 5 (omega arith) (q .0));
-      served = eqb-true (length answers) (group * groups) (not-false _ (a .0));
-      room = ltb-false log (3 * (group * groups)) (when-zero (ltb log (3 * (group * groups))) 7 (omega arith) (r .1));
+      served = eqb-true (length answers) (groupSize * groupCount) (not-false _ (a .0));
+      room = ltb-false log (3 * (groupSize * groupCount)) (when-zero (ltb log (3 * (groupSize * groupCount))) 7 (omega arith) (r .1));
     }
 
 -- 10

@@ -7,7 +7,7 @@ use lib.ListN.{length}
 use Rattle.directory.specs.declared.steps.Directory.{Directory}
 use Rattle.directory.specs.Address.{setOf}
 use Rattle.directory.specs.State.{stateIn}
-use Rattle.bus.specs.Groups.{group, groups}
+use Rattle.bus.specs.Groups.{groupSize, groupCount}
 
 -- A number where a test holds; and "Lowest number first": the first of two that is met.
 abbrev pub when : Bool → ℕ → ℕ
@@ -35,7 +35,7 @@ memoryNumber ram parity = orElse (ramNumber ram) (when (not (eqb parity (ram / 4
 unfoldable pub lentNumber : ℕ → ℕ → ℕ → ℕ
 lentNumber ram parity array = orElse (memoryNumber ram parity) (arrayNumber array)
 
--- "4. Width not 1, 2, 4. 5. Address + width beyond RAM"
+-- "4. Width not 1, 2, 4."
 abbrev pub badWidth : ℕ → Bool
 badWidth width = not (eqb width 1) && not (eqb width 2) && not (eqb width 4)
 
@@ -47,20 +47,21 @@ viewAddressNumber ram address = when (not (ltb address ram)) 5
 unfoldable pub viewInputNumber : ℕ → ℕ → ℕ → ℕ
 viewInputNumber ram array address = orElse (ramNumber ram) (orElse (arrayNumber array) (viewAddressNumber ram address))
 
--- "6. Not 32 answers, or one above 7."
+-- Whether any of some answers is above a limit.
 unfoldable pub anyAbove : ℕ → List ℕ → Bool
 anyAbove limit [] = false
 anyAbove limit (x ∷ xs) = ltb limit x || anyAbove limit xs
 
+-- "6. Not 32 answers, or one above 7."
 abbrev pub badAnswers : List ℕ → Bool
-badAnswers answers = not (eqb (length answers) (group * groups)) || anyAbove 7 answers
+badAnswers answers = not (eqb (length answers) (groupSize * groupCount)) || anyAbove 7 answers
 
--- 4 to 7, of a read's or a write's own arguments; "7. Log below 96 words.": three words for each answer.
+-- 4 to 7, of a read's or a write's own arguments: "5. Address + width beyond RAM"; "7. Log below 96 words.", three words for each answer.
 unfoldable pub argumentNumber : ℕ → ℕ → ℕ → List ℕ → ℕ → ℕ
 argumentNumber ram address width answers log =
     orElse (when (badWidth width) 4)
     (orElse (when (ltb ram (address + width)) 5)
-    (orElse (when (badAnswers answers) 6) (when (ltb log (3 * (group * groups))) 7)))
+    (orElse (when (badAnswers answers) 6) (when (ltb log (3 * (groupSize * groupCount))) 7)))
 
 -- "8. Value too large for its width."
 unfoldable pub valueNumber : ℕ → ℕ → ℕ
@@ -76,5 +77,6 @@ unfoldable pub statesIn : List ℕ → List Bool → List ℕ → ℕ → ℕ �
 statesIn tags valid lru address n =
     orElse (stateIn tags valid lru (setOf address)) (stateIn tags valid lru (setOf (address + n - 1)))
 
+-- The same, of a directory.
 abbrev pub statesOf : Directory → ℕ → ℕ → ℕ
 statesOf d address n = statesIn (d .tags) (d .valid) (d .lru) address n

@@ -15,14 +15,14 @@ use Rattle.directory.specs.Address.{setOf}
 use Rattle.directory.specs.State.{stateIn}
 use Rattle.directory.specs.Ways.{lookupIn}
 use Rattle.memory.specs.Bytes.{bytesAt}
-use Rattle.doubleword.specs.Doubleword.{slotOf}
+use Rattle.doubleword.specs.Doubleword.{dataOffset}
 use Rattle.refusal.specs.Refusal.{orElse, viewInputNumber}
 use Rattle.memory.proofs.Places.{bytes-length}
 use Rattle.refusal.proofs.Accepted.{or-zero, zero-or, first-or, GoodView, view-accepted}
 use Rattle.views.specs.View.{viewNumberIn, shown, viewIn}
 
 -- a part that lies within a list
-pub part-bytes : (l : List ℕ) (i n : ℕ) → i + n ≤ length l → take n (drop i l) ≡ bytesAt l i n
+part-bytes : (l : List ℕ) (i n : ℕ) → i + n ≤ length l → take n (drop i l) ≡ bytesAt l i n
 unfolding bytesAt
 part-bytes l i zero h = refl
 part-bytes l i (suc n) h =
@@ -63,7 +63,7 @@ module _ (tags : List ℕ) (valid : List Bool) (lru ram array : List ℕ) (addre
     unfolding viewIn
     view-done = cond-true _ _ _ (eq-eqb _ 0 (sym en ∙ z))
 
-    pub view-held : (way : ℕ) → lookupIn tags valid address ≡ At way → (slot : ℕ) → slot ≡ slotOf address way → (r : List ℕ) → r ≡ bytesAt array slot 16 → r ≡ viewIn tags valid lru ram array address
+    pub view-held : (way : ℕ) → lookupIn tags valid address ≡ At way → (slot : ℕ) → slot ≡ dataOffset address way → (r : List ℕ) → r ≡ bytesAt array slot 16 → r ≡ viewIn tags valid lru ram array address
     unfolding shown
     view-held way e slot s r k = k ∙ rw s (sym (view-done ∙ rw e))
 
@@ -74,7 +74,7 @@ module _ (tags : List ℕ) (valid : List Bool) (lru ram array : List ℕ) (addre
 -- a view has at most sixteen bytes
 shown-length : (f : Found) (ram array : List ℕ) (address : ℕ) → length (shown f ram array address) ≡ 16
 unfolding shown
-shown-length (At way) ram array address = bytes-length array (slotOf address way) 16
+shown-length (At way) ram array address = bytes-length array (dataOffset address way) 16
 shown-length Nothing ram array address = bytes-length ram (address / 16 * 16) 16
 
 pub view-most : (tags : List ℕ) (valid : List Bool) (lru ram array : List ℕ) (address : ℕ) → length (viewIn tags valid lru ram array address) ≤ 16

@@ -10,7 +10,7 @@ use Rattle.directory.specs.Address.{setOf}
 use Rattle.directory.specs.Ways.{lookupIn}
 use Rattle.directory.specs.State.{stateIn}
 use Rattle.memory.specs.Bytes.{bytesAt}
-use Rattle.doubleword.specs.Doubleword.{slotOf}
+use Rattle.doubleword.specs.Doubleword.{dataOffset}
 use Rattle.refusal.specs.Refusal.{orElse, viewInputNumber}
 
 -- "a companion question on the same inputs gives the view's number": 1, 3 and 5, then the state of its set.
@@ -20,7 +20,7 @@ viewNumberIn tags valid lru ram array address =
 
 -- "A line view is a part of the data array where the line is held, otherwise a part of RAM, always the sixteen bytes around the address": for each case of a lookup's answer.
 unfoldable pub shown : Found → List ℕ → List ℕ → ℕ → List ℕ
-shown (At way) ram array address = bytesAt array (slotOf address way) 16
+shown (At way) ram array address = bytesAt array (dataOffset address way) 16
 shown Nothing ram array address = bytesAt ram (address / 16 * 16) 16
 
 -- "a refused view is the empty part at RAM's start"

@@ -9,7 +9,7 @@ use directory::Found;
 use directory::lookup;
 use directory::set_of;
 use directory::state_number;
-use doubleword::slot_of;
+use doubleword::data_offset;
 use refusal::view_input_number;
 
 // The companion question: 0 where the view is accepted, else the number that turns it away.
@@ -46,7 +46,7 @@ pub fn view<'a>(
         return &ram[0..0];
     }
     match lookup(tags, valid, address) {
-        Found::At(way) => sixteen(data, slot_of(address, way)),
+        Found::At(way) => sixteen(data, data_offset(address, way)),
         Found::Nothing => sixteen(ram, (address / 16 * 16) as usize),
     }
 }

@@ -36,11 +36,11 @@ lookup-requires c κs = search needs
 enum-known-way : tie.Need-enum-known-way
 enum-known-way c = search needs
 
-slot-of-requires : tie.Need-slot-of-requires
-slot-of-requires c κs = lookup-below _ _ _ _ (found (c .before))
+data-offset-requires : tie.Need-data-offset-requires
+data-offset-requires c κs = lookup-below _ _ _ _ (found (c .before))
 
 sixteen-requires : tie.Need-sixteen-requires
-sixteen-requires c κs = slot-inside _ _ _ _ _ _ _ (c .before .before .before .before .before .before .view-number .ensures) (c .before .before .before .before .before .if1 .left) _ (c .slot-of .ensures .1)
+sixteen-requires c κs = slot-inside _ _ _ _ _ _ _ (c .before .before .before .before .before .before .view-number .ensures) (c .before .before .before .before .before .if1 .left) _ (c .data-offset .ensures .1)
 
 enum-told : tie.Need-enum-told
 enum-told c = search needs
@@ -55,7 +55,7 @@ sixteen-requires-2 : tie.Need-sixteen-requires-2
 sixteen-requires-2 c κs = line-inside _ _ _ _ _ _ _ (c .before .before .before .before .view-number .ensures) (c .before .before .before .if1 .left)
 
 returns-2 : tie.Need-returns-2
-returns-2 c = view-held _ _ _ _ _ _ _ (c .before .before .before .before .before .before .before .view-number .ensures) (c .before .before .before .before .before .before .if1 .left) _ (found (c .before .before .before)) _ (c .before .slot-of .ensures .0) _ (c .sixteen .ensures)
+returns-2 c = view-held _ _ _ _ _ _ _ (c .before .before .before .before .before .before .before .view-number .ensures) (c .before .before .before .before .before .before .if1 .left) _ (found (c .before .before .before)) _ (c .before .data-offset .ensures .0) _ (c .sixteen .ensures)
 
 returns-3 : tie.Need-returns-3
 returns-3 c = view-missed _ _ _ _ _ _ _ (c .before .before .before .before .before .view-number .ensures) (c .before .before .before .before .if1 .left) (missing (c .before)) _ (c .sixteen2 .ensures)
@@ -71,7 +71,7 @@ view-spec =
     returns
     lookup-requires
     enum-known-way
-    slot-of-requires
+    data-offset-requires
     sixteen-requires
     enum-told
     mul-sixteen

@@ -1,6 +1,6 @@
-use Rattle.access.proofs.Calls.{path-begin, read-input-refused, read-state-refused, read-done}
-use Rattle.access.proofs.Walking.{ReadGoing, reading-begin, reading-next, keep-changed, path-lengths, path-more, walk-less, walk-path, walk-steps}
-use Rattle.access.specs.Walks.{startWalk, restOf, Path}
+use Rattle.access.proofs.Calls.{needs-begin, read-input-refused, read-state-refused, read-done}
+use Rattle.access.proofs.AccessLoop.{ReadInvariant, reading-begin, reading-next, keep-changed, needs-lengths, needs-more, cursor-less, cursor-needs, cursor-steps}
+use Rattle.access.specs.AccessLoop.{accessStart, restOf, AccessNeeds}
 use Rattle.access.specs.Access.{state, allOf, readOne}
 use lib.ListN.{length, replicate}
 use Rattle.memory.specs.Parity.{memory}
@@ -13,10 +13,10 @@ use Rattle.access.proofs.reading.read.Statement.{statement}
 use Rattle.access.proofs.reading.read.Tie as tie
 
 abbrev Inv-loop : tie.InvT-loop
-Inv-loop ram parity data₀ address width pcd answers log₀ given₀ number bad operand₀ walk₀ «data» log given operand walk = ReadGoing pcd answers (allOf (readOne pcd) (state given₀ (memory ram parity) data₀) (restOf (startWalk address width) answers)) log₀ (replicate 4 0) walk (state given (memory ram parity) «data») log operand × Path walk (length ram) (length parity) (length data₀) (length answers) (length log₀) 4 × (length «data» ≡ length data₀) × (length log ≡ length log₀) × (length operand ≡ 4)
+Inv-loop ram parity data₀ address width pcd answers log₀ given₀ number bad operand₀ walk₀ «data» log given operand cursor = ReadInvariant pcd answers (allOf (readOne pcd) (state given₀ (memory ram parity) data₀) (restOf (accessStart address width) answers)) log₀ (replicate 4 0) cursor (state given (memory ram parity) «data») log operand × AccessNeeds cursor (length ram) (length parity) (length data₀) (length answers) (length log₀) 4 × (length «data» ≡ length data₀) × (length log ≡ length log₀) × (length operand ≡ 4)
 
 abbrev μ-loop : tie.MeasureT-loop
-μ-loop ram parity data₀ address width pcd answers log₀ given₀ number bad operand₀ walk₀ «data» log given operand walk = walk .left
+μ-loop ram parity data₀ address width pcd answers log₀ given₀ number bad operand₀ walk₀ «data» log given operand cursor = cursor .left
 
 input-number-requires : tie.Need-input-number-requires Inv-loop μ-loop
 input-number-requires c κs = search needs
@@ -52,13 +52,13 @@ start-requires : tie.Need-start-requires Inv-loop μ-loop
 start-requires c κs = search needs
 
 loop-holds : tie.Need-loop-holds Inv-loop μ-loop
-loop-holds c = let a = c .before .before .before .before .before .before .before .before .before .before .before .before .before .before .before .before .args in rw (c .start .ensures) (reading-begin _ _ _ _ _ _ refl refl, path-begin (a .t1) (memory (now (a .ram)) (now (a .parity))) (now (a .«data»)) (a .address) (a .width) (now (a .answers)) (now (a .log)) _ (c .before .before .before .before .before .before .before .before .input-number .ensures) (c .before .before .before .before .before .before .before .if1 .left), refl, refl, refl)
+loop-holds c = let a = c .before .before .before .before .before .before .before .before .before .before .before .before .before .before .before .before .args in rw (c .start .ensures) (reading-begin _ _ _ _ _ _ refl refl, needs-begin (a .t1) (memory (now (a .ram)) (now (a .parity))) (now (a .«data»)) (a .address) (a .width) (now (a .answers)) (now (a .log)) _ (c .before .before .before .before .before .before .before .before .input-number .ensures) (c .before .before .before .before .before .before .before .if1 .left), refl, refl, refl)
 
 slice-aggregate-read-step : tie.Need-slice-aggregate-read-step Inv-loop μ-loop
 slice-aggregate-read-step c = search needs
 
 read-step-requires : tie.Need-read-step-requires Inv-loop μ-loop
-read-step-requires c κs = (c .before .before .before .before .before .before .before .if3 .taken, path-lengths refl refl (c .before .before .before .before .before .before .before .before .before .loop .inv .2) (c .before .before .before .before .before .before .before .before .before .loop .inv .3) (c .before .before .before .before .before .before .before .before .before .loop .inv .4) (c .before .before .before .before .before .before .before .before .before .loop .inv .1))
+read-step-requires c κs = (c .before .before .before .before .before .before .before .if3 .taken, needs-lengths refl refl (c .before .before .before .before .before .before .before .before .before .loop .inv .2) (c .before .before .before .before .before .before .before .before .before .loop .inv .3) (c .before .before .before .before .before .before .before .before .before .loop .inv .4) (c .before .before .before .before .before .before .before .before .before .loop .inv .1))
 
 enum-told : tie.Need-enum-told Inv-loop μ-loop
 enum-told c = search needs
@@ -67,14 +67,14 @@ changed-by-requires : tie.Need-changed-by-requires Inv-loop μ-loop
 changed-by-requires c κs = c .before .before .before .before .before .before .read-step .ensures .below
 
 next-requires : tie.Need-next-requires Inv-loop μ-loop
-next-requires c κs = walk-steps _ _ _ _ _ _ _ _ _ (c .before .before .before .before .before .before .read-step .ensures .counts) (c .before .before .before .before .before .before .read-step .ensures .most) (c .before .before .before .before .before .before .before .before .before .before .before .before .before .before .before .before .loop .inv .1)
+next-requires c κs = cursor-steps _ _ _ _ _ _ _ _ _ (c .before .before .before .before .before .before .read-step .ensures .counts) (c .before .before .before .before .before .before .read-step .ensures .most) (c .before .before .before .before .before .before .before .before .before .before .before .before .before .before .before .before .loop .inv .1)
 
 loop-less : tie.Need-loop-less Inv-loop μ-loop
-loop-less c = walk-less _ _ _ _ (c .before .before .before .before .before .before .before .before .before .before .before .before .before .before .before .if3 .taken) (c .before .before .before .before .before .before .before .read-step .ensures .counts) (c .next .ensures)
+loop-less c = cursor-less _ _ _ _ (c .before .before .before .before .before .before .before .before .before .before .before .before .before .before .before .if3 .taken) (c .before .before .before .before .before .before .before .read-step .ensures .counts) (c .next .ensures)
 
 loop-again : tie.Need-loop-again Inv-loop μ-loop
 unfolding readOne
-loop-again c = (reading-next _ _ _ _ _ _ _ _ _ _ _ _ _ _ (c .before .before .before .before .before .before .before .before .before .before .before .before .before .before .before .if3 .taken) (path-more _ _ _ _ _ _ _ (c .before .before .before .before .before .before .before .before .before .before .before .before .before .before .before .before .before .loop .inv .1) (c .before .before .before .before .before .before .before .before .before .before .before .before .before .before .before .if3 .taken)) (c .before .before .before .before .before .before .before .before .before .before .before .before .before .before .before .before .before .loop .inv .0) (c .before .before .before .before .before .before .before .read-step .ensures) (⊎-elim (λ w. keep-changed _ _ _ _ (w .1 .given .1) (w .2)) (λ w. w .2 ∙ w .1 .ensures) (c .before .match .came)) (c .next .ensures), walk-path _ _ _ _ (c .before .before .before .before .before .before .before .before .before .before .before .before .before .before .before .if3 .taken) (c .before .before .before .before .before .before .before .read-step .ensures .counts) (c .next .ensures) _ _ _ _ _ _ (c .before .before .before .before .before .before .before .read-step .ensures .most) (c .before .before .before .before .before .before .before .before .before .before .before .before .before .before .before .before .before .loop .inv .1), c .before .before .before .before .before .before .before .read-step .kept .1 .1 .1 .1 .1 .1 .0 ∙ c .before .before .before .before .before .before .before .before .before .before .before .before .before .before .before .before .before .loop .inv .2, c .before .before .before .before .before .before .before .read-step .kept .1 .1 .1 .1 .1 .1 .1 .1 .0 ∙ c .before .before .before .before .before .before .before .before .before .before .before .before .before .before .before .before .before .loop .inv .3, c .before .before .before .before .before .before .before .read-step .kept .1 .1 .1 .1 .1 .1 .1 .1 .1 .0 ∙ c .before .before .before .before .before .before .before .before .before .before .before .before .before .before .before .before .before .loop .inv .4)
+loop-again c = (reading-next _ _ _ _ _ _ _ _ _ _ _ _ _ _ (c .before .before .before .before .before .before .before .before .before .before .before .before .before .before .before .if3 .taken) (needs-more _ _ _ _ _ _ _ (c .before .before .before .before .before .before .before .before .before .before .before .before .before .before .before .before .before .loop .inv .1) (c .before .before .before .before .before .before .before .before .before .before .before .before .before .before .before .if3 .taken)) (c .before .before .before .before .before .before .before .before .before .before .before .before .before .before .before .before .before .loop .inv .0) (c .before .before .before .before .before .before .before .read-step .ensures) (⊎-elim (λ w. keep-changed _ _ _ _ (w .1 .given .1) (w .2)) (λ w. w .2 ∙ w .1 .ensures) (c .before .match .came)) (c .next .ensures), cursor-needs _ _ _ _ (c .before .before .before .before .before .before .before .before .before .before .before .before .before .before .before .if3 .taken) (c .before .before .before .before .before .before .before .read-step .ensures .counts) (c .next .ensures) _ _ _ _ _ _ (c .before .before .before .before .before .before .before .read-step .ensures .most) (c .before .before .before .before .before .before .before .before .before .before .before .before .before .before .before .before .before .loop .inv .1), c .before .before .before .before .before .before .before .read-step .kept .1 .1 .1 .1 .1 .1 .0 ∙ c .before .before .before .before .before .before .before .before .before .before .before .before .before .before .before .before .before .loop .inv .2, c .before .before .before .before .before .before .before .read-step .kept .1 .1 .1 .1 .1 .1 .1 .1 .0 ∙ c .before .before .before .before .before .before .before .before .before .before .before .before .before .before .before .before .before .loop .inv .3, c .before .before .before .before .before .before .before .read-step .kept .1 .1 .1 .1 .1 .1 .1 .1 .1 .0 ∙ c .before .before .before .before .before .before .before .before .before .before .before .before .before .before .before .before .before .loop .inv .4)
 
 word-of-requires : tie.Need-word-of-requires Inv-loop μ-loop
 word-of-requires c κs = search needs

@@ -1,6 +1,6 @@
-use Rattle.access.proofs.Calls.{path-begin, write-input-refused, write-later-refused, write-done}
-use Rattle.access.proofs.Walking.{Going, going-begin, writing-next, keep-changed, path-lengths, path-more, walk-less, walk-path, walk-steps}
-use Rattle.access.specs.Walks.{startWalk, restOf, Path}
+use Rattle.access.proofs.Calls.{needs-begin, write-input-refused, write-later-refused, write-done}
+use Rattle.access.proofs.AccessLoop.{AccessInvariant, access-invariant-begin, writing-next, keep-changed, needs-lengths, needs-more, cursor-less, cursor-needs, cursor-steps}
+use Rattle.access.specs.AccessLoop.{accessStart, restOf, AccessNeeds}
 use Rattle.access.specs.Access.{state, allOf, writeOne}
 use lib.ListN.{length}
 use Rattle.memory.specs.Parity.{memory}
@@ -14,10 +14,10 @@ use Rattle.access.proofs.writing.write.Statement.{statement}
 use Rattle.access.proofs.writing.write.Tie as tie
 
 abbrev Inv-loop : tie.InvT-loop
-Inv-loop ram₀ parity₀ data₀ address width value answers log₀ given₀ number states bad operand walk₀ ram parity «data» log given walk = Going (writeOne operand) answers (allOf (writeOne operand) (state given₀ (memory ram₀ parity₀) data₀) (restOf (startWalk address width) answers)) log₀ walk (state given (memory ram parity) «data») log × Path walk (length ram₀) (length parity₀) (length data₀) (length answers) (length log₀) (length operand) × (length «data» ≡ length data₀) × (length log ≡ length log₀) × (length ram ≡ length ram₀) × (length parity ≡ length parity₀)
+Inv-loop ram₀ parity₀ data₀ address width value answers log₀ given₀ number states bad operand walk₀ ram parity «data» log given cursor = AccessInvariant (writeOne operand) answers (allOf (writeOne operand) (state given₀ (memory ram₀ parity₀) data₀) (restOf (accessStart address width) answers)) log₀ cursor (state given (memory ram parity) «data») log × AccessNeeds cursor (length ram₀) (length parity₀) (length data₀) (length answers) (length log₀) (length operand) × (length «data» ≡ length data₀) × (length log ≡ length log₀) × (length ram ≡ length ram₀) × (length parity ≡ length parity₀)
 
 abbrev μ-loop : tie.MeasureT-loop
-μ-loop ram₀ parity₀ data₀ address width value answers log₀ given₀ number states bad operand walk₀ ram parity «data» log given walk = walk .left
+μ-loop ram₀ parity₀ data₀ address width value answers log₀ given₀ number states bad operand walk₀ ram parity «data» log given cursor = cursor .left
 
 input-number-requires : tie.Need-input-number-requires Inv-loop μ-loop
 input-number-requires c κs = search needs
@@ -75,13 +75,13 @@ start-requires c κs = search needs
 
 loop-holds : tie.Need-loop-holds Inv-loop μ-loop
 unfolding bytesOf
-loop-holds c = let a = c .before .before .before .before .before .before .before .before .before .before .before .before .before .before .before .before .before .before .before .before .before .args in rw (c .start .ensures, c .before .bytes-of .ensures) (going-begin _ _ _ _ _ refl, path-begin (a .t1) (memory (now (a .ram)) (now (a .parity))) (now (a .«data»)) (a .address) (a .width) (now (a .answers)) (now (a .log)) _ (c .before .before .before .before .before .before .before .before .before .before .before .input-number .ensures) (c .before .before .before .before .before .before .before .before .before .before .if1 .left), refl, refl, refl, refl)
+loop-holds c = let a = c .before .before .before .before .before .before .before .before .before .before .before .before .before .before .before .before .before .before .before .before .before .args in rw (c .start .ensures, c .before .bytes-of .ensures) (access-invariant-begin _ _ _ _ _ refl, needs-begin (a .t1) (memory (now (a .ram)) (now (a .parity))) (now (a .«data»)) (a .address) (a .width) (now (a .answers)) (now (a .log)) _ (c .before .before .before .before .before .before .before .before .before .before .before .input-number .ensures) (c .before .before .before .before .before .before .before .before .before .before .if1 .left), refl, refl, refl, refl)
 
 slice-aggregate-write-step : tie.Need-slice-aggregate-write-step Inv-loop μ-loop
 slice-aggregate-write-step c = search needs
 
 write-step-requires : tie.Need-write-step-requires Inv-loop μ-loop
-write-step-requires c κs = (c .before .before .before .before .before .before .before .before .if3 .taken, path-lengths (c .before .before .before .before .before .before .before .before .before .before .loop .inv .4) (c .before .before .before .before .before .before .before .before .before .before .loop .inv .5) (c .before .before .before .before .before .before .before .before .before .before .loop .inv .2) (c .before .before .before .before .before .before .before .before .before .before .loop .inv .3) refl (c .before .before .before .before .before .before .before .before .before .before .loop .inv .1))
+write-step-requires c κs = (c .before .before .before .before .before .before .before .before .if3 .taken, needs-lengths (c .before .before .before .before .before .before .before .before .before .before .loop .inv .4) (c .before .before .before .before .before .before .before .before .before .before .loop .inv .5) (c .before .before .before .before .before .before .before .before .before .before .loop .inv .2) (c .before .before .before .before .before .before .before .before .before .before .loop .inv .3) refl (c .before .before .before .before .before .before .before .before .before .before .loop .inv .1))
 
 enum-told : tie.Need-enum-told Inv-loop μ-loop
 enum-told c = search needs
@@ -90,14 +90,14 @@ changed-by-requires : tie.Need-changed-by-requires Inv-loop μ-loop
 changed-by-requires c κs = c .before .before .before .before .before .before .before .before .before .write-step .ensures .below
 
 next-requires : tie.Need-next-requires Inv-loop μ-loop
-next-requires c κs = walk-steps _ _ _ _ _ _ _ _ _ (c .before .before .before .before .before .before .before .before .before .write-step .ensures .counts) (c .before .before .before .before .before .before .before .before .before .write-step .ensures .most) (c .before .before .before .before .before .before .before .before .before .before .before .before .before .before .before .before .before .before .before .before .loop .inv .1)
+next-requires c κs = cursor-steps _ _ _ _ _ _ _ _ _ (c .before .before .before .before .before .before .before .before .before .write-step .ensures .counts) (c .before .before .before .before .before .before .before .before .before .write-step .ensures .most) (c .before .before .before .before .before .before .before .before .before .before .before .before .before .before .before .before .before .before .before .before .loop .inv .1)
 
 loop-less : tie.Need-loop-less Inv-loop μ-loop
-loop-less c = walk-less _ _ _ _ (c .before .before .before .before .before .before .before .before .before .before .before .before .before .before .before .before .before .before .before .if3 .taken) (c .before .before .before .before .before .before .before .before .before .before .write-step .ensures .counts) (c .next .ensures)
+loop-less c = cursor-less _ _ _ _ (c .before .before .before .before .before .before .before .before .before .before .before .before .before .before .before .before .before .before .before .if3 .taken) (c .before .before .before .before .before .before .before .before .before .before .write-step .ensures .counts) (c .next .ensures)
 
 loop-again : tie.Need-loop-again Inv-loop μ-loop
 unfolding writeOne
-loop-again c = (writing-next _ _ _ _ _ _ _ _ _ _ _ _ _ (c .before .before .before .before .before .before .before .before .before .before .before .before .before .before .before .before .before .before .before .if3 .taken) (path-more _ _ _ _ _ _ _ (c .before .before .before .before .before .before .before .before .before .before .before .before .before .before .before .before .before .before .before .before .before .loop .inv .1) (c .before .before .before .before .before .before .before .before .before .before .before .before .before .before .before .before .before .before .before .if3 .taken)) (c .before .before .before .before .before .before .before .before .before .before .before .before .before .before .before .before .before .before .before .before .before .loop .inv .0) (c .before .before .before .before .before .before .before .before .before .before .write-step .ensures) (⊎-elim (λ w. keep-changed _ _ _ _ (w .1 .given .1) (w .2)) (λ w. w .2 ∙ w .1 .ensures) (c .before .match .came)) (c .next .ensures), walk-path _ _ _ _ (c .before .before .before .before .before .before .before .before .before .before .before .before .before .before .before .before .before .before .before .if3 .taken) (c .before .before .before .before .before .before .before .before .before .before .write-step .ensures .counts) (c .next .ensures) _ _ _ _ _ _ (c .before .before .before .before .before .before .before .before .before .before .write-step .ensures .most) (c .before .before .before .before .before .before .before .before .before .before .before .before .before .before .before .before .before .before .before .before .before .loop .inv .1), c .before .before .before .before .before .before .before .before .before .before .write-step .kept .1 .1 .1 .1 .1 .0 ∙ c .before .before .before .before .before .before .before .before .before .before .before .before .before .before .before .before .before .before .before .before .before .loop .inv .2, c .before .before .before .before .before .before .before .before .before .before .write-step .kept .1 .1 .1 .1 .1 .1 .1 .0 ∙ c .before .before .before .before .before .before .before .before .before .before .before .before .before .before .before .before .before .before .before .before .before .loop .inv .3, c .before .before .before .before .before .before .before .before .before .before .write-step .kept .1 .1 .1 .0 ∙ c .before .before .before .before .before .before .before .before .before .before .before .before .before .before .before .before .before .before .before .before .before .loop .inv .4, c .before .before .before .before .before .before .before .before .before .before .write-step .kept .1 .1 .1 .1 .0 ∙ c .before .before .before .before .before .before .before .before .before .before .before .before .before .before .before .before .before .before .before .before .before .loop .inv .5)
+loop-again c = (writing-next _ _ _ _ _ _ _ _ _ _ _ _ _ (c .before .before .before .before .before .before .before .before .before .before .before .before .before .before .before .before .before .before .before .if3 .taken) (needs-more _ _ _ _ _ _ _ (c .before .before .before .before .before .before .before .before .before .before .before .before .before .before .before .before .before .before .before .before .before .loop .inv .1) (c .before .before .before .before .before .before .before .before .before .before .before .before .before .before .before .before .before .before .before .if3 .taken)) (c .before .before .before .before .before .before .before .before .before .before .before .before .before .before .before .before .before .before .before .before .before .loop .inv .0) (c .before .before .before .before .before .before .before .before .before .before .write-step .ensures) (⊎-elim (λ w. keep-changed _ _ _ _ (w .1 .given .1) (w .2)) (λ w. w .2 ∙ w .1 .ensures) (c .before .match .came)) (c .next .ensures), cursor-needs _ _ _ _ (c .before .before .before .before .before .before .before .before .before .before .before .before .before .before .before .before .before .before .before .if3 .taken) (c .before .before .before .before .before .before .before .before .before .before .write-step .ensures .counts) (c .next .ensures) _ _ _ _ _ _ (c .before .before .before .before .before .before .before .before .before .before .write-step .ensures .most) (c .before .before .before .before .before .before .before .before .before .before .before .before .before .before .before .before .before .before .before .before .before .loop .inv .1), c .before .before .before .before .before .before .before .before .before .before .write-step .kept .1 .1 .1 .1 .1 .0 ∙ c .before .before .before .before .before .before .before .before .before .before .before .before .before .before .before .before .before .before .before .before .before .loop .inv .2, c .before .before .before .before .before .before .before .before .before .before .write-step .kept .1 .1 .1 .1 .1 .1 .1 .0 ∙ c .before .before .before .before .before .before .before .before .before .before .before .before .before .before .before .before .before .before .before .before .before .loop .inv .3, c .before .before .before .before .before .before .before .before .before .before .write-step .kept .1 .1 .1 .0 ∙ c .before .before .before .before .before .before .before .before .before .before .before .before .before .before .before .before .before .before .before .before .before .loop .inv .4, c .before .before .before .before .before .before .before .before .before .before .write-step .kept .1 .1 .1 .1 .0 ∙ c .before .before .before .before .before .before .before .before .before .before .before .before .before .before .before .before .before .before .before .before .before .loop .inv .5)
 
 cast-t31 : tie.Need-cast-t31 Inv-loop μ-loop
 cast-t31 c = omega (arith, c .before .before .before .loop .inv .1 .made, c .before .before .before .loop .inv .1 .last)

@@ -1,7 +1,7 @@
-use Rattle.access.proofs.Walking.{path-more, group-is, group-length, walk-spot, write-step-left}
+use Rattle.access.proofs.AccessLoop.{needs-more, group-is, group-length, cursor-doubleword, write-step-left}
 use Rattle.doubleword.proofs.Doublewords.{writes-below}
 use Prim.Native.Nat.{ℕ}
-use Rattle.doubleword.specs.Moves.{doublewordOf}
+use Rattle.doubleword.specs.DoublewordCode.{doublewordOf}
 use Rattle.doubleword.specs.Doubleword.{writeDone}
 use Rattle.doubleword.specs.declared.change.Wanted.{Wanted}
 use Rattle.directory.specs.Ways.{lookupIn}
@@ -34,7 +34,7 @@ part-group-end : tie.Need-part-group-end
 part-group-end c = search needs
 
 write-doubleword-requires : tie.Need-write-doubleword-requires
-write-doubleword-requires c κs = let a = c .before .before .before .before .before .before .before .before .before .before .before .before .before .args in let s = walk-spot _ _ _ _ _ _ _ _ _ _ _ (c .before .before .before .before .before .before .before .before .before .before .before .before .before .pre .0) (c .before .before .before .before .before .before .wanted .ensures) (c .before .before .before .before .before .before .before .before .before .before .before .before .before .pre .1) refl refl (group-length (now (a .answers)) (a .walk .group * 16) (a .walk .group * 16 + 16) refl (omega (arith, path-more _ _ _ _ _ _ _ (c .before .before .before .before .before .before .before .before .before .before .before .before .before .pre .1) (c .before .before .before .before .before .before .before .before .before .before .before .before .before .pre .0), c .before .before .before .before .before .before .before .before .before .before .before .before .before .pre .1 .served))) in (s .0, c .before .before .before .before .before .before .before .before .before .before .before .before .before .pre .1 .lines, s .1)
+write-doubleword-requires c κs = let a = c .before .before .before .before .before .before .before .before .before .before .before .before .before .args in let s = cursor-doubleword _ _ _ _ _ _ _ _ _ _ _ (c .before .before .before .before .before .before .before .before .before .before .before .before .before .pre .0) (c .before .before .before .before .before .before .wanted .ensures) (c .before .before .before .before .before .before .before .before .before .before .before .before .before .pre .1) refl refl (group-length (now (a .answers)) (a .cursor .group * 16) (a .cursor .group * 16 + 16) refl (omega (arith, needs-more _ _ _ _ _ _ _ (c .before .before .before .before .before .before .before .before .before .before .before .before .before .pre .1) (c .before .before .before .before .before .before .before .before .before .before .before .before .before .pre .0), c .before .before .before .before .before .before .before .before .before .before .before .before .before .pre .1 .served))) in (s .0, c .before .before .before .before .before .before .before .before .before .before .before .before .before .pre .1 .lines, s .1)
 
 same-length : tie.Need-same-length
 same-length c = c .before .before .before .before .before .before .before .before .write-doubleword .kept .1 .1 .1 .0
@@ -49,7 +49,7 @@ same-length-4 : tie.Need-same-length-4
 same-length-4 c = c .before .before .before .before .before .before .before .before .write-doubleword .kept .1 .1 .1 .1 .1 .1 .1 .0
 
 returns : tie.Need-returns
-returns c = let a = c .before .before .before .before .before .before .before .before .before .before .before .before .before .before .before .before .before .before .before .before .before .before .args in write-step-left _ _ _ _ (c .before .before .before .before .before .before .before .before .before .before .before .before .before .before .before .wanted .ensures) (group-is (now (a .answers)) (a .walk .group * 16) (a .walk .group * 16 + 16) refl) _ (writes-below _ _ _ _ _ _ _ (c .before .before .before .before .before .before .before .before .write-doubleword .ensures)) (λ (w : Wanted) (xs : List ℕ). writeDone (lookupIn (now (a .tags)) (now (a .valid)) (w .line)) (a .stays) (memory (now (a .ram)) (now (a .parity))) (now (a .«data»)) (now (a .operand)) (doublewordOf w xs)) _ _ _ _ (c .before .before .before .before .before .before .before .before .write-doubleword .ensures)
+returns c = let a = c .before .before .before .before .before .before .before .before .before .before .before .before .before .before .before .before .before .before .before .before .before .before .args in write-step-left _ _ _ _ (c .before .before .before .before .before .before .before .before .before .before .before .before .before .before .before .wanted .ensures) (group-is (now (a .answers)) (a .cursor .group * 16) (a .cursor .group * 16 + 16) refl) _ (writes-below _ _ _ _ _ _ _ (c .before .before .before .before .before .before .before .before .write-doubleword .ensures)) (λ (w : Wanted) (xs : List ℕ). writeDone (lookupIn (now (a .tags)) (now (a .valid)) (w .line)) (a .stays) (memory (now (a .ram)) (now (a .parity))) (now (a .«data»)) (now (a .operand)) (doublewordOf w xs)) _ _ _ _ (c .before .before .before .before .before .before .before .before .write-doubleword .ensures)
 
 pub write-step-spec : {M : Type 1} → statement M
 write-step-spec =

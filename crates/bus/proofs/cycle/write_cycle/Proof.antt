@@ -2,7 +2,7 @@ use native.Mathlib.Omega.{arith}
 use mathlib.Core.Path.{refl}
 use denote.Ref.{now}
 use Rattle.memory.specs.Parity.{memory}
-use Rattle.bus.proofs.Cycling.{cycle-fits, write-cycle-left}
+use Rattle.bus.proofs.CycleLoop.{cycle-fits, write-cycle-left}
 use borrow.Author.Needs.{needs}
 use Rattle.bus.proofs.cycle.write_cycle.Statement.{statement}
 use Rattle.bus.proofs.cycle.write_cycle.Tie as tie

@@ -10,8 +10,8 @@ set-of-requires c κs = search needs
 victim-requires : tie.Need-victim-requires
 victim-requires c κs = search needs
 
-slot-of-requires : tie.Need-slot-of-requires
-slot-of-requires c κs = rw (c .before .victim .ensures) (victim-below _ _ _)
+data-offset-requires : tie.Need-data-offset-requires
+data-offset-requires c κs = rw (c .before .victim .ensures) (victim-below _ _ _)
 
 copy-bytes-requires : tie.Need-copy-bytes-requires
 copy-bytes-requires c κs = search needs
@@ -20,7 +20,7 @@ same-length : tie.Need-same-length
 same-length c = search needs
 
 returns : tie.Need-returns
-returns c = rw (c .before .before .before .before .before .before .before .if1 .taken) (rw (c .before .before .before .before .before .victim .ensures, c .before .before .before .before .before .before .set-of .ensures), c .before .before .copy-bytes .ensures ∙ rw (c .before .before .before .slot-of .ensures .0, c .before .before .before .before .before .victim .ensures, c .before .before .before .before .before .before .set-of .ensures))
+returns c = rw (c .before .before .before .before .before .before .before .if1 .taken) (rw (c .before .before .before .before .before .victim .ensures, c .before .before .before .before .before .before .set-of .ensures), c .before .before .copy-bytes .ensures ∙ rw (c .before .before .before .data-offset .ensures .0, c .before .before .before .before .before .victim .ensures, c .before .before .before .before .before .before .set-of .ensures))
 
 returns-2 : tie.Need-returns-2
 returns-2 c = search needs
@@ -31,7 +31,7 @@ keep-line-spec =
     (tie.spec
     set-of-requires
     victim-requires
-    slot-of-requires
+    data-offset-requires
     copy-bytes-requires
     same-length
     returns

@@ -21,8 +21,8 @@ lookup-requires c κs = search needs
 enum-known-way : tie.Need-enum-known-way
 enum-known-way c = search needs
 
-slot-of-requires : tie.Need-slot-of-requires
-slot-of-requires c κs = lookup-below _ _ _ _ (found (c .before .before))
+data-offset-requires : tie.Need-data-offset-requires
+data-offset-requires c κs = lookup-below _ _ _ _ (found (c .before .before))
 
 add-copy-bytes : tie.Need-add-copy-bytes
 add-copy-bytes c = search needs
@@ -37,7 +37,7 @@ same-length-2 : tie.Need-same-length-2
 same-length-2 c = search needs
 
 returns : tie.Need-returns
-returns c = hit-reads _ _ _ _ _ _ _ _ _ _ _ _ (found (c .before .before .before .before .before .before .before .before)) (c .before .before .before .before .before .slot-of .ensures .0) (c .before .before .copy-bytes .ensures)
+returns c = hit-reads _ _ _ _ _ _ _ _ _ _ _ _ (found (c .before .before .before .before .before .before .before .before)) (c .before .before .before .before .before .data-offset .ensures .0) (c .before .before .copy-bytes .ensures)
 
 enum-told : tie.Need-enum-told
 enum-told c = search needs
@@ -81,7 +81,7 @@ read-doubleword-spec =
     (tie.spec
     lookup-requires
     enum-known-way
-    slot-of-requires
+    data-offset-requires
     add-copy-bytes
     copy-bytes-requires
     same-length

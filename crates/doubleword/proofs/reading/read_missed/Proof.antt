@@ -1,6 +1,6 @@
 use native.Mathlib.Omega.{arith}
 use mathlib.Core.Path.{refl}
-use Rattle.doubleword.proofs.Doublewords.{spot-room, own-ready, fill-ready, missed-own, missed-fill}
+use Rattle.doubleword.proofs.Doublewords.{buffer-needs, plain-needs, fill-needs, missed-own, missed-fill}
 use borrow.Author.Needs.{needs}
 use Rattle.doubleword.proofs.reading.read_missed.Statement.{statement}
 use Rattle.doubleword.proofs.reading.read_missed.Tie as tie
@@ -15,7 +15,7 @@ begin-requires : tie.Need-begin-requires
 begin-requires c κs = search needs
 
 read-cycles-requires : tie.Need-read-cycles-requires
-read-cycles-requires c κs = rw (c .before .before .begin .ensures) (refl, refl, omega (arith, c .before .before .before .before .before .before .before .before .before .before .before .pre .0 .line), omega arith, fill-ready _ _ _ _ _ _ (c .before .before .before .before .before .before .before .before .before .before .before .pre .0), spot-room _ _ _ _ _ _ (c .before .before .before .before .before .before .before .before .before .before .before .pre .0) _ (c .before .before .before .before .before .before .before .before .before .before .before .pre .1))
+read-cycles-requires c κs = rw (c .before .before .begin .ensures) (refl, refl, omega (arith, c .before .before .before .before .before .before .before .before .before .before .before .pre .0 .line), omega arith, fill-needs _ _ _ _ _ _ (c .before .before .before .before .before .before .before .before .before .before .before .pre .0), buffer-needs _ _ _ _ _ _ (c .before .before .before .before .before .before .before .before .before .before .before .pre .0) _ (c .before .before .before .before .before .before .before .before .before .before .before .pre .1))
 
 same-length : tie.Need-same-length
 same-length c = search needs
@@ -30,7 +30,7 @@ begin-requires-2 : tie.Need-begin-requires-2
 begin-requires-2 c κs = search needs
 
 read-cycles-requires-2 : tie.Need-read-cycles-requires-2
-read-cycles-requires-2 c κs = rw (c .before .before .begin2 .ensures) (refl, refl, omega (arith, c .before .before .before .before .before .before .before .before .before .before .before .pre .0 .line), omega arith, own-ready _ _ _ _ _ _ (c .before .before .before .before .before .before .before .before .before .before .before .pre .0), spot-room _ _ _ _ _ _ (c .before .before .before .before .before .before .before .before .before .before .before .pre .0) _ (c .before .before .before .before .before .before .before .before .before .before .before .pre .1))
+read-cycles-requires-2 c κs = rw (c .before .before .begin2 .ensures) (refl, refl, omega (arith, c .before .before .before .before .before .before .before .before .before .before .before .pre .0 .line), omega arith, plain-needs _ _ _ _ _ _ (c .before .before .before .before .before .before .before .before .before .before .before .pre .0), buffer-needs _ _ _ _ _ _ (c .before .before .before .before .before .before .before .before .before .before .before .pre .0) _ (c .before .before .before .before .before .before .before .before .before .before .before .pre .1))
 
 same-length-3 : tie.Need-same-length-3
 same-length-3 c = search needs

@@ -21,8 +21,8 @@ lookup-requires c κs = search needs
 enum-known-way : tie.Need-enum-known-way
 enum-known-way c = search needs
 
-slot-of-requires : tie.Need-slot-of-requires
-slot-of-requires c κs = lookup-below _ _ _ _ (found (c .before .before))
+data-offset-requires : tie.Need-data-offset-requires
+data-offset-requires c κs = lookup-below _ _ _ _ (found (c .before .before))
 
 add-copy-bytes : tie.Need-add-copy-bytes
 add-copy-bytes c = search needs
@@ -34,7 +34,7 @@ same-length : tie.Need-same-length
 same-length c = c .before .before .before .copy-bytes .kept .1 .1 .0
 
 returns : tie.Need-returns
-returns c = stay-writes _ _ _ _ _ _ _ _ _ _ _ (found (c .before .before .before .before .before .before .before .before)) (c .if1 .taken) (c .before .before .before .before .before .slot-of .ensures .0) (c .before .before .before .copy-bytes .ensures)
+returns c = stay-writes _ _ _ _ _ _ _ _ _ _ _ (found (c .before .before .before .before .before .before .before .before)) (c .if1 .taken) (c .before .before .before .before .before .data-offset .ensures .0) (c .before .before .before .copy-bytes .ensures)
 
 write-through-requires : tie.Need-write-through-requires
 write-through-requires c κs = let p = c .before .before .before .before .before .before .before .before .before .before .before .before .before .before .before .before .before .before .before .before .pre in (p .0, p .2)
@@ -52,7 +52,7 @@ same-length-5 : tie.Need-same-length-5
 same-length-5 c = c .before .before .before .before .before .before .write-through .kept .1 .1 .1 .0
 
 returns-2 : tie.Need-returns-2
-returns-2 c = hit-writes _ _ _ _ _ _ _ _ _ _ _ _ _ _ (found (c .before .before .before .before .before .before .before .before .before .before .before .before .before .before .before .before .before .before)) (c .before .before .before .before .before .before .before .before .before .before .if1 .left) (c .before .before .before .before .before .before .before .before .before .before .before .before .before .before .before .slot-of .ensures .0) (c .before .before .before .before .before .before .before .before .before .before .before .before .before .copy-bytes .ensures) (c .before .before .before .before .before .before .write-through .ensures)
+returns-2 c = hit-writes _ _ _ _ _ _ _ _ _ _ _ _ _ _ (found (c .before .before .before .before .before .before .before .before .before .before .before .before .before .before .before .before .before .before)) (c .before .before .before .before .before .before .before .before .before .before .if1 .left) (c .before .before .before .before .before .before .before .before .before .before .before .before .before .before .before .data-offset .ensures .0) (c .before .before .before .before .before .before .before .before .before .before .before .before .before .copy-bytes .ensures) (c .before .before .before .before .before .before .write-through .ensures)
 
 enum-told : tie.Need-enum-told
 enum-told c = search needs
@@ -78,7 +78,7 @@ write-doubleword-spec =
     (tie.spec
     lookup-requires
     enum-known-way
-    slot-of-requires
+    data-offset-requires
     add-copy-bytes
     copy-bytes-requires
     same-length

@@ -1,5 +1,5 @@
 use mathlib.Core.Path.{refl}
-use Rattle.doubleword.proofs.Doublewords.{spot-room, own-ready, own-sends}
+use Rattle.doubleword.proofs.Doublewords.{buffer-needs, plain-needs, plain-write}
 use borrow.Author.Needs.{needs}
 use Rattle.doubleword.proofs.writing.write_through.Statement.{statement}
 use Rattle.doubleword.proofs.writing.write_through.Tie as tie
@@ -20,7 +20,7 @@ cast-write-cycles : tie.Need-cast-write-cycles
 cast-write-cycles c = search needs
 
 write-cycles-requires : tie.Need-write-cycles-requires
-write-cycles-requires c κs = rw (c .before .before .before .before .before .begin .ensures) (refl, refl, own-ready _ _ _ _ _ _ (c .before .before .before .before .before .before .before .before .before .before .before .before .before .before .pre .0), spot-room _ _ _ _ _ _ (c .before .before .before .before .before .before .before .before .before .before .before .before .before .before .pre .0) _ (c .before .before .before .before .before .before .before .copy-bytes .kept .1 .1 .0))
+write-cycles-requires c κs = rw (c .before .before .before .before .before .begin .ensures) (refl, refl, plain-needs _ _ _ _ _ _ (c .before .before .before .before .before .before .before .before .before .before .before .before .before .before .pre .0), buffer-needs _ _ _ _ _ _ (c .before .before .before .before .before .before .before .before .before .before .before .before .before .before .pre .0) _ (c .before .before .before .before .before .before .before .copy-bytes .kept .1 .1 .0))
 
 same-length : tie.Need-same-length
 same-length c = search needs
@@ -32,7 +32,7 @@ same-length-3 : tie.Need-same-length-3
 same-length-3 c = search needs
 
 returns : tie.Need-returns
-returns c = own-sends _ _ _ _ _ _ _ _ _ _ (c .before .before .before .before .before .before .before .before .before .before .before .before .before .before .before .before .before .before .before .before .before .pre .0 .some) (c .before .before .before .before .before .before .before .before .before .before .before .before .before .before .before .before .before .before .before .before .before .pre .0 .served) (c .before .before .before .before .before .before .before .before .before .before .before .before .before .before .copy-bytes .ensures) (rw (c .before .before .before .before .before .before .before .before .before .before .before .before .begin .ensures) at (c .before .before .before .before .before .before .write-cycles .ensures))
+returns c = plain-write _ _ _ _ _ _ _ _ _ _ (c .before .before .before .before .before .before .before .before .before .before .before .before .before .before .before .before .before .before .before .before .before .pre .0 .some) (c .before .before .before .before .before .before .before .before .before .before .before .before .before .before .before .before .before .before .before .before .before .pre .0 .served) (c .before .before .before .before .before .before .before .before .before .before .before .before .before .before .copy-bytes .ensures) (rw (c .before .before .before .before .before .before .before .before .before .before .before .before .begin .ensures) at (c .before .before .before .before .before .before .write-cycles .ensures))
 
 pub write-through-spec : {M : Type 1} → statement M
 write-through-spec =

@@ -1,6 +1,6 @@
 use Rattle.lines.proofs.Pairs.{drop-part}
 use Rattle.lines.proofs.Within.{external-line}
-use Rattle.events.specs.Perform.{lineDone, eventDone, afterExternal}
+use Rattle.events.specs.Perform.{lineDone, eventDone, externalEvent}
 use Rattle.access.specs.Access.{state}
 use Rattle.memory.specs.Parity.{memory}
 use mathlib.Core.Path.{sym, ap, _∙_}
@@ -108,7 +108,7 @@ same-length-8 c = search needs
 
 returns-4 : tie.Need-returns-4
 unfolding lineDone eventDone
-returns-4 c = rw (sym (c .before .before .before .before .before .before .before .before .before .before .before .scan .ensures) ∙ c .before .before .before .before .before .before .before .before .before .event3 .given .1) (ap (afterExternal (state (c .before .before .before .before .before .before .before .before .before .before .before .before .before .before .before .before .args .given) (memory (now (c .before .before .before .before .before .before .before .before .before .before .before .before .before .before .before .before .args .ram)) (now (c .before .before .before .before .before .before .before .before .before .before .before .before .before .before .before .before .args .parity))) (now (c .before .before .before .before .before .before .before .before .before .before .before .before .before .before .before .before .args .«data»)))) (c .before .before .before .before .perform-external .ensures) ∙ rw drop-part)
+returns-4 c = rw (sym (c .before .before .before .before .before .before .before .before .before .before .before .scan .ensures) ∙ c .before .before .before .before .before .before .before .before .before .event3 .given .1) (ap (externalEvent (state (c .before .before .before .before .before .before .before .before .before .before .before .before .before .before .before .before .args .given) (memory (now (c .before .before .before .before .before .before .before .before .before .before .before .before .before .before .before .before .args .ram)) (now (c .before .before .before .before .before .before .before .before .before .before .before .before .before .before .before .before .args .parity))) (now (c .before .before .before .before .before .before .before .before .before .before .before .before .before .before .before .before .args .«data»)))) (c .before .before .before .before .perform-external .ensures) ∙ rw drop-part)
 
 returns-5 : tie.Need-returns-5
 unfolding lineDone eventDone

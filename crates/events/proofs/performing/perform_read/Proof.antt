@@ -1,4 +1,4 @@
-use Rattle.events.specs.Perform.{afterAccess}
+use Rattle.events.specs.Perform.{accessEvent}
 use mathlib.Core.Path.{ap, _∙_}
 use borrow.Author.Needs.{needs}
 use Rattle.events.proofs.performing.perform_read.Statement.{statement}
@@ -20,7 +20,7 @@ same-length : tie.Need-same-length
 same-length c = search needs
 
 returns : tie.Need-returns
-returns c = ap afterAccess (c .before .before .before .read .ensures) ∙ rw (c .before .before .before .before .before .before .before .board-answers .ensures)
+returns c = ap accessEvent (c .before .before .before .read .ensures) ∙ rw (c .before .before .before .before .before .before .before .board-answers .ensures)
 
 pub perform-read-spec : {M : Type 1} → statement M
 perform-read-spec =

@@ -1,4 +1,4 @@
-use Rattle.events.specs.Perform.{afterAccess}
+use Rattle.events.specs.Perform.{accessEvent}
 use mathlib.Core.Path.{ap, _∙_}
 use borrow.Author.Needs.{needs}
 use Rattle.events.proofs.performing.perform_write.Statement.{statement}
@@ -26,7 +26,7 @@ same-length-3 : tie.Need-same-length-3
 same-length-3 c = search needs
 
 returns : tie.Need-returns
-returns c = ap afterAccess (c .before .before .before .before .before .before .before .write .ensures) ∙ rw (c .before .before .before .before .before .before .before .before .before .before .before .before .before .board-answers .ensures)
+returns c = ap accessEvent (c .before .before .before .before .before .before .before .write .ensures) ∙ rw (c .before .before .before .before .before .before .before .before .before .before .before .before .before .board-answers .ensures)
 
 pub perform-write-spec : {M : Type 1} → statement M
 perform-write-spec =

@@ -1,6 +1,6 @@
 use mathlib.Core.List.{[]}
 use denote.Ref.{now}
-use Rattle.events.proofs.Rest.{left, left-none, line-done}
+use Rattle.events.proofs.Rest.{rowsLeft, rows-left-none, line-done}
 use Rattle.events.specs.Output.{rowsOf, start}
 use Rattle.lines.specs.Fields.{linesOf}
 use Rattle.access.specs.Access.{state}
@@ -15,7 +15,7 @@ use Rattle.events.proofs.running.run_lines.Statement.{statement}
 use Rattle.events.proofs.running.run_lines.Tie as tie
 
 abbrev Inv-loop : tie.InvT-loop
-Inv-loop input output₀ from directory₀ ram₀ parity₀ data₀ event₀ place₀ at₀ output directory ram parity «data» event place at = (at + length (left input (state directory (memory ram parity) «data») event place) ≡ from + length (rowsOf start 1 (linesOf input))) × (sets output at (left input (state directory (memory ram parity) «data») event place) ≡ sets output₀ from (rowsOf start 1 (linesOf input))) × (event ≤ place + 1) × (place ≤ length input + 1) × (at + 44 ≤ from + 44 * event) × (length output ≡ length output₀) × (length ram ≡ 65536) × (length parity ≡ 16384) × (length «data» ≡ 8192)
+Inv-loop input output₀ from directory₀ ram₀ parity₀ data₀ event₀ place₀ at₀ output directory ram parity «data» event place at = (at + length (rowsLeft input (state directory (memory ram parity) «data») event place) ≡ from + length (rowsOf start 1 (linesOf input))) × (sets output at (rowsLeft input (state directory (memory ram parity) «data») event place) ≡ sets output₀ from (rowsOf start 1 (linesOf input))) × (event ≤ place + 1) × (place ≤ length input + 1) × (at + 44 ≤ from + 44 * event) × (length output ≡ length output₀) × (length ram ≡ 65536) × (length parity ≡ 16384) × (length «data» ≡ 8192)
 
 abbrev μ-loop : tie.MeasureT-loop
 μ-loop input output₀ from directory₀ ram₀ parity₀ data₀ event₀ place₀ at₀ output directory ram parity «data» event place at = length input + 1 - place
@@ -76,7 +76,7 @@ same-length : tie.Need-same-length Inv-loop μ-loop
 same-length c = c .before .loop .inv .5
 
 returns : tie.Need-returns Inv-loop μ-loop
-returns c = ((let e : left (c .before .before .before .before .before .args .input .now) (state (c .before .loop .directory) (memory (c .before .loop .ram) (c .before .loop .parity)) (c .before .loop .«data»)) (c .before .loop .event) (c .before .loop .place) ≡ [] = left-none (c .before .before .before .before .before .args .input .now) (state (c .before .loop .directory) (memory (c .before .loop .ram) (c .before .loop .parity)) (c .before .loop .«data»)) (c .before .loop .event) (c .before .loop .place) (omega arith) in omega (arith, c .before .loop .inv .0, ap length e), rw (left-none (c .before .before .before .before .before .args .input .now) (state (c .before .loop .directory) (memory (c .before .loop .ram) (c .before .loop .parity)) (c .before .loop .«data»)) (c .before .loop .event) (c .before .loop .place) (omega arith)) at (c .before .loop .inv .1)), omega (arith, c .before .loop .inv .2, c .before .loop .inv .3, c .before .loop .inv .4, c .before .before .before .before .before .pre))
+returns c = ((let e : rowsLeft (c .before .before .before .before .before .args .input .now) (state (c .before .loop .directory) (memory (c .before .loop .ram) (c .before .loop .parity)) (c .before .loop .«data»)) (c .before .loop .event) (c .before .loop .place) ≡ [] = rows-left-none (c .before .before .before .before .before .args .input .now) (state (c .before .loop .directory) (memory (c .before .loop .ram) (c .before .loop .parity)) (c .before .loop .«data»)) (c .before .loop .event) (c .before .loop .place) (omega arith) in omega (arith, c .before .loop .inv .0, ap length e), rw (rows-left-none (c .before .before .before .before .before .args .input .now) (state (c .before .loop .directory) (memory (c .before .loop .ram) (c .before .loop .parity)) (c .before .loop .«data»)) (c .before .loop .event) (c .before .loop .place) (omega arith)) at (c .before .loop .inv .1)), omega (arith, c .before .loop .inv .2, c .before .loop .inv .3, c .before .loop .inv .4, c .before .before .before .before .before .pre))
 
 pub run-lines-spec : {M : Type 1} → statement M
 run-lines-spec =

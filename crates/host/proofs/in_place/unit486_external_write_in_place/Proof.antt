@@ -32,8 +32,8 @@ returns-2 c = λ cd. state-refused (directoryOf (now (c .before .before .before 
 store-bytes-requires : tie.Need-store-bytes-requires
 store-bytes-requires c κs = let g = input-good (directoryOf (now (c .before .before .before .before .before .before .before .before .before .before .before .before .args .tags)) (now (c .before .before .before .before .before .before .before .before .before .before .before .before .args .valid)) (now (c .before .before .before .before .before .before .before .before .before .before .before .before .args .lru)) true (c .before .before .before .before .before .before .before .before .before .before .before .before .args .nw)) (memory (now (c .before .before .before .before .before .before .before .before .before .before .before .before .args .ram)) (now (c .before .before .before .before .before .before .before .before .before .before .before .before .args .parity))) (c .before .before .before .before .before .before .before .before .before .before .before .before .args .address) (now (c .before .before .before .before .before .before .before .before .before .before .before .before .args .bytes)) _ _ (c .before .before .before .before .before .before .before .before .memory-number .ensures) (c .before .before .before .before .before .before .before .external-number .ensures) _ (c .before .before .before .before .before .before .or-else .ensures) (c .before .before .before .before .before .if1 .left) in (omega arith, g .1 .inside, omega (arith, g .0 .bits, g .0 .whole, g .1 .inside))
 
-drop-in-place-requires : tie.Need-drop-in-place-requires
-drop-in-place-requires c κs = search needs
+invalidate-in-place-requires : tie.Need-invalidate-in-place-requires
+invalidate-in-place-requires c κs = search needs
 
 same-length : tie.Need-same-length
 same-length c = search needs
@@ -42,7 +42,7 @@ same-length-2 : tie.Need-same-length-2
 same-length-2 c = search needs
 
 returns-3 : tie.Need-returns-3
-returns-3 c = λ cd. external-made (directoryOf (now (c .before .before .before .before .before .before .before .before .before .before .before .before .before .before .before .before .before .before .before .args .tags)) (now (c .before .before .before .before .before .before .before .before .before .before .before .before .before .before .before .before .before .before .before .args .valid)) (now (c .before .before .before .before .before .before .before .before .before .before .before .before .before .before .before .before .before .before .before .args .lru)) cd (c .before .before .before .before .before .before .before .before .before .before .before .before .before .before .before .before .before .before .before .args .nw)) (memory (now (c .before .before .before .before .before .before .before .before .before .before .before .before .before .before .before .before .before .before .before .args .ram)) (now (c .before .before .before .before .before .before .before .before .before .before .before .before .before .before .before .before .before .before .before .args .parity))) (c .before .before .before .before .before .before .before .before .before .before .before .before .before .before .before .before .before .before .before .args .address) (now (c .before .before .before .before .before .before .before .before .before .before .before .before .before .before .before .before .before .before .before .args .bytes)) _ _ (c .before .before .before .before .before .before .before .before .before .before .before .before .before .before .before .memory-number .ensures) (c .before .before .before .before .before .before .before .before .before .before .before .before .before .before .external-number .ensures) _ (c .before .before .before .before .before .before .before .before .before .before .before .before .before .or-else .ensures) (c .before .before .before .before .before .before .before .before .before .before .before .before .if1 .left) _ (c .before .before .before .before .before .before .before .before .before .before .states-number .ensures) (c .before .before .before .before .before .before .before .before .before .if2 .left) _ _ (c .drop-in-place .ensures _ cd) (c .before .before .before .before .before .before .store-bytes .ensures)
+returns-3 c = λ cd. external-made (directoryOf (now (c .before .before .before .before .before .before .before .before .before .before .before .before .before .before .before .before .before .before .before .args .tags)) (now (c .before .before .before .before .before .before .before .before .before .before .before .before .before .before .before .before .before .before .before .args .valid)) (now (c .before .before .before .before .before .before .before .before .before .before .before .before .before .before .before .before .before .before .before .args .lru)) cd (c .before .before .before .before .before .before .before .before .before .before .before .before .before .before .before .before .before .before .before .args .nw)) (memory (now (c .before .before .before .before .before .before .before .before .before .before .before .before .before .before .before .before .before .before .before .args .ram)) (now (c .before .before .before .before .before .before .before .before .before .before .before .before .before .before .before .before .before .before .before .args .parity))) (c .before .before .before .before .before .before .before .before .before .before .before .before .before .before .before .before .before .before .before .args .address) (now (c .before .before .before .before .before .before .before .before .before .before .before .before .before .before .before .before .before .before .before .args .bytes)) _ _ (c .before .before .before .before .before .before .before .before .before .before .before .before .before .before .before .memory-number .ensures) (c .before .before .before .before .before .before .before .before .before .before .before .before .before .before .external-number .ensures) _ (c .before .before .before .before .before .before .before .before .before .before .before .before .before .or-else .ensures) (c .before .before .before .before .before .before .before .before .before .before .before .before .if1 .left) _ (c .before .before .before .before .before .before .before .before .before .before .states-number .ensures) (c .before .before .before .before .before .before .before .before .before .if2 .left) _ _ (c .invalidate-in-place .ensures _ cd) (c .before .before .before .before .before .before .store-bytes .ensures)
 
 pub unit486-external-write-in-place-spec : {M : Type 1} → statement M
 unit486-external-write-in-place-spec =
@@ -56,7 +56,7 @@ unit486-external-write-in-place-spec =
     states-number-requires
     returns-2
     store-bytes-requires
-    drop-in-place-requires
+    invalidate-in-place-requires
     same-length
     same-length-2
     returns-3)

@@ -6,24 +6,24 @@ use lib.ListN.{length, replicate}
 use Rattle.directory.specs.Steps.{directoryOf}
 use Rattle.memory.specs.Parity.{memory}
 use Rattle.access.specs.Access.{state, allOf, readOne}
-use Rattle.access.specs.Walks.{startWalk, restOf, Path}
-use Rattle.access.proofs.Walking.{ReadGoing, reading-begin, reading-next, path-lengths, path-more, walk-less, walk-path, walk-steps}
-use Rattle.access.proofs.Calls.{path-begin, read-input-refused, read-state-refused, read-done}
+use Rattle.access.specs.AccessLoop.{accessStart, restOf, AccessNeeds}
+use Rattle.access.proofs.AccessLoop.{ReadInvariant, reading-begin, reading-next, needs-lengths, needs-more, cursor-less, cursor-needs, cursor-steps}
+use Rattle.access.proofs.Calls.{needs-begin, read-input-refused, read-state-refused, read-done}
 use borrow.Author.Needs.{needs}
 use Rattle.host.proofs.in_place.unit486_read_in_place.Statement.{statement}
 use Rattle.host.proofs.in_place.unit486_read_in_place.Tie as tie
 
 abbrev Inv-loop : tie.InvT-loop
-Inv-loop tags₀ valid₀ lru₀ cd ram parity data₀ address width pcd answers log₀ number bad operand₀ walk₀ tags valid lru «data» log operand walk = ((nw : Bool) → ReadGoing pcd answers (allOf (readOne pcd) (state (directoryOf tags₀ valid₀ lru₀ cd nw) (memory ram parity) data₀) (restOf (startWalk address width) answers)) log₀ (replicate 4 0) walk (state (directoryOf tags valid lru cd nw) (memory ram parity) «data») log operand) × Path walk (length ram) (length parity) (length data₀) (length answers) (length log₀) 4 × (length «data» ≡ length data₀) × (length log ≡ length log₀) × (length operand ≡ 4)
+Inv-loop tags₀ valid₀ lru₀ cd ram parity data₀ address width pcd answers log₀ number bad operand₀ walk₀ tags valid lru «data» log operand cursor = ((nw : Bool) → ReadInvariant pcd answers (allOf (readOne pcd) (state (directoryOf tags₀ valid₀ lru₀ cd nw) (memory ram parity) data₀) (restOf (accessStart address width) answers)) log₀ (replicate 4 0) cursor (state (directoryOf tags valid lru cd nw) (memory ram parity) «data») log operand) × AccessNeeds cursor (length ram) (length parity) (length data₀) (length answers) (length log₀) 4 × (length «data» ≡ length data₀) × (length log ≡ length log₀) × (length operand ≡ 4)
 
 abbrev μ-loop : tie.MeasureT-loop
-μ-loop tags₀ valid₀ lru₀ cd ram parity data₀ address width pcd answers log₀ number bad operand₀ walk₀ tags valid lru «data» log operand walk = walk .left
+μ-loop tags₀ valid₀ lru₀ cd ram parity data₀ address width pcd answers log₀ number bad operand₀ walk₀ tags valid lru «data» log operand cursor = cursor .left
 
 input-number-requires : tie.Need-input-number-requires Inv-loop μ-loop
 input-number-requires c κs = search needs
 
-turned-away-requires : tie.Need-turned-away-requires Inv-loop μ-loop
-turned-away-requires c κs = search needs
+refused-requires : tie.Need-refused-requires Inv-loop μ-loop
+refused-requires c κs = search needs
 
 same-length : tie.Need-same-length Inv-loop μ-loop
 same-length c = search needs
@@ -32,13 +32,13 @@ same-length-2 : tie.Need-same-length-2 Inv-loop μ-loop
 same-length-2 c = search needs
 
 returns : tie.Need-returns Inv-loop μ-loop
-returns c = λ nw. rw (c .turned-away .ensures) (read-input-refused (directoryOf (now (c .before .before .before .before .before .before .before .before .before .before .args .tags)) (now (c .before .before .before .before .before .before .before .before .before .before .args .valid)) (now (c .before .before .before .before .before .before .before .before .before .before .args .lru)) (c .before .before .before .before .before .before .before .before .before .before .args .cd) nw) (memory (now (c .before .before .before .before .before .before .before .before .before .before .args .ram)) (now (c .before .before .before .before .before .before .before .before .before .before .args .parity))) (now (c .before .before .before .before .before .before .before .before .before .before .args .«data»)) (c .before .before .before .before .before .before .before .before .before .before .args .address) (c .before .before .before .before .before .before .before .before .before .before .args .width) (now (c .before .before .before .before .before .before .before .before .before .before .args .answers)) (now (c .before .before .before .before .before .before .before .before .before .before .args .log)) _ (c .before .before .input-number .ensures) (c .before .before .before .before .before .before .before .before .before .before .args .pcd) (c .before .if1 .taken))
+returns c = λ nw. rw (c .refused .ensures) (read-input-refused (directoryOf (now (c .before .before .before .before .before .before .before .before .before .before .args .tags)) (now (c .before .before .before .before .before .before .before .before .before .before .args .valid)) (now (c .before .before .before .before .before .before .before .before .before .before .args .lru)) (c .before .before .before .before .before .before .before .before .before .before .args .cd) nw) (memory (now (c .before .before .before .before .before .before .before .before .before .before .args .ram)) (now (c .before .before .before .before .before .before .before .before .before .before .args .parity))) (now (c .before .before .before .before .before .before .before .before .before .before .args .«data»)) (c .before .before .before .before .before .before .before .before .before .before .args .address) (c .before .before .before .before .before .before .before .before .before .before .args .width) (now (c .before .before .before .before .before .before .before .before .before .before .args .answers)) (now (c .before .before .before .before .before .before .before .before .before .before .args .log)) _ (c .before .before .input-number .ensures) (c .before .before .before .before .before .before .before .before .before .before .args .pcd) (c .before .if1 .taken))
 
 states-number-requires : tie.Need-states-number-requires Inv-loop μ-loop
 states-number-requires c κs = search needs
 
-turned-away-requires-2 : tie.Need-turned-away-requires-2 Inv-loop μ-loop
-turned-away-requires-2 c κs = search needs
+refused-requires-2 : tie.Need-refused-requires-2 Inv-loop μ-loop
+refused-requires-2 c κs = search needs
 
 same-length-3 : tie.Need-same-length-3 Inv-loop μ-loop
 same-length-3 c = search needs
@@ -47,32 +47,32 @@ same-length-4 : tie.Need-same-length-4 Inv-loop μ-loop
 same-length-4 c = search needs
 
 returns-2 : tie.Need-returns-2 Inv-loop μ-loop
-returns-2 c = λ nw. rw (c .turned-away2 .ensures) (read-state-refused (directoryOf (now (c .before .before .before .before .before .before .before .before .before .before .before .before .before .before .before .args .tags)) (now (c .before .before .before .before .before .before .before .before .before .before .before .before .before .before .before .args .valid)) (now (c .before .before .before .before .before .before .before .before .before .before .before .before .before .before .before .args .lru)) (c .before .before .before .before .before .before .before .before .before .before .before .before .before .before .before .args .cd) nw) (memory (now (c .before .before .before .before .before .before .before .before .before .before .before .before .before .before .before .args .ram)) (now (c .before .before .before .before .before .before .before .before .before .before .before .before .before .before .before .args .parity))) (now (c .before .before .before .before .before .before .before .before .before .before .before .before .before .before .before .args .«data»)) (c .before .before .before .before .before .before .before .before .before .before .before .before .before .before .before .args .address) (c .before .before .before .before .before .before .before .before .before .before .before .before .before .before .before .args .width) (now (c .before .before .before .before .before .before .before .before .before .before .before .before .before .before .before .args .answers)) (now (c .before .before .before .before .before .before .before .before .before .before .before .before .before .before .before .args .log)) _ (c .before .before .before .before .before .before .before .input-number .ensures) (c .before .before .before .before .before .before .before .before .before .before .before .before .before .before .before .args .pcd) (c .before .before .before .before .before .before .if1 .left) _ (c .before .before .states-number .ensures) (c .before .if2 .taken))
+returns-2 c = λ nw. rw (c .refused2 .ensures) (read-state-refused (directoryOf (now (c .before .before .before .before .before .before .before .before .before .before .before .before .before .before .before .args .tags)) (now (c .before .before .before .before .before .before .before .before .before .before .before .before .before .before .before .args .valid)) (now (c .before .before .before .before .before .before .before .before .before .before .before .before .before .before .before .args .lru)) (c .before .before .before .before .before .before .before .before .before .before .before .before .before .before .before .args .cd) nw) (memory (now (c .before .before .before .before .before .before .before .before .before .before .before .before .before .before .before .args .ram)) (now (c .before .before .before .before .before .before .before .before .before .before .before .before .before .before .before .args .parity))) (now (c .before .before .before .before .before .before .before .before .before .before .before .before .before .before .before .args .«data»)) (c .before .before .before .before .before .before .before .before .before .before .before .before .before .before .before .args .address) (c .before .before .before .before .before .before .before .before .before .before .before .before .before .before .before .args .width) (now (c .before .before .before .before .before .before .before .before .before .before .before .before .before .before .before .args .answers)) (now (c .before .before .before .before .before .before .before .before .before .before .before .before .before .before .before .args .log)) _ (c .before .before .before .before .before .before .before .input-number .ensures) (c .before .before .before .before .before .before .before .before .before .before .before .before .before .before .before .args .pcd) (c .before .before .before .before .before .before .if1 .left) _ (c .before .before .states-number .ensures) (c .before .if2 .taken))
 
 start-requires : tie.Need-start-requires Inv-loop μ-loop
 start-requires c κs = search needs
 
 loop-holds : tie.Need-loop-holds Inv-loop μ-loop
-loop-holds c = rw (c .start .ensures) (λ nw. reading-begin _ _ _ _ _ _ refl refl, path-begin (directoryOf (now (c .before .before .before .before .before .before .before .before .before .before .before .before .before .before .before .args .tags)) (now (c .before .before .before .before .before .before .before .before .before .before .before .before .before .before .before .args .valid)) (now (c .before .before .before .before .before .before .before .before .before .before .before .before .before .before .before .args .lru)) (c .before .before .before .before .before .before .before .before .before .before .before .before .before .before .before .args .cd) true) (memory (now (c .before .before .before .before .before .before .before .before .before .before .before .before .before .before .before .args .ram)) (now (c .before .before .before .before .before .before .before .before .before .before .before .before .before .before .before .args .parity))) (now (c .before .before .before .before .before .before .before .before .before .before .before .before .before .before .before .args .«data»)) (c .before .before .before .before .before .before .before .before .before .before .before .before .before .before .before .args .address) (c .before .before .before .before .before .before .before .before .before .before .before .before .before .before .before .args .width) (now (c .before .before .before .before .before .before .before .before .before .before .before .before .before .before .before .args .answers)) (now (c .before .before .before .before .before .before .before .before .before .before .before .before .before .before .before .args .log)) _ (c .before .before .before .before .before .before .before .input-number .ensures) (c .before .before .before .before .before .before .if1 .left), refl, refl, refl)
+loop-holds c = rw (c .start .ensures) (λ nw. reading-begin _ _ _ _ _ _ refl refl, needs-begin (directoryOf (now (c .before .before .before .before .before .before .before .before .before .before .before .before .before .before .before .args .tags)) (now (c .before .before .before .before .before .before .before .before .before .before .before .before .before .before .before .args .valid)) (now (c .before .before .before .before .before .before .before .before .before .before .before .before .before .before .before .args .lru)) (c .before .before .before .before .before .before .before .before .before .before .before .before .before .before .before .args .cd) true) (memory (now (c .before .before .before .before .before .before .before .before .before .before .before .before .before .before .before .args .ram)) (now (c .before .before .before .before .before .before .before .before .before .before .before .before .before .before .before .args .parity))) (now (c .before .before .before .before .before .before .before .before .before .before .before .before .before .before .before .args .«data»)) (c .before .before .before .before .before .before .before .before .before .before .before .before .before .before .before .args .address) (c .before .before .before .before .before .before .before .before .before .before .before .before .before .before .before .args .width) (now (c .before .before .before .before .before .before .before .before .before .before .before .before .before .before .before .args .answers)) (now (c .before .before .before .before .before .before .before .before .before .before .before .before .before .before .before .args .log)) _ (c .before .before .before .before .before .before .before .input-number .ensures) (c .before .before .before .before .before .before .if1 .left), refl, refl, refl)
 
 slice-aggregate-read-step : tie.Need-slice-aggregate-read-step Inv-loop μ-loop
 slice-aggregate-read-step c = search needs
 
 read-step-requires : tie.Need-read-step-requires Inv-loop μ-loop
-read-step-requires c κs = (c .before .before .before .before .before .before .if3 .taken, path-lengths refl refl (c .before .before .before .before .before .before .before .before .loop .inv .2) (c .before .before .before .before .before .before .before .before .loop .inv .3) (c .before .before .before .before .before .before .before .before .loop .inv .4) (c .before .before .before .before .before .before .before .before .loop .inv .1))
+read-step-requires c κs = (c .before .before .before .before .before .before .if3 .taken, needs-lengths refl refl (c .before .before .before .before .before .before .before .before .loop .inv .2) (c .before .before .before .before .before .before .before .before .loop .inv .3) (c .before .before .before .before .before .before .before .before .loop .inv .4) (c .before .before .before .before .before .before .before .before .loop .inv .1))
 
 change-in-place-requires : tie.Need-change-in-place-requires Inv-loop μ-loop
 change-in-place-requires c κs = c .before .before .before .before .before .before .before .before .read-step .ensures .below
 
 next-requires : tie.Need-next-requires Inv-loop μ-loop
-next-requires c κs = walk-steps _ _ _ _ _ _ _ _ _ (c .before .before .before .before .before .before .before .before .before .read-step .ensures .counts) (c .before .before .before .before .before .before .before .before .before .read-step .ensures .most) (c .before .before .before .before .before .before .before .before .before .before .before .before .before .before .before .before .before .before .loop .inv .1)
+next-requires c κs = cursor-steps _ _ _ _ _ _ _ _ _ (c .before .before .before .before .before .before .before .before .before .read-step .ensures .counts) (c .before .before .before .before .before .before .before .before .before .read-step .ensures .most) (c .before .before .before .before .before .before .before .before .before .before .before .before .before .before .before .before .before .before .loop .inv .1)
 
 loop-less : tie.Need-loop-less Inv-loop μ-loop
-loop-less c = walk-less _ _ _ _ (c .before .before .before .before .before .before .before .before .before .before .before .before .before .before .before .before .before .if3 .taken) (c .before .before .before .before .before .before .before .before .before .before .read-step .ensures .counts) (c .next .ensures)
+loop-less c = cursor-less _ _ _ _ (c .before .before .before .before .before .before .before .before .before .before .before .before .before .before .before .before .before .if3 .taken) (c .before .before .before .before .before .before .before .before .before .before .read-step .ensures .counts) (c .next .ensures)
 
 loop-again : tie.Need-loop-again Inv-loop μ-loop
 unfolding readOne
-loop-again c = (λ nw. reading-next _ _ _ _ _ _ _ _ _ _ _ _ _ _ (c .before .before .before .before .before .before .before .before .before .before .before .before .before .before .before .before .before .if3 .taken) (path-more _ _ _ _ _ _ _ (c .before .before .before .before .before .before .before .before .before .before .before .before .before .before .before .before .before .before .before .loop .inv .1) (c .before .before .before .before .before .before .before .before .before .before .before .before .before .before .before .before .before .if3 .taken)) (c .before .before .before .before .before .before .before .before .before .before .before .before .before .before .before .before .before .before .before .loop .inv .0 nw) (c .before .before .before .before .before .before .before .before .before .before .read-step .ensures) (c .before .change-in-place .ensures _ nw) (c .next .ensures), walk-path _ _ _ _ (c .before .before .before .before .before .before .before .before .before .before .before .before .before .before .before .before .before .if3 .taken) (c .before .before .before .before .before .before .before .before .before .before .read-step .ensures .counts) (c .next .ensures) _ _ _ _ _ _ (c .before .before .before .before .before .before .before .before .before .before .read-step .ensures .most) (c .before .before .before .before .before .before .before .before .before .before .before .before .before .before .before .before .before .before .before .loop .inv .1), c .before .before .before .before .before .before .before .before .before .before .read-step .kept .1 .1 .1 .1 .1 .1 .0 ∙ c .before .before .before .before .before .before .before .before .before .before .before .before .before .before .before .before .before .before .before .loop .inv .2, c .before .before .before .before .before .before .before .before .before .before .read-step .kept .1 .1 .1 .1 .1 .1 .1 .1 .0 ∙ c .before .before .before .before .before .before .before .before .before .before .before .before .before .before .before .before .before .before .before .loop .inv .3, c .before .before .before .before .before .before .before .before .before .before .read-step .kept .1 .1 .1 .1 .1 .1 .1 .1 .1 .0 ∙ c .before .before .before .before .before .before .before .before .before .before .before .before .before .before .before .before .before .before .before .loop .inv .4)
+loop-again c = (λ nw. reading-next _ _ _ _ _ _ _ _ _ _ _ _ _ _ (c .before .before .before .before .before .before .before .before .before .before .before .before .before .before .before .before .before .if3 .taken) (needs-more _ _ _ _ _ _ _ (c .before .before .before .before .before .before .before .before .before .before .before .before .before .before .before .before .before .before .before .loop .inv .1) (c .before .before .before .before .before .before .before .before .before .before .before .before .before .before .before .before .before .if3 .taken)) (c .before .before .before .before .before .before .before .before .before .before .before .before .before .before .before .before .before .before .before .loop .inv .0 nw) (c .before .before .before .before .before .before .before .before .before .before .read-step .ensures) (c .before .change-in-place .ensures _ nw) (c .next .ensures), cursor-needs _ _ _ _ (c .before .before .before .before .before .before .before .before .before .before .before .before .before .before .before .before .before .if3 .taken) (c .before .before .before .before .before .before .before .before .before .before .read-step .ensures .counts) (c .next .ensures) _ _ _ _ _ _ (c .before .before .before .before .before .before .before .before .before .before .read-step .ensures .most) (c .before .before .before .before .before .before .before .before .before .before .before .before .before .before .before .before .before .before .before .loop .inv .1), c .before .before .before .before .before .before .before .before .before .before .read-step .kept .1 .1 .1 .1 .1 .1 .0 ∙ c .before .before .before .before .before .before .before .before .before .before .before .before .before .before .before .before .before .before .before .loop .inv .2, c .before .before .before .before .before .before .before .before .before .before .read-step .kept .1 .1 .1 .1 .1 .1 .1 .1 .0 ∙ c .before .before .before .before .before .before .before .before .before .before .before .before .before .before .before .before .before .before .before .loop .inv .3, c .before .before .before .before .before .before .before .before .before .before .read-step .kept .1 .1 .1 .1 .1 .1 .1 .1 .1 .0 ∙ c .before .before .before .before .before .before .before .before .before .before .before .before .before .before .before .before .before .before .before .loop .inv .4)
 
 word-of-requires : tie.Need-word-of-requires Inv-loop μ-loop
 word-of-requires c κs = search needs
@@ -96,12 +96,12 @@ unit486-read-in-place-spec =
     Inv-loop
     μ-loop
     input-number-requires
-    turned-away-requires
+    refused-requires
     same-length
     same-length-2
     returns
     states-number-requires
-    turned-away-requires-2
+    refused-requires-2
     same-length-3
     same-length-4
     returns-2

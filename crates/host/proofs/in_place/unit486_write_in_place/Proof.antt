@@ -7,23 +7,23 @@ use Rattle.directory.specs.Steps.{directoryOf}
 use Rattle.memory.specs.Bytes.{bytesOf}
 use Rattle.memory.specs.Parity.{memory}
 use Rattle.access.specs.Access.{state, allOf, writeOne}
-use Rattle.access.specs.Walks.{startWalk, restOf, Path}
-use Rattle.access.proofs.Walking.{Going, going-begin, writing-next, path-lengths, path-more, walk-less, walk-path, walk-steps}
-use Rattle.access.proofs.Calls.{path-begin, write-input-refused, write-later-refused, write-done}
+use Rattle.access.specs.AccessLoop.{accessStart, restOf, AccessNeeds}
+use Rattle.access.proofs.AccessLoop.{AccessInvariant, access-invariant-begin, writing-next, needs-lengths, needs-more, cursor-less, cursor-needs, cursor-steps}
+use Rattle.access.proofs.Calls.{needs-begin, write-input-refused, write-later-refused, write-done}
 use Rattle.host.proofs.in_place.unit486_write_in_place.Statement.{statement}
 use Rattle.host.proofs.in_place.unit486_write_in_place.Tie as tie
 
 abbrev Inv-loop : tie.InvT-loop
-Inv-loop tags₀ valid₀ lru₀ cd nw ram₀ parity₀ data₀ address width value answers log₀ number states bad operand walk₀ tags valid lru ram parity «data» log walk = Going (writeOne operand) answers (allOf (writeOne operand) (state (directoryOf tags₀ valid₀ lru₀ cd nw) (memory ram₀ parity₀) data₀) (restOf (startWalk address width) answers)) log₀ walk (state (directoryOf tags valid lru cd nw) (memory ram parity) «data») log × Path walk (length ram₀) (length parity₀) (length data₀) (length answers) (length log₀) (length operand) × (length «data» ≡ length data₀) × (length log ≡ length log₀) × (length ram ≡ length ram₀) × (length parity ≡ length parity₀)
+Inv-loop tags₀ valid₀ lru₀ cd nw ram₀ parity₀ data₀ address width value answers log₀ number states bad operand walk₀ tags valid lru ram parity «data» log cursor = AccessInvariant (writeOne operand) answers (allOf (writeOne operand) (state (directoryOf tags₀ valid₀ lru₀ cd nw) (memory ram₀ parity₀) data₀) (restOf (accessStart address width) answers)) log₀ cursor (state (directoryOf tags valid lru cd nw) (memory ram parity) «data») log × AccessNeeds cursor (length ram₀) (length parity₀) (length data₀) (length answers) (length log₀) (length operand) × (length «data» ≡ length data₀) × (length log ≡ length log₀) × (length ram ≡ length ram₀) × (length parity ≡ length parity₀)
 
 abbrev μ-loop : tie.MeasureT-loop
-μ-loop tags₀ valid₀ lru₀ cd nw ram₀ parity₀ data₀ address width value answers log₀ number states bad operand walk₀ tags valid lru ram parity «data» log walk = walk .left
+μ-loop tags₀ valid₀ lru₀ cd nw ram₀ parity₀ data₀ address width value answers log₀ number states bad operand walk₀ tags valid lru ram parity «data» log cursor = cursor .left
 
 input-number-requires : tie.Need-input-number-requires Inv-loop μ-loop
 input-number-requires c κs = search needs
 
-turned-away-requires : tie.Need-turned-away-requires Inv-loop μ-loop
-turned-away-requires c κs = search needs
+refused-requires : tie.Need-refused-requires Inv-loop μ-loop
+refused-requires c κs = search needs
 
 same-length : tie.Need-same-length Inv-loop μ-loop
 same-length c = search needs
@@ -38,7 +38,7 @@ same-length-4 : tie.Need-same-length-4 Inv-loop μ-loop
 same-length-4 c = search needs
 
 returns : tie.Need-returns Inv-loop μ-loop
-returns c = rw (c .turned-away .ensures) (write-input-refused (directoryOf (now (c .before .before .before .before .before .before .before .before .before .before .before .before .args .tags)) (now (c .before .before .before .before .before .before .before .before .before .before .before .before .args .valid)) (now (c .before .before .before .before .before .before .before .before .before .before .before .before .args .lru)) (c .before .before .before .before .before .before .before .before .before .before .before .before .args .cd) (c .before .before .before .before .before .before .before .before .before .before .before .before .args .nw)) (memory (now (c .before .before .before .before .before .before .before .before .before .before .before .before .args .ram)) (now (c .before .before .before .before .before .before .before .before .before .before .before .before .args .parity))) (now (c .before .before .before .before .before .before .before .before .before .before .before .before .args .«data»)) (c .before .before .before .before .before .before .before .before .before .before .before .before .args .address) (c .before .before .before .before .before .before .before .before .before .before .before .before .args .width) (now (c .before .before .before .before .before .before .before .before .before .before .before .before .args .answers)) (now (c .before .before .before .before .before .before .before .before .before .before .before .before .args .log)) _ (c .before .before .input-number .ensures) (c .before .before .before .before .before .before .before .before .before .before .before .before .args .value) (c .before .if1 .taken))
+returns c = rw (c .refused .ensures) (write-input-refused (directoryOf (now (c .before .before .before .before .before .before .before .before .before .before .before .before .args .tags)) (now (c .before .before .before .before .before .before .before .before .before .before .before .before .args .valid)) (now (c .before .before .before .before .before .before .before .before .before .before .before .before .args .lru)) (c .before .before .before .before .before .before .before .before .before .before .before .before .args .cd) (c .before .before .before .before .before .before .before .before .before .before .before .before .args .nw)) (memory (now (c .before .before .before .before .before .before .before .before .before .before .before .before .args .ram)) (now (c .before .before .before .before .before .before .before .before .before .before .before .before .args .parity))) (now (c .before .before .before .before .before .before .before .before .before .before .before .before .args .«data»)) (c .before .before .before .before .before .before .before .before .before .before .before .before .args .address) (c .before .before .before .before .before .before .before .before .before .before .before .before .args .width) (now (c .before .before .before .before .before .before .before .before .before .before .before .before .args .answers)) (now (c .before .before .before .before .before .before .before .before .before .before .before .before .args .log)) _ (c .before .before .input-number .ensures) (c .before .before .before .before .before .before .before .before .before .before .before .before .args .value) (c .before .if1 .taken))
 
 states-number-requires : tie.Need-states-number-requires Inv-loop μ-loop
 states-number-requires c κs = search needs
@@ -49,8 +49,8 @@ value-number-requires c κs = search needs
 or-else-requires : tie.Need-or-else-requires Inv-loop μ-loop
 or-else-requires c κs = search needs
 
-turned-away-requires-2 : tie.Need-turned-away-requires-2 Inv-loop μ-loop
-turned-away-requires-2 c κs = search needs
+refused-requires-2 : tie.Need-refused-requires-2 Inv-loop μ-loop
+refused-requires-2 c κs = search needs
 
 same-length-5 : tie.Need-same-length-5 Inv-loop μ-loop
 same-length-5 c = search needs
@@ -65,7 +65,7 @@ same-length-8 : tie.Need-same-length-8 Inv-loop μ-loop
 same-length-8 c = search needs
 
 returns-2 : tie.Need-returns-2 Inv-loop μ-loop
-returns-2 c = rw (c .turned-away2 .ensures) (write-later-refused (directoryOf (now (c .before .before .before .before .before .before .before .before .before .before .before .before .before .before .before .before .before .before .before .args .tags)) (now (c .before .before .before .before .before .before .before .before .before .before .before .before .before .before .before .before .before .before .before .args .valid)) (now (c .before .before .before .before .before .before .before .before .before .before .before .before .before .before .before .before .before .before .before .args .lru)) (c .before .before .before .before .before .before .before .before .before .before .before .before .before .before .before .before .before .before .before .args .cd) (c .before .before .before .before .before .before .before .before .before .before .before .before .before .before .before .before .before .before .before .args .nw)) (memory (now (c .before .before .before .before .before .before .before .before .before .before .before .before .before .before .before .before .before .before .before .args .ram)) (now (c .before .before .before .before .before .before .before .before .before .before .before .before .before .before .before .before .before .before .before .args .parity))) (now (c .before .before .before .before .before .before .before .before .before .before .before .before .before .before .before .before .before .before .before .args .«data»)) (c .before .before .before .before .before .before .before .before .before .before .before .before .before .before .before .before .before .before .before .args .address) (c .before .before .before .before .before .before .before .before .before .before .before .before .before .before .before .before .before .before .before .args .width) (now (c .before .before .before .before .before .before .before .before .before .before .before .before .before .before .before .before .before .before .before .args .answers)) (now (c .before .before .before .before .before .before .before .before .before .before .before .before .before .before .before .before .before .before .before .args .log)) _ (c .before .before .before .before .before .before .before .before .before .input-number .ensures) (c .before .before .before .before .before .before .before .before .before .before .before .before .before .before .before .before .before .before .before .args .value) (c .before .before .before .before .before .before .before .before .if1 .left) _ _ _ (c .before .before .before .value-number .ensures) (c .before .before .before .before .states-number .ensures) (c .before .before .or-else .ensures) (c .before .if2 .taken))
+returns-2 c = rw (c .refused2 .ensures) (write-later-refused (directoryOf (now (c .before .before .before .before .before .before .before .before .before .before .before .before .before .before .before .before .before .before .before .args .tags)) (now (c .before .before .before .before .before .before .before .before .before .before .before .before .before .before .before .before .before .before .before .args .valid)) (now (c .before .before .before .before .before .before .before .before .before .before .before .before .before .before .before .before .before .before .before .args .lru)) (c .before .before .before .before .before .before .before .before .before .before .before .before .before .before .before .before .before .before .before .args .cd) (c .before .before .before .before .before .before .before .before .before .before .before .before .before .before .before .before .before .before .before .args .nw)) (memory (now (c .before .before .before .before .before .before .before .before .before .before .before .before .before .before .before .before .before .before .before .args .ram)) (now (c .before .before .before .before .before .before .before .before .before .before .before .before .before .before .before .before .before .before .before .args .parity))) (now (c .before .before .before .before .before .before .before .before .before .before .before .before .before .before .before .before .before .before .before .args .«data»)) (c .before .before .before .before .before .before .before .before .before .before .before .before .before .before .before .before .before .before .before .args .address) (c .before .before .before .before .before .before .before .before .before .before .before .before .before .before .before .before .before .before .before .args .width) (now (c .before .before .before .before .before .before .before .before .before .before .before .before .before .before .before .before .before .before .before .args .answers)) (now (c .before .before .before .before .before .before .before .before .before .before .before .before .before .before .before .before .before .before .before .args .log)) _ (c .before .before .before .before .before .before .before .before .before .input-number .ensures) (c .before .before .before .before .before .before .before .before .before .before .before .before .before .before .before .before .before .before .before .args .value) (c .before .before .before .before .before .before .before .before .if1 .left) _ _ _ (c .before .before .before .value-number .ensures) (c .before .before .before .before .states-number .ensures) (c .before .before .or-else .ensures) (c .before .if2 .taken))
 
 bytes-of-requires : tie.Need-bytes-of-requires Inv-loop μ-loop
 bytes-of-requires c κs = search needs
@@ -75,26 +75,26 @@ start-requires c κs = search needs
 
 loop-holds : tie.Need-loop-holds Inv-loop μ-loop
 unfolding bytesOf
-loop-holds c = rw (c .start .ensures, c .before .bytes-of .ensures) (going-begin _ _ _ _ _ refl, path-begin (directoryOf (now (c .before .before .before .before .before .before .before .before .before .before .before .before .before .before .before .before .before .before .before .before .args .tags)) (now (c .before .before .before .before .before .before .before .before .before .before .before .before .before .before .before .before .before .before .before .before .args .valid)) (now (c .before .before .before .before .before .before .before .before .before .before .before .before .before .before .before .before .before .before .before .before .args .lru)) (c .before .before .before .before .before .before .before .before .before .before .before .before .before .before .before .before .before .before .before .before .args .cd) (c .before .before .before .before .before .before .before .before .before .before .before .before .before .before .before .before .before .before .before .before .args .nw)) (memory (now (c .before .before .before .before .before .before .before .before .before .before .before .before .before .before .before .before .before .before .before .before .args .ram)) (now (c .before .before .before .before .before .before .before .before .before .before .before .before .before .before .before .before .before .before .before .before .args .parity))) (now (c .before .before .before .before .before .before .before .before .before .before .before .before .before .before .before .before .before .before .before .before .args .«data»)) (c .before .before .before .before .before .before .before .before .before .before .before .before .before .before .before .before .before .before .before .before .args .address) (c .before .before .before .before .before .before .before .before .before .before .before .before .before .before .before .before .before .before .before .before .args .width) (now (c .before .before .before .before .before .before .before .before .before .before .before .before .before .before .before .before .before .before .before .before .args .answers)) (now (c .before .before .before .before .before .before .before .before .before .before .before .before .before .before .before .before .before .before .before .before .args .log)) _ (c .before .before .before .before .before .before .before .before .before .before .input-number .ensures) (c .before .before .before .before .before .before .before .before .before .if1 .left), refl, refl, refl, refl)
+loop-holds c = rw (c .start .ensures, c .before .bytes-of .ensures) (access-invariant-begin _ _ _ _ _ refl, needs-begin (directoryOf (now (c .before .before .before .before .before .before .before .before .before .before .before .before .before .before .before .before .before .before .before .before .args .tags)) (now (c .before .before .before .before .before .before .before .before .before .before .before .before .before .before .before .before .before .before .before .before .args .valid)) (now (c .before .before .before .before .before .before .before .before .before .before .before .before .before .before .before .before .before .before .before .before .args .lru)) (c .before .before .before .before .before .before .before .before .before .before .before .before .before .before .before .before .before .before .before .before .args .cd) (c .before .before .before .before .before .before .before .before .before .before .before .before .before .before .before .before .before .before .before .before .args .nw)) (memory (now (c .before .before .before .before .before .before .before .before .before .before .before .before .before .before .before .before .before .before .before .before .args .ram)) (now (c .before .before .before .before .before .before .before .before .before .before .before .before .before .before .before .before .before .before .before .before .args .parity))) (now (c .before .before .before .before .before .before .before .before .before .before .before .before .before .before .before .before .before .before .before .before .args .«data»)) (c .before .before .before .before .before .before .before .before .before .before .before .before .before .before .before .before .before .before .before .before .args .address) (c .before .before .before .before .before .before .before .before .before .before .before .before .before .before .before .before .before .before .before .before .args .width) (now (c .before .before .before .before .before .before .before .before .before .before .before .before .before .before .before .before .before .before .before .before .args .answers)) (now (c .before .before .before .before .before .before .before .before .before .before .before .before .before .before .before .before .before .before .before .before .args .log)) _ (c .before .before .before .before .before .before .before .before .before .before .input-number .ensures) (c .before .before .before .before .before .before .before .before .before .if1 .left), refl, refl, refl, refl)
 
 slice-aggregate-write-step : tie.Need-slice-aggregate-write-step Inv-loop μ-loop
 slice-aggregate-write-step c = search needs
 
 write-step-requires : tie.Need-write-step-requires Inv-loop μ-loop
-write-step-requires c κs = (c .before .before .before .before .before .before .before .if3 .taken, path-lengths (c .before .before .before .before .before .before .before .before .before .loop .inv .4) (c .before .before .before .before .before .before .before .before .before .loop .inv .5) (c .before .before .before .before .before .before .before .before .before .loop .inv .2) (c .before .before .before .before .before .before .before .before .before .loop .inv .3) refl (c .before .before .before .before .before .before .before .before .before .loop .inv .1))
+write-step-requires c κs = (c .before .before .before .before .before .before .before .if3 .taken, needs-lengths (c .before .before .before .before .before .before .before .before .before .loop .inv .4) (c .before .before .before .before .before .before .before .before .before .loop .inv .5) (c .before .before .before .before .before .before .before .before .before .loop .inv .2) (c .before .before .before .before .before .before .before .before .before .loop .inv .3) refl (c .before .before .before .before .before .before .before .before .before .loop .inv .1))
 
 change-in-place-requires : tie.Need-change-in-place-requires Inv-loop μ-loop
 change-in-place-requires c κs = c .before .before .before .before .before .before .before .before .before .before .before .write-step .ensures .below
 
 next-requires : tie.Need-next-requires Inv-loop μ-loop
-next-requires c κs = walk-steps _ _ _ _ _ _ _ _ _ (c .before .before .before .before .before .before .before .before .before .before .before .before .write-step .ensures .counts) (c .before .before .before .before .before .before .before .before .before .before .before .before .write-step .ensures .most) (c .before .before .before .before .before .before .before .before .before .before .before .before .before .before .before .before .before .before .before .before .before .before .loop .inv .1)
+next-requires c κs = cursor-steps _ _ _ _ _ _ _ _ _ (c .before .before .before .before .before .before .before .before .before .before .before .before .write-step .ensures .counts) (c .before .before .before .before .before .before .before .before .before .before .before .before .write-step .ensures .most) (c .before .before .before .before .before .before .before .before .before .before .before .before .before .before .before .before .before .before .before .before .before .before .loop .inv .1)
 
 loop-less : tie.Need-loop-less Inv-loop μ-loop
-loop-less c = walk-less _ _ _ _ (c .before .before .before .before .before .before .before .before .before .before .before .before .before .before .before .before .before .before .before .before .before .if3 .taken) (c .before .before .before .before .before .before .before .before .before .before .before .before .before .write-step .ensures .counts) (c .next .ensures)
+loop-less c = cursor-less _ _ _ _ (c .before .before .before .before .before .before .before .before .before .before .before .before .before .before .before .before .before .before .before .before .before .if3 .taken) (c .before .before .before .before .before .before .before .before .before .before .before .before .before .write-step .ensures .counts) (c .next .ensures)
 
 loop-again : tie.Need-loop-again Inv-loop μ-loop
 unfolding writeOne
-loop-again c = (writing-next _ _ _ _ _ _ _ _ _ _ _ _ _ (c .before .before .before .before .before .before .before .before .before .before .before .before .before .before .before .before .before .before .before .before .before .if3 .taken) (path-more _ _ _ _ _ _ _ (c .before .before .before .before .before .before .before .before .before .before .before .before .before .before .before .before .before .before .before .before .before .before .before .loop .inv .1) (c .before .before .before .before .before .before .before .before .before .before .before .before .before .before .before .before .before .before .before .before .before .if3 .taken)) (c .before .before .before .before .before .before .before .before .before .before .before .before .before .before .before .before .before .before .before .before .before .before .before .loop .inv .0) (c .before .before .before .before .before .before .before .before .before .before .before .before .before .write-step .ensures) (c .before .change-in-place .ensures _ _) (c .next .ensures), walk-path _ _ _ _ (c .before .before .before .before .before .before .before .before .before .before .before .before .before .before .before .before .before .before .before .before .before .if3 .taken) (c .before .before .before .before .before .before .before .before .before .before .before .before .before .write-step .ensures .counts) (c .next .ensures) _ _ _ _ _ _ (c .before .before .before .before .before .before .before .before .before .before .before .before .before .write-step .ensures .most) (c .before .before .before .before .before .before .before .before .before .before .before .before .before .before .before .before .before .before .before .before .before .before .before .loop .inv .1), c .before .before .before .before .before .before .before .before .before .before .before .before .before .write-step .kept .1 .1 .1 .1 .1 .0 ∙ c .before .before .before .before .before .before .before .before .before .before .before .before .before .before .before .before .before .before .before .before .before .before .before .loop .inv .2, c .before .before .before .before .before .before .before .before .before .before .before .before .before .write-step .kept .1 .1 .1 .1 .1 .1 .1 .0 ∙ c .before .before .before .before .before .before .before .before .before .before .before .before .before .before .before .before .before .before .before .before .before .before .before .loop .inv .3, c .before .before .before .before .before .before .before .before .before .before .before .before .before .write-step .kept .1 .1 .1 .0 ∙ c .before .before .before .before .before .before .before .before .before .before .before .before .before .before .before .before .before .before .before .before .before .before .before .loop .inv .4, c .before .before .before .before .before .before .before .before .before .before .before .before .before .write-step .kept .1 .1 .1 .1 .0 ∙ c .before .before .before .before .before .before .before .before .before .before .before .before .before .before .before .before .before .before .before .before .before .before .before .loop .inv .5)
+loop-again c = (writing-next _ _ _ _ _ _ _ _ _ _ _ _ _ (c .before .before .before .before .before .before .before .before .before .before .before .before .before .before .before .before .before .before .before .before .before .if3 .taken) (needs-more _ _ _ _ _ _ _ (c .before .before .before .before .before .before .before .before .before .before .before .before .before .before .before .before .before .before .before .before .before .before .before .loop .inv .1) (c .before .before .before .before .before .before .before .before .before .before .before .before .before .before .before .before .before .before .before .before .before .if3 .taken)) (c .before .before .before .before .before .before .before .before .before .before .before .before .before .before .before .before .before .before .before .before .before .before .before .loop .inv .0) (c .before .before .before .before .before .before .before .before .before .before .before .before .before .write-step .ensures) (c .before .change-in-place .ensures _ _) (c .next .ensures), cursor-needs _ _ _ _ (c .before .before .before .before .before .before .before .before .before .before .before .before .before .before .before .before .before .before .before .before .before .if3 .taken) (c .before .before .before .before .before .before .before .before .before .before .before .before .before .write-step .ensures .counts) (c .next .ensures) _ _ _ _ _ _ (c .before .before .before .before .before .before .before .before .before .before .before .before .before .write-step .ensures .most) (c .before .before .before .before .before .before .before .before .before .before .before .before .before .before .before .before .before .before .before .before .before .before .before .loop .inv .1), c .before .before .before .before .before .before .before .before .before .before .before .before .before .write-step .kept .1 .1 .1 .1 .1 .0 ∙ c .before .before .before .before .before .before .before .before .before .before .before .before .before .before .before .before .before .before .before .before .before .before .before .loop .inv .2, c .before .before .before .before .before .before .before .before .before .before .before .before .before .write-step .kept .1 .1 .1 .1 .1 .1 .1 .0 ∙ c .before .before .before .before .before .before .before .before .before .before .before .before .before .before .before .before .before .before .before .before .before .before .before .loop .inv .3, c .before .before .before .before .before .before .before .before .before .before .before .before .before .write-step .kept .1 .1 .1 .0 ∙ c .before .before .before .before .before .before .before .before .before .before .before .before .before .before .before .before .before .before .before .before .before .before .before .loop .inv .4, c .before .before .before .before .before .before .before .before .before .before .before .before .before .write-step .kept .1 .1 .1 .1 .0 ∙ c .before .before .before .before .before .before .before .before .before .before .before .before .before .before .before .before .before .before .before .before .before .before .before .loop .inv .5)
 
 cast-t33 : tie.Need-cast-t33 Inv-loop μ-loop
 cast-t33 c = omega (arith, c .before .before .before .loop .inv .1 .made, c .before .before .before .loop .inv .1 .last)
@@ -121,7 +121,7 @@ unit486-write-in-place-spec =
     Inv-loop
     μ-loop
     input-number-requires
-    turned-away-requires
+    refused-requires
     same-length
     same-length-2
     same-length-3
@@ -130,7 +130,7 @@ unit486-write-in-place-spec =
     states-number-requires
     value-number-requires
     or-else-requires
-    turned-away-requires-2
+    refused-requires-2
     same-length-5
     same-length-6
     same-length-7

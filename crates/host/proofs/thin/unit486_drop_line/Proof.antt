@@ -42,11 +42,11 @@ use denote.Triple.Walked.{says, Stays, stay-ref, stay-none, walkOf, AllGo, goes-
 use denote.Exit.{yes}
 use Rattle.directory.specs.Steps.{snoopCall}
 use Rattle.directory.specs.declared.steps.Directory.{Directory}
-use Rattle.directory.specs.declared.steps.Answer.{Answer}
+use Rattle.directory.specs.declared.steps.DirectoryResult.{DirectoryResult}
 use Rattle.directory.proofs.steps.Directory as Dir
 use Rattle.directory.proofs.steps.Directory.Laws as Dir′
-use Rattle.directory.proofs.steps.Answer as Ans
-use Rattle.directory.proofs.steps.Answer.Laws as Ans′
+use Rattle.directory.proofs.steps.DirectoryResult as Ans
+use Rattle.directory.proofs.steps.DirectoryResult.Laws as Ans′
 use Rattle.directory.proofs.steps.Directory.snoop as snoop
 use Rattle.directory.proofs.steps.Directory.snoop.Symbol as snoop-def
 use Rattle.directory.proofs.steps.Directory.snoop.Symbol.{name as #snoop}
@@ -67,34 +67,34 @@ stayed = (stay-ref (0 ∷ []) tt (plain (λ _. Dir.the-row)), (stay-none (λ _. 
 abbrev dir-val : Directory → Val
 dir-val = LL.val Dir.the-type Dir′.the-laws
 
-abbrev ans-val : Answer → Val
+abbrev ans-val : DirectoryResult → Val
 ans-val = LL.val Ans.the-type Ans′.the-laws
 
 abbrev IsDir : Directory → Type 0
 IsDir d = Is Dir.the-row d (dir-val d ∷ [])
 
-abbrev IsAns : Answer → Val → Type 0
+abbrev IsAns : DirectoryResult → Val → Type 0
 IsAns r v = Is Ans.the-row r (v ∷ [])
 
 -- What a call that returned an answer leaves known of it.
-spelt-out : (r : Answer) (v : Val) → IsAns r v → v ≡ ans-val r
+spelt-out : (r : DirectoryResult) (v : Val) → IsAns r v → v ≡ ans-val r
 spelt-out r v is = ap only (LL.tells Ans.the-type Ans′.the-laws r (v ∷ []) is)
 
-its-directory : (r : Answer) (v : Val) → IsAns r v → IsDir (r .directory)
+its-directory : (r : DirectoryResult) (v : Val) → IsAns r v → IsDir (r .directory)
 its-directory r v is = LL.owed Ans.the-type Ans′.the-laws r (v ∷ []) is .0
 
-its-number : (r : Answer) (v : Val) → IsAns r v → r .number < 2 ^ 32
+its-number : (r : DirectoryResult) (v : Val) → IsAns r v → r .number < 2 ^ 32
 its-number r v is = LL.owed Ans.the-type Ans′.the-laws r (v ∷ []) is .1 .0 .1
 
 module _ {M : Type 1} (𝓤 : URA M) (H : Heap 𝓤) (A : Atoms 𝓤) (at-mem : Memory → SProp 𝓤) (run : Routine → Fun 𝓤) where
   abbrev Snoop : Contract 𝓤
   Snoop = tripleOf 𝓤 H A snoop.signature (snoop.spec 𝓤 H A at-mem run)
 
-  abbrev Ensured : Directory → ℕ → Answer → SProp 𝓤
+  abbrev Ensured : Directory → ℕ → DirectoryResult → SProp 𝓤
   Ensured d n r = ensured 𝓤 H A snoop.ended (snoop.clauses 𝓤 H A at-mem run) tt (d, (n, tt)) tt r
 
   -- Of what `snoop` ensures, the equation alone.
-  snooped : (d : Directory) (n : ℕ) (r : Answer) → ent 𝓤 (Ensured d n r) (fact 𝓤 (r ≡ snoopCall d n))
+  snooped : (d : Directory) (n : ℕ) (r : DirectoryResult) → ent 𝓤 (Ensured d n r) (fact 𝓤 (r ≡ snoopCall d n))
   snooped d n r = exE 𝓤 _ (λ ws. snd∗ 𝓤 (sem 𝓤 H A (lasts snoop.ended tt (d, (n, tt)) ws)) (fact 𝓤 (r ≡ snoopCall d n)))
 
 -- The directory h lies at (b, o) and is lent for κ under the name γ; n is the address.
@@ -110,7 +110,7 @@ module _ {M : Type 1} (𝓤 : URA M) (H : Heap 𝓤) (A : Atoms 𝓤) (W : Given
   Post = walkOf 𝓤 H A drop′.ended stayed (drop′.clauses 𝓤 H A at-mem run) .post (((κ, tt), (q, tt), tt, x, at), tt)
 
   -- The exit, with the borrow closed at the answer's directory and the answer's number returned.
-  exits : (r : Answer) → r ≡ snoopCall h n → r .number < 2 ^ 32 → n < 2 ^ 32
+  exits : (r : DirectoryResult) → r ≡ snoopCall h n → r .number < 2 ^ 32 → n < 2 ^ 32
       → ent 𝓤 (sep 𝓤 (A .obs γ (Dir.the-row .coded .code (r .directory))) (sep 𝓤 (A .bor κ (Body (mem Dir.the-row) b o γ)) (A .lft κ q))) (Post (vint w32 (r .number)))
   exits r e fits-r fits-n =
       qed W (‵ (fobs γ (Dir.the-row .coded .code (r .directory))) ∷ ‵ (fbor κ (Body (mem Dir.the-row) b o γ)) ∷ ‵ (flft κ q) ∷ []) ∵
@@ -133,7 +133,7 @@ module _ {M : Type 1} (𝓤 : URA M) (H : Heap 𝓤) (A : Atoms 𝓤) (W : Given
   dir-typed : (d : Directory) → IsDir d → Holds (hasTy Dir′.mir (dir-val d)) × WT (dir-val d)
   dir-typed d is = LL.lawful Dir.the-type Dir′.the-laws 𝓤 H A W .typed d _ is .0
 
-  ans-typed : (r : Answer) (v : Val) → IsAns r v → Holds (hasTy Ans′.mir v) × WT v
+  ans-typed : (r : DirectoryResult) (v : Val) → IsAns r v → Holds (hasTy Ans′.mir v) × WT v
   ans-typed r v is = LL.lawful Ans.the-type Ans′.the-laws 𝓤 H A W .typed r _ is .0
 
   module _ (C : Calls 𝓤 H) (Λ : Loops 𝓤 H) (fm : FmC 𝓤 H (W .laws) C) (known : Triple 𝓤 (C #snoop) (Snoop 𝓤 H A at-mem run)) where
@@ -153,7 +153,7 @@ module _ {M : Type 1} (𝓤 : URA M) (H : Heap 𝓤) (A : Atoms 𝓤) (W : Given
         -- let answer = given.snoop(address); its value is spelt out for the reads of its fields
         use0 W (raw (Snoop 𝓤 H A at-mem run .pre to-snoop)) (asked is (gn .1)) $
         calls-at ! fm (Snoop 𝓤 H A at-mem run) known to-snoop (and-then ! (load ! (from ! (stop !)) (look ! 7 refl)) (and-then ! (load ! (from ! (stop !)) (look ! 9 refl)) (no-more !))) (λ v.
-        use1 W (later (some (λ (r : Answer). (‵ ftrue ⊛ ‵ (Ans.the-row .own r (v ∷ []))) ⊛ raw (Ensured 𝓤 H A at-mem run h n r)))) (id⊢ 𝓤 _) $ await ! tt $ pick ! (λ r.
+        use1 W (later (some (λ (r : DirectoryResult). (‵ ftrue ⊛ ‵ (Ans.the-row .own r (v ∷ []))) ⊛ raw (Ensured 𝓤 H A at-mem run h n r)))) (id⊢ 𝓤 _) $ await ! tt $ pick ! (λ r.
         split ! $ move ! (1 ∷ []) $ use1 W (raw (fact 𝓤 (r ≡ snoopCall h n))) (snooped 𝓤 H A at-mem run h n r) $ heard ! (r ≡ snoopCall h n) (λ e. split ! $ drop ! $
         facts ! Ans.the-row (Is Ans.the-row) (shows 𝓤 H A Ans.the-row) r (v ∷ []) (λ is′.
         land ! (from ! (stop !)) (init ! 4 refl (ans-typed r v is′)) $ rewrite ! 4 (λ (u : Val). ‵ (fat fullShare Ans′.mir l₄ 0 u)) (spelt-out r v is′) refl $

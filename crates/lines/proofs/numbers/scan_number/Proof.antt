@@ -2,14 +2,14 @@ use native.Mathlib.Omega.{arith}
 use lib.ListN.{length, drop, getD}
 use mathlib.Core.Path.{_≡_, refl, sym, ap, _∙_}
 use Prim.Native.Nat.{_≤_, _<_, _-_, _^_}
-use Rattle.lines.specs.Number.{allAre, isDigit, valueAfter, valueOf}
+use Rattle.lines.specs.Number.{allAre, isDigit, valueAfter, decimalValue}
 use Rattle.lines.specs.declared.numbers.Number.the-variants.{Value}
 use Rattle.lines.proofs.Digits.{all-step, all-end, value-step, value-end, number-empty, number-long, number-large, number-value, other-at, low-digit, high-digit, a-digit, power-step, power-most}
 use Rattle.lines.proofs.numbers.scan_number.Statement.{statement}
 use Rattle.lines.proofs.numbers.scan_number.Tie as tie
 
 abbrev Inv-loop : tie.InvT-loop
-Inv-loop field value₀ k₀ value k = (k ≤ length field) × (value < 10 ^ k) × (allAre isDigit (drop k field) ≡ allAre isDigit field) × (valueAfter value (drop k field) ≡ valueOf field)
+Inv-loop field value₀ k₀ value k = (k ≤ length field) × (value < 10 ^ k) × (allAre isDigit (drop k field) ≡ allAre isDigit field) × (valueAfter value (drop k field) ≡ decimalValue field)
 
 abbrev μ-loop : tie.MeasureT-loop
 μ-loop field value₀ k₀ value k = length field - k

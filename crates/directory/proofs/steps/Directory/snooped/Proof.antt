@@ -2,7 +2,7 @@ use native.Mathlib.Omega.{arith}
 use Prim.Native.Nat.{_<_}
 use mathlib.Core.Path.{_≡_, sym, _∙_}
 use Rattle.directory.specs.declared.ways.Found.the-variants.{At, Nothing}
-use Rattle.directory.specs.Address.{lineOf}
+use Rattle.directory.specs.Address.{lineIndex}
 use Rattle.directory.specs.Steps.{lookupOf, invalidated}
 use Rattle.directory.proofs.FourWays.{lookup-below}
 use Rattle.directory.proofs.Laws.{snoop-off, snoop-on}
@@ -14,7 +14,7 @@ use Rattle.directory.proofs.steps.Directory.snooped.Tie as tie
 found : (c : tie.After-set-of) → lookupOf (c .before .before .before .before .before .before .before .before .before .args .t1) (c .before .before .before .before .before .before .before .before .before .args .address) ≡ At (c .before .before .way .given .0 .0)
 found c = sym (c .before .before .before .before .lookup .ensures) ∙ c .before .before .way .given .1
 
-inside : (c : tie.After-set-of) → lineOf (c .set-of .result) (c .before .before .way .given .0 .0) < 512
+inside : (c : tie.After-set-of) → lineIndex (c .set-of .result) (c .before .before .way .given .0 .0) < 512
 inside c = let l = lookup-below _ _ _ _ (found c) in let s = c .set-of .ensures in omega arith
 
 returns : tie.Need-returns

@@ -1,16 +1,16 @@
 use Rattle.lines.proofs.Pairs.{pair-next, pair-none, pairs-length}
-use Rattle.lines.specs.Fields.{bytesOf}
+use Rattle.lines.specs.Fields.{pairBytes}
 use lib.Seq.{sets}
 use lib.ListN.{length, drop, length-set}
 use mathlib.Core.Path.{_≡_, refl, sym, _∙_}
 use Prim.Native.Nat.{_≤_, _-_, _*_, _/_}
 use native.Mathlib.Omega.{arith}
 use borrow.Author.Needs.{needs}
-use Rattle.lines.proofs.fields.bytes_of.Statement.{statement}
-use Rattle.lines.proofs.fields.bytes_of.Tie as tie
+use Rattle.lines.proofs.fields.pair_bytes.Statement.{statement}
+use Rattle.lines.proofs.fields.pair_bytes.Tie as tie
 
 abbrev Inv-loop : tie.InvT-loop
-Inv-loop field bytes₀ count k₀ bytes k = (k ≤ length field / 2) × (length bytes ≡ length bytes₀) × (sets bytes k (bytesOf (drop (2 * k) field)) ≡ sets bytes₀ 0 (bytesOf field))
+Inv-loop field bytes₀ count k₀ bytes k = (k ≤ length field / 2) × (length bytes ≡ length bytes₀) × (sets bytes k (pairBytes (drop (2 * k) field)) ≡ sets bytes₀ 0 (pairBytes field))
 
 abbrev μ-loop : tie.MeasureT-loop
 μ-loop field bytes₀ count k₀ bytes k = length field / 2 - k
@@ -63,8 +63,8 @@ same-length c = c .before .loop .inv .1
 returns : tie.Need-returns Inv-loop μ-loop
 returns c = (sym (pairs-length _), sym (pair-none (c .before .loop .bytes) (c .before .before .before .before .args .field .now) (c .before .loop .k) (omega arith)) ∙ c .before .loop .inv .2)
 
-pub bytes-of-spec : {M : Type 1} → statement M
-bytes-of-spec =
+pub pair-bytes-spec : {M : Type 1} → statement M
+pair-bytes-spec =
     tie.close
     (tie.spec
     Inv-loop

@@ -1,4 +1,4 @@
--- Laws of the loops over cycles: what is left from a turn on gives what the whole gives.
+-- Laws of the loops over cycles: what is left from a cursor on gives what the whole gives.
 use Prim.Native.Nat.{ℕ, suc, _+_, _*_, _-_, _/_, _%_, _≤_, _<_}
 use mathlib.Core.Path.{_≡_, refl, _∙_, ap}
 use mathlib.Core.Bool.{Bool, false}
@@ -8,27 +8,27 @@ use native.Mathlib.Numerals.{add-one}
 use lib.Dec.{eqb}
 use lib.ListN.{length, getD, drop}
 use lib.Seq.{drop-cons, sets, length-sets}
-use Rattle.bus.specs.declared.cycle.Turn.{Turn}
+use Rattle.bus.specs.declared.cycle.CycleCursor.{CycleCursor}
 use Rattle.memory.specs.Bytes.{bytesAt, wordIn}
 use Rattle.memory.specs.Parity.{Memory, put, stored, wrongIn}
-use Rattle.bus.specs.Bus.{Run, run, sizeOf, Cycle, cyclesOf, lastAnswer, through, brought, sent}
+use Rattle.bus.specs.Bus.{Run, run, sizeOf, Cycle, cyclesOf, lastAnswer, through, bufferAfter, memoryAfter}
 use Rattle.bus.specs.Record.{Record, flagsOf, readRecord, writeRecord, wordsOf, logged}
-use Rattle.bus.specs.Turns.{wantedAt, nextTurn, cycleAt, Ready, Room, ReadCycle, ReadCycles, WriteCycle, WriteCycles}
+use Rattle.bus.specs.CycleLoop.{wantedAt, cycleNext, cycleAt, CycleNeeds, BufferNeeds, ReadCycle, ReadCycles, WriteCycle, WriteCycles}
 use Rattle.memory.proofs.Bits.{put-lengths}
 use Rattle.bus.proofs.Sizing.{size-most, wanted-some, wanted-none, wanted-next, last-next, next-used, next-ready}
 
 -- one record, then the others
-pub logged-cons : (log : List ℕ) (first : ℕ) (r : Record) (rs : List Record) → logged log first (r ∷ rs) ≡ logged (logged log first (r ∷ [])) (first + 1) rs
+logged-cons : (log : List ℕ) (first : ℕ) (r : Record) (rs : List Record) → logged log first (r ∷ rs) ≡ logged (logged log first (r ∷ [])) (first + 1) rs
 unfolding wordsOf
 logged-cons log first r rs =
     let e : 3 * (first + 1) ≡ suc (suc (suc (3 * first))) = omega arith in
     rw e
 
--- the cycles from a turn on
-unfoldable pub restAt : ℕ → List ℕ → Turn → List Cycle
+-- the cycles from a cursor on
+unfoldable pub restAt : ℕ → List ℕ → CycleCursor → List Cycle
 restAt start xs t = cyclesOf (drop (t .used) xs) (wantedAt start t)
 
-pub rest-begin : (start : ℕ) (xs : List ℕ) (t : Turn) → t .used ≡ 0 → restAt start xs t ≡ cyclesOf xs (wantedAt start t)
+rest-begin : (start : ℕ) (xs : List ℕ) (t : CycleCursor) → t .used ≡ 0 → restAt start xs t ≡ cyclesOf xs (wantedAt start t)
 unfolding restAt
 rest-begin start xs t e = rw e
 
@@ -37,15 +37,15 @@ unfolding cyclesOf
 none-made [] = refl
 none-made (x ∷ xs) = refl
 
-pub rest-done : (start : ℕ) (xs : List ℕ) (t : Turn) → t .count ≡ 0 → restAt start xs t ≡ []
+pub rest-done : (start : ℕ) (xs : List ℕ) (t : CycleCursor) → t .count ≡ 0 → restAt start xs t ≡ []
 unfolding restAt
 rest-done start xs t e = rw (wanted-none start t e, none-made (drop (t .used) xs))
 
-module _ (start : ℕ) (xs : List ℕ) (t : Turn) (some : 0 < t .count) (more : t .used < length xs) where
+module _ (start : ℕ) (xs : List ℕ) (t : CycleCursor) (some : 0 < t .count) (more : t .used < length xs) where
   abbrev here : ℕ
   here = getD xs (t .used) 0
 
-  pub rest-next : restAt start xs t ≡ cycleAt start t here ∷ restAt start xs (nextTurn start t here)
+  pub rest-next : restAt start xs t ≡ cycleAt start t here ∷ restAt start xs (cycleNext start t here)
   unfolding restAt cyclesOf
   rest-next =
       rw (
@@ -59,16 +59,16 @@ module _ (start : ℕ) (xs : List ℕ) (t : Turn) (some : 0 < t .count) (more : 
 
 -- what the loops keep, for any work that its cycles do to what they work on
 module _ {S : Type 0} (f : Run → S → S) (make : Cycle → Record) (start first : ℕ) (xs : List ℕ) where
-  pub record Kept (begin : Turn) (log₀ : List ℕ) (s₀ : S) (t : Turn) (log : List ℕ) (s : S) : Type 0 where
+  pub record CycleInvariant (begin : CycleCursor) (log₀ : List ℕ) (s₀ : S) (t : CycleCursor) (log : List ℕ) (s : S) : Type 0 where
     pub logs : logged log (first + t .used) (map make (restAt start xs t)) ≡ logged log₀ first (map make (restAt start xs begin))
     pub works : through f (restAt start xs t) s ≡ through f (restAt start xs begin) s₀
     pub made : t .used + length (restAt start xs t) ≡ length (restAt start xs begin)
     pub ends : lastAnswer (t .answer) (restAt start xs t) ≡ lastAnswer 0 (restAt start xs begin)
-    pub ready : Ready t (length xs)
+    pub ready : CycleNeeds t (length xs)
     pub lengths : length log ≡ length log₀
 
-  pub kept-begin : (begin : Turn) (log₀ : List ℕ) (s₀ : S) → begin .used ≡ 0 → begin .answer ≡ 0 → Ready begin (length xs) → Kept begin log₀ s₀ begin log₀ s₀
-  kept-begin begin log₀ s₀ e a r =
+  pub cycle-invariant-begin : (begin : CycleCursor) (log₀ : List ℕ) (s₀ : S) → begin .used ≡ 0 → begin .answer ≡ 0 → CycleNeeds begin (length xs) → CycleInvariant begin log₀ s₀ begin log₀ s₀
+  cycle-invariant-begin begin log₀ s₀ e a r =
       let n : first + begin .used ≡ first = omega arith in
       record {
         logs = rw n;
@@ -79,17 +79,17 @@ module _ {S : Type 0} (f : Run → S → S) (make : Cycle → Record) (start fir
         lengths = refl;
       }
 
-  pub used-more : (t : Turn) → Ready t (length xs) → 0 < t .count → t .used < length xs
+  pub used-more : (t : CycleCursor) → CycleNeeds t (length xs) → 0 < t .count → t .used < length xs
   used-more t r some = omega (arith, r .enough)
 
-  pub kept-next : {begin : Turn} {log₀ : List ℕ} {s₀ : S} {t : Turn} {log : List ℕ} {s : S} (u : Turn) (log′ : List ℕ) (s′ : S) →
-      start < 4 → 0 < t .count → Kept begin log₀ s₀ t log s →
-      u ≡ nextTurn start t (getD xs (t .used) 0) →
+  pub cycle-invariant-next : {begin : CycleCursor} {log₀ : List ℕ} {s₀ : S} {t : CycleCursor} {log : List ℕ} {s : S} (u : CycleCursor) (log′ : List ℕ) (s′ : S) →
+      start < 4 → 0 < t .count → CycleInvariant begin log₀ s₀ t log s →
+      u ≡ cycleNext start t (getD xs (t .used) 0) →
       log′ ≡ logged log (first + t .used) (make (cycleAt start t (getD xs (t .used) 0)) ∷ []) →
       s′ ≡ f (cycleAt start t (getD xs (t .used) 0) .moved) s →
-      Kept begin log₀ s₀ u log′ s′
+      CycleInvariant begin log₀ s₀ u log′ s′
   unfolding through lastAnswer
-  kept-next {begin} {log₀} {s₀} {t} {log} {s} u log′ s′ sl some k eu el es =
+  cycle-invariant-next {begin} {log₀} {s₀} {t} {log} {s} u log′ s′ sl some k eu el es =
       let x = getD xs (t .used) 0 in
       let more = used-more t (k .ready) some in
       let r : restAt start xs t ≡ cycleAt start t x ∷ restAt start xs u = rest-next start xs t some more ∙ rw eu in
@@ -106,21 +106,21 @@ module _ {S : Type 0} (f : Run → S → S) (make : Cycle → Record) (start fir
         lengths = rw el (length-sets log (3 * (first + t .used)) (wordsOf (make (cycleAt start t x) ∷ [])) ∙ k .lengths);
       }
 
-  pub kept-end : {begin : Turn} {log₀ : List ℕ} {s₀ : S} {t : Turn} {log : List ℕ} {s : S} → t .count ≡ 0 → Kept begin log₀ s₀ t log s →
+  pub cycle-invariant-end : {begin : CycleCursor} {log₀ : List ℕ} {s₀ : S} {t : CycleCursor} {log : List ℕ} {s : S} → t .count ≡ 0 → CycleInvariant begin log₀ s₀ t log s →
       (log ≡ logged log₀ first (map make (restAt start xs begin)))
       × (s ≡ through f (restAt start xs begin) s₀)
       × (t .used ≡ length (restAt start xs begin))
       × (t .answer ≡ lastAnswer 0 (restAt start xs begin))
   unfolding through lastAnswer wordsOf
-  kept-end {t = t} z k =
+  cycle-invariant-end {t = t} z k =
       let r = rest-done start xs t z in
       (rw r at (k .logs), rw r at (k .works), (let m = rw r at (k .made) in omega arith), rw r at (k .ends))
 
 -- one read cycle of the code, from what its parts leave
-module _ (kind : ℕ) (m : Memory) (start line first : ℕ) (t : Turn) (x : ℕ) (log₀ buffer₀ : List ℕ) where
-  pub read-cycle-left : {size address flags word : ℕ} {wrong : Bool} {next : Turn} {log buffer : List ℕ} →
+module _ (kind : ℕ) (m : Memory) (start line first : ℕ) (t : CycleCursor) (x : ℕ) (log₀ buffer₀ : List ℕ) where
+  pub read-cycle-left : {size address flags word : ℕ} {wrong : Bool} {next : CycleCursor} {log buffer : List ℕ} →
       size ≡ sizeOf x (run (t .from) (t .count)) →
-      next ≡ nextTurn start t x →
+      next ≡ cycleNext start t x →
       wrong ≡ wrongIn m (line + t .from) size →
       flags ≡ flagsOf (t .from % 4) size kind (eqb (next .count) 0) wrong →
       address ≡ line + t .from / 4 * 4 →
@@ -133,10 +133,10 @@ module _ (kind : ℕ) (m : Memory) (start line first : ℕ) (t : Turn) (x : ℕ)
       record { turn = en; logs = rw (el, ed, ef, ew, ea, en, es); brings = rw (eb, es) }
 
 -- one write cycle of the code
-module _ (buffer : List ℕ) (line first : ℕ) (t : Turn) (x : ℕ) (m₀ : Memory) (log₀ : List ℕ) where
-  pub write-cycle-left : {size address flags word : ℕ} {next : Turn} {m : Memory} {log : List ℕ} →
+module _ (buffer : List ℕ) (line first : ℕ) (t : CycleCursor) (x : ℕ) (m₀ : Memory) (log₀ : List ℕ) where
+  pub write-cycle-left : {size address flags word : ℕ} {next : CycleCursor} {m : Memory} {log : List ℕ} →
       size ≡ sizeOf x (run (t .from) (t .count)) →
-      next ≡ nextTurn 0 t x →
+      next ≡ cycleNext 0 t x →
       flags ≡ flagsOf (t .from % 4) size 16 (eqb (next .count) 0) false →
       address ≡ line + t .from / 4 * 4 →
       word ≡ wordIn (t .from % 4) (bytesAt buffer (t .from) size) →
@@ -148,7 +148,7 @@ module _ (buffer : List ℕ) (line first : ℕ) (t : Turn) (x : ℕ) (m₀ : Mem
       record { turn = en; logs = rw (el, ed, ef, ea, en, es); sends = rw (em, es) }
 
 -- what a cycle touches lies within its buffers
-pub record Fits (t : Turn) (line first ram parity log size : ℕ) : Type 0 where
+pub record Fits (t : CycleCursor) (line first ram parity log size : ℕ) : Type 0 where
   pub most : size ≤ 4
   pub lanes : t .from % 4 + size ≤ 4
   pub whole : t .from + size ≤ 16
@@ -156,8 +156,8 @@ pub record Fits (t : Turn) (line first ram parity log size : ℕ) : Type 0 where
   pub bits : line + t .from + size ≤ 4 * parity
   pub place : 3 * (first + t .used) + 3 ≤ log
 
-pub cycle-fits : (t : Turn) (line first ram parity answers log buffer size x : ℕ) → 0 < t .count →
-    Ready t answers → Room line first ram parity answers log buffer → size ≡ sizeOf x (run (t .from) (t .count)) →
+pub cycle-fits : (t : CycleCursor) (line first ram parity answers log buffer size x : ℕ) → 0 < t .count →
+    CycleNeeds t answers → BufferNeeds line first ram parity answers log buffer → size ≡ sizeOf x (run (t .from) (t .count)) →
     Fits t line first ram parity log size
 cycle-fits t line first ram parity answers log buffer size x some r z e =
     let m = size-most x (t .from) (t .count) in
@@ -177,16 +177,16 @@ cycle-fits t line first ram parity answers log buffer size x some r z e =
     in-line from size h l = omega arith
 
 -- the loops' measure falls, and where nothing is wanted the loops have left what all cycles leave
-pub less-next : (start : ℕ) (t u : Turn) (x n : ℕ) → u ≡ nextTurn start t x → t .used < n → n - u .used < n - t .used
+pub less-next : (start : ℕ) (t u : CycleCursor) (x n : ℕ) → u ≡ cycleNext start t x → t .used < n → n - u .used < n - t .used
 less-next start t u x n e h = let k : u .used ≡ t .used + 1 = rw e (next-used start t x .0) in omega arith
 
-pub read-cycles-left : (kind : ℕ) (m : Memory) (xs : List ℕ) (start line first : ℕ) (begin t : Turn) (log₀ buffer₀ log buffer : List ℕ) →
+pub read-cycles-left : (kind : ℕ) (m : Memory) (xs : List ℕ) (start line first : ℕ) (begin t : CycleCursor) (log₀ buffer₀ log buffer : List ℕ) →
     begin .used ≡ 0 → t .count ≡ 0 →
-    Kept (brought (m .ram) line) (readRecord kind m line) start first xs begin log₀ buffer₀ t log buffer →
+    CycleInvariant (bufferAfter (m .ram) line) (readRecord kind m line) start first xs begin log₀ buffer₀ t log buffer →
     ReadCycles kind m xs start line first begin log₀ buffer₀ t log buffer
 read-cycles-left kind m xs start line first begin t log₀ buffer₀ log buffer u z k =
     let b = rest-begin start xs begin u in
-    let e = kept-end (brought (m .ram) line) (readRecord kind m line) start first xs z k in
+    let e = cycle-invariant-end (bufferAfter (m .ram) line) (readRecord kind m line) start first xs z k in
     record {
       logs = rw (← b) (e .0);
       brings = rw (← b) (e .1);
@@ -195,13 +195,13 @@ read-cycles-left kind m xs start line first begin t log₀ buffer₀ log buffer 
       most = omega (arith, k .ready .enough);
     }
 
-pub write-cycles-left : (buffer xs : List ℕ) (line first : ℕ) (begin t : Turn) (m₀ : Memory) (log₀ : List ℕ) (m : Memory) (log : List ℕ) →
+pub write-cycles-left : (buffer xs : List ℕ) (line first : ℕ) (begin t : CycleCursor) (m₀ : Memory) (log₀ : List ℕ) (m : Memory) (log : List ℕ) →
     begin .used ≡ 0 → t .count ≡ 0 →
-    Kept (sent buffer line) (writeRecord buffer line) 0 first xs begin log₀ m₀ t log m →
+    CycleInvariant (memoryAfter buffer line) (writeRecord buffer line) 0 first xs begin log₀ m₀ t log m →
     WriteCycles buffer xs line first begin m₀ log₀ t m log
 write-cycles-left buffer xs line first begin t m₀ log₀ m log u z k =
     let b = rest-begin 0 xs begin u in
-    let e = kept-end (sent buffer line) (writeRecord buffer line) 0 first xs z k in
+    let e = cycle-invariant-end (memoryAfter buffer line) (writeRecord buffer line) 0 first xs z k in
     record {
       logs = rw (← b) (e .0);
       sends = rw (← b) (e .1);
@@ -210,7 +210,7 @@ write-cycles-left buffer xs line first begin t m₀ log₀ m log u z k =
     }
 
 -- a store leaves the lengths of memory
-pub stored-lengths : (bytes : List ℕ) (m : Memory) (a : ℕ) → (length (stored m a bytes .ram) ≡ length (m .ram)) × (length (stored m a bytes .parity) ≡ length (m .parity))
+stored-lengths : (bytes : List ℕ) (m : Memory) (a : ℕ) → (length (stored m a bytes .ram) ≡ length (m .ram)) × (length (stored m a bytes .parity) ≡ length (m .parity))
 unfolding stored
 stored-lengths [] m a = (refl, refl)
 stored-lengths (b ∷ bytes) m a =
@@ -219,14 +219,14 @@ stored-lengths (b ∷ bytes) m a =
     (k .0 ∙ e .0, k .1 ∙ e .1)
 
 -- a write cycle leaves the lengths of memory
-pub write-cycle-lengths : {buffer : List ℕ} {line first : ℕ} {t : Turn} {x : ℕ} {m₀ : Memory} {log₀ : List ℕ} {r : Turn} {m : Memory} {log : List ℕ} →
+pub write-cycle-lengths : {buffer : List ℕ} {line first : ℕ} {t : CycleCursor} {x : ℕ} {m₀ : Memory} {log₀ : List ℕ} {r : CycleCursor} {m : Memory} {log : List ℕ} →
     WriteCycle buffer line first t x m₀ log₀ r m log → (length (m .ram) ≡ length (m₀ .ram)) × (length (m .parity) ≡ length (m₀ .parity))
 write-cycle-lengths {buffer} {line} {t = t} {x} {m₀} c =
     let k = stored-lengths (bytesAt buffer (t .from) (sizeOf x (run (t .from) (t .count)))) m₀ (line + t .from) in
     (ap (λ (m : Memory). length (m .ram)) (c .sends) ∙ k .0, ap (λ (m : Memory). length (m .parity)) (c .sends) ∙ k .1)
 
 -- a read cycle leaves the length of the line buffer
-pub read-cycle-length : {kind : ℕ} {m : Memory} {start line first : ℕ} {t : Turn} {x : ℕ} {log₀ buffer₀ : List ℕ} {r : Turn} {log buffer : List ℕ} →
+pub read-cycle-length : {kind : ℕ} {m : Memory} {start line first : ℕ} {t : CycleCursor} {x : ℕ} {log₀ buffer₀ : List ℕ} {r : CycleCursor} {log buffer : List ℕ} →
     ReadCycle kind m start line first t x log₀ buffer₀ r log buffer → length buffer ≡ length buffer₀
 read-cycle-length {m = m} {start} {line} {t = t} {x} {buffer₀ = buffer₀} c =
     ap length (c .brings)

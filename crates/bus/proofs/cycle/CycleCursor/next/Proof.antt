@@ -2,8 +2,8 @@ use native.Mathlib.Omega.{arith}
 use mathlib.Core.Path.{sym, _∙_}
 use Rattle.bus.proofs.Sizing.{size-most, next-done, next-whole, next-part}
 use borrow.Author.Needs.{needs}
-use Rattle.bus.proofs.cycle.Turn.next.Statement.{statement}
-use Rattle.bus.proofs.cycle.Turn.next.Tie as tie
+use Rattle.bus.proofs.cycle.CycleCursor.next.Statement.{statement}
+use Rattle.bus.proofs.cycle.CycleCursor.next.Tie as tie
 
 size-of-requires : tie.Need-size-of-requires
 size-of-requires c κs = search needs

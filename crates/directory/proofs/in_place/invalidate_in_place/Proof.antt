@@ -3,23 +3,23 @@ use Prim.Native.Nat.{_<_}
 use mathlib.Core.Path.{_≡_, sym, _∙_}
 use native.Mathlib.Omega.{arith}
 use Rattle.directory.specs.declared.ways.Found.the-variants.{At}
-use Rattle.directory.specs.Address.{lineOf}
+use Rattle.directory.specs.Address.{lineIndex}
 use Rattle.directory.specs.Ways.{lookupIn}
 use Rattle.directory.proofs.FourWays.{lookup-below}
-use Rattle.directory.proofs.Lent.{drop-off, drop-nothing, drop-at}
+use Rattle.directory.proofs.Lent.{invalidate-off, invalidate-nothing, invalidate-at}
 use borrow.Author.Needs.{needs}
-use Rattle.directory.proofs.in_place.drop_in_place.Statement.{statement}
-use Rattle.directory.proofs.in_place.drop_in_place.Tie as tie
+use Rattle.directory.proofs.in_place.invalidate_in_place.Statement.{statement}
+use Rattle.directory.proofs.in_place.invalidate_in_place.Tie as tie
 
 -- the line that is found
 found : (c : tie.After-set-of) → lookupIn (now (c .before .before .before .before .before .before .before .args .tags)) (now (c .before .before .before .before .before .before .before .args .valid)) (c .before .before .before .before .before .before .before .args .address) ≡ At (c .before .before .way .given .0 .0)
 found c = sym (c .before .before .before .before .lookup .ensures) ∙ c .before .before .way .given .1
 
-inside : (c : tie.After-set-of) → lineOf (c .set-of .result) (c .before .before .way .given .0 .0) < 512
+inside : (c : tie.After-set-of) → lineIndex (c .set-of .result) (c .before .before .way .given .0 .0) < 512
 inside c = let l = lookup-below _ _ _ _ (found c) in let s = c .set-of .ensures in omega arith
 
 returns : tie.Need-returns
-returns c lru cd = drop-off _ _ _ _ _ _ (c .if1 .taken)
+returns c lru cd = invalidate-off _ _ _ _ _ _ (c .if1 .taken)
 
 lookup-requires : tie.Need-lookup-requires
 lookup-requires c κs = search needs
@@ -31,7 +31,7 @@ enum-told : tie.Need-enum-told
 enum-told c = search needs
 
 returns-2 : tie.Need-returns-2
-returns-2 c lru cd = drop-nothing _ _ _ _ _ _ (c .before .before .before .before .if1 .left) (sym (c .before .before .lookup .ensures) ∙ c .enum-told .given .1)
+returns-2 c lru cd = invalidate-nothing _ _ _ _ _ _ (c .before .before .before .before .if1 .left) (sym (c .before .before .lookup .ensures) ∙ c .enum-told .given .1)
 
 set-of-requires : tie.Need-set-of-requires
 set-of-requires c κs = search needs
@@ -46,10 +46,10 @@ element-write-valid : tie.Need-element-write-valid
 element-write-valid c = inside c
 
 returns-3 : tie.Need-returns-3
-returns-3 c lru cd = drop-at _ _ _ _ _ _ (c .before .before .before .before .before .before .if1 .left) _ _ (c .set-of .ensures) (found c)
+returns-3 c lru cd = invalidate-at _ _ _ _ _ _ (c .before .before .before .before .before .before .if1 .left) _ _ (c .set-of .ensures) (found c)
 
-pub drop-in-place-spec : {M : Type 1} → statement M
-drop-in-place-spec =
+pub invalidate-in-place-spec : {M : Type 1} → statement M
+invalidate-in-place-spec =
     tie.close
     (tie.spec
     returns

@@ -5,9 +5,9 @@ use mathlib.Core.Bool.{cond}
 use mathlib.Core.List.{List, [], _∷_, map}
 use lib.Dec.{eqb}
 use lib.ListN.{length, getD}
-use Rattle.bus.specs.declared.cycle.Turn.{Turn}
+use Rattle.bus.specs.declared.cycle.CycleCursor.{CycleCursor}
 use Rattle.memory.specs.Parity.{Memory}
-use Rattle.bus.specs.Bus.{Run, run, sizeOf, Cycle, cyclesOf, burst, brought, sent, through, lastAnswer}
+use Rattle.bus.specs.Bus.{Run, run, sizeOf, Cycle, cyclesOf, burst, bufferAfter, memoryAfter, through, lastAnswer}
 use Rattle.bus.specs.Record.{logged, readRecord, writeRecord}
 
 -- The offset of a doubleword of the burst order, by its turn.
@@ -19,17 +19,17 @@ unfoldable pub later : ℕ → ℕ → ℕ → List Run
 later start turn zero = []
 later start turn (suc n) = run (burstAt start (turn + 1)) 4 ∷ later start (turn + 1) n
 
--- The turn before the first cycle: so many bytes from an offset on, and so many doublewords after them.
-abbrev pub beginTurn : ℕ → ℕ → ℕ → Turn
-beginTurn from count after = record { from = from; count = count; turn = 0; left = after; used = 0; answer = 0 }
+-- The cursor before the first cycle: so many bytes from an offset on, and so many doublewords after them.
+abbrev pub cycleBegin : ℕ → ℕ → ℕ → CycleCursor
+cycleBegin from count after = record { from = from; count = count; turn = 0; left = after; used = 0; answer = 0 }
 
--- The wanted bytes at a turn: none where the count is 0.
-unfoldable pub wantedAt : ℕ → Turn → List Run
+-- The wanted bytes at a cursor: none where the count is 0.
+unfoldable pub wantedAt : ℕ → CycleCursor → List Run
 wantedAt start t = cond (eqb (t .count) 0) [] (run (t .from) (t .count) ∷ later start (t .turn) (t .left))
 
--- The turn after a cycle with an answer.
-unfoldable pub nextTurn : ℕ → Turn → ℕ → Turn
-nextTurn start t x =
+-- The cursor after a cycle with an answer.
+unfoldable pub cycleNext : ℕ → CycleCursor → ℕ → CycleCursor
+cycleNext start t x =
     let size = sizeOf x (run (t .from) (t .count)) in
     cond (eqb size (t .count))
     (cond (eqb (t .left) 0)
@@ -51,24 +51,24 @@ nextTurn start t x =
       answer = x;
     })
 
--- The cycle at a turn.
-abbrev pub cycleAt : ℕ → Turn → ℕ → Cycle
+-- The cycle at a cursor.
+abbrev pub cycleAt : ℕ → CycleCursor → ℕ → Cycle
 cycleAt start t x =
     record {
       moved = run (t .from) (sizeOf x (run (t .from) (t .count)));
       answer = x;
-      last = eqb (nextTurn start t x .count) 0;
+      last = eqb (cycleNext start t x .count) 0;
     }
 
--- What a turn with a cycle to make needs: bytes of one doubleword of a line, an answer for each byte wanted from here on.
-pub record Ready (t : Turn) (answers : ℕ) : Type 0 where
+-- What a cursor with a cycle to make needs: bytes of one doubleword of a line, an answer for each byte wanted from here on.
+pub record CycleNeeds (t : CycleCursor) (answers : ℕ) : Type 0 where
   pub lanes : t .from % 4 + t .count ≤ 4
   pub line : t .from < 16
   pub turns : t .turn + t .left ≤ 3
   pub enough : t .used + t .count + 4 * t .left ≤ answers
 
 -- What the buffers of cycles need: the line in RAM with its parity, a record for each answer from the first record on, a whole line buffer.
-pub record Room (line first ram parity answers log buffer : ℕ) : Type 0 where
+pub record BufferNeeds (line first ram parity answers log buffer : ℕ) : Type 0 where
   pub aligned : line % 16 ≡ 0
   pub inside : line + 16 ≤ ram
   pub small : ram ≤ 16777216
@@ -77,29 +77,29 @@ pub record Room (line first ram parity answers log buffer : ℕ) : Type 0 where
   pub few : first + answers ≤ 64
   pub whole : buffer ≡ 16
 
--- What a read cycle leaves: the next turn, its record, its bytes in the line buffer.
-pub record ReadCycle (kind : ℕ) (m : Memory) (start line first : ℕ) (t : Turn) (x : ℕ) (log₀ buffer₀ : List ℕ) (r : Turn) (log buffer : List ℕ) : Type 0 where
-  pub turn : r ≡ nextTurn start t x
+-- What a read cycle leaves: the next cursor, its record, its bytes in the line buffer.
+pub record ReadCycle (kind : ℕ) (m : Memory) (start line first : ℕ) (t : CycleCursor) (x : ℕ) (log₀ buffer₀ : List ℕ) (r : CycleCursor) (log buffer : List ℕ) : Type 0 where
+  pub turn : r ≡ cycleNext start t x
   pub logs : log ≡ logged log₀ (first + t .used) (readRecord kind m line (cycleAt start t x) ∷ [])
-  pub brings : buffer ≡ brought (m .ram) line (cycleAt start t x .moved) buffer₀
+  pub brings : buffer ≡ bufferAfter (m .ram) line (cycleAt start t x .moved) buffer₀
 
--- What all read cycles from a turn on leave.
-pub record ReadCycles (kind : ℕ) (m : Memory) (answers : List ℕ) (start line first : ℕ) (t : Turn) (log₀ buffer₀ : List ℕ) (r : Turn) (log buffer : List ℕ) : Type 0 where
+-- What all read cycles from a cursor on leave.
+pub record ReadCycles (kind : ℕ) (m : Memory) (answers : List ℕ) (start line first : ℕ) (t : CycleCursor) (log₀ buffer₀ : List ℕ) (r : CycleCursor) (log buffer : List ℕ) : Type 0 where
   pub logs : log ≡ logged log₀ first (map (readRecord kind m line) (cyclesOf answers (wantedAt start t)))
-  pub brings : buffer ≡ through (brought (m .ram) line) (cyclesOf answers (wantedAt start t)) buffer₀
+  pub brings : buffer ≡ through (bufferAfter (m .ram) line) (cyclesOf answers (wantedAt start t)) buffer₀
   pub made : r .used ≡ length (cyclesOf answers (wantedAt start t))
   pub ends : r .answer ≡ lastAnswer 0 (cyclesOf answers (wantedAt start t))
   pub most : r .used ≤ length answers
 
--- What a write cycle leaves, and all write cycles from a turn on.
-pub record WriteCycle (buffer : List ℕ) (line first : ℕ) (t : Turn) (x : ℕ) (m₀ : Memory) (log₀ : List ℕ) (r : Turn) (m : Memory) (log : List ℕ) : Type 0 where
-  pub turn : r ≡ nextTurn 0 t x
+-- What a write cycle leaves.
+pub record WriteCycle (buffer : List ℕ) (line first : ℕ) (t : CycleCursor) (x : ℕ) (m₀ : Memory) (log₀ : List ℕ) (r : CycleCursor) (m : Memory) (log : List ℕ) : Type 0 where
+  pub turn : r ≡ cycleNext 0 t x
   pub logs : log ≡ logged log₀ (first + t .used) (writeRecord buffer line (cycleAt 0 t x) ∷ [])
-  pub sends : m ≡ sent buffer line (cycleAt 0 t x .moved) m₀
+  pub sends : m ≡ memoryAfter buffer line (cycleAt 0 t x .moved) m₀
 
--- What all write cycles from a turn on leave.
-pub record WriteCycles (buffer answers : List ℕ) (line first : ℕ) (t : Turn) (m₀ : Memory) (log₀ : List ℕ) (r : Turn) (m : Memory) (log : List ℕ) : Type 0 where
+-- What all write cycles from a cursor on leave.
+pub record WriteCycles (buffer answers : List ℕ) (line first : ℕ) (t : CycleCursor) (m₀ : Memory) (log₀ : List ℕ) (r : CycleCursor) (m : Memory) (log : List ℕ) : Type 0 where
   pub logs : log ≡ logged log₀ first (map (writeRecord buffer line) (cyclesOf answers (wantedAt 0 t)))
-  pub sends : m ≡ through (sent buffer line) (cyclesOf answers (wantedAt 0 t)) m₀
+  pub sends : m ≡ through (memoryAfter buffer line) (cyclesOf answers (wantedAt 0 t)) m₀
   pub made : r .used ≡ length (cyclesOf answers (wantedAt 0 t))
   pub most : r .used ≤ length answers

@@ -1,13 +1,13 @@
-// The way of an access over its doublewords, the lowest first.
+// The doublewords of an access, the lowest first.
 ghost use mathlib.Core.Path.{_≡_};
 ghost use Prim.Native.Nat.{_+_, _≤_, _<_};
-ghost use Rattle.access.specs.Walks.{nextWalk, startWalk, wantedOf};
+ghost use Rattle.access.specs.AccessLoop.{accessNext, accessStart, wantedOf};
 use doubleword::Change;
 use doubleword::Wanted;
 
 // What is left between two doublewords: the address of the next wanted byte, the bytes left, the group of answers that
 // serves them, their place in the operand, and the records made.
-pub struct Walk {
+pub struct AccessCursor {
     pub address: u32,
     pub left: usize,
     pub place: usize,
@@ -17,18 +17,18 @@ pub struct Walk {
 
 // What a doubleword did: the directory's change with its line, the bytes moved and the records made. What is left after it
 // is worked out by the caller, in registers.
-pub struct Stepped {
+pub struct StepResult {
     pub line: u32,
     pub change: Change,
     pub count: usize,
     pub records: usize,
 }
 
-impl Walk {
-    pub fn start(address: u32, width: u32) -> Walk
-        ensures { λ r. ⌜ r ≡ startWalk address width ⌝ }
+impl AccessCursor {
+    pub fn start(address: u32, width: u32) -> AccessCursor
+        ensures { λ r. ⌜ r ≡ accessStart address width ⌝ }
     {
-        Walk {
+        AccessCursor {
             address,
             left: width as usize,
             group: 0,
@@ -52,11 +52,11 @@ impl Walk {
     }
 
     // What is left after a doubleword: so many bytes, and so many records.
-    pub fn next(self, count: usize, records: usize) -> Walk
+    pub fn next(self, count: usize, records: usize) -> AccessCursor
         requires { ⌜ (count ≤ self .left) × (self .address + self .left < 4294967296) × (self .group < 64) × (self .place < 64) × (self .left ≤ 64) × (self .records ≤ 64) × (records ≤ 64) ⌝ }
-        ensures { λ r. ⌜ r ≡ nextWalk self count records ⌝ }
+        ensures { λ r. ⌜ r ≡ accessNext self count records ⌝ }
     {
-        Walk {
+        AccessCursor {
             address: self.address + count as u32,
             left: self.left - count,
             group: self.group + 1,

@@ -1,0 +1,375 @@
+-- Laws of the loops over doublewords: what is left from here gives what the whole gives.
+use Prim.Native.Nat.{ℕ, zero, suc, _+_, _*_, _-_, _/_, _%_, _≤_, _<_, min}
+use mathlib.Core.Path.{_≡_, refl, sym, _∙_, ap}
+use mathlib.Core.Bool.{Bool}
+use mathlib.Core.List.{List, [], _∷_, _++_}
+use native.Mathlib.Omega.{arith}
+use native.Mathlib.Decide.{decLe}
+use lib.ListN.{length, take, drop, length-append, length-take, length-drop}
+use lib.Seq.{drop-drop, sets}
+use Rattle.laws.proofs.Lists.{sets-append}
+use Rattle.memory.specs.Parity.{Memory}
+use Rattle.bus.specs.Bus.{run}
+use Rattle.bus.proofs.Flags.{words-length}
+use Rattle.bus.specs.Record.{Record, logged, wordsOf}
+use Rattle.directory.specs.declared.steps.Directory.{Directory}
+use Rattle.doubleword.specs.declared.change.Change.{Change}
+use Rattle.doubleword.specs.declared.change.Change.the-variants.{Unchanged}
+use Rattle.doubleword.specs.declared.change.DoublewordResult.{DoublewordResult}
+use Rattle.doubleword.specs.declared.change.Wanted.{Wanted}
+use Rattle.access.specs.declared.cursor.AccessCursor.{AccessCursor}
+use Rattle.access.specs.declared.cursor.StepResult.{StepResult}
+use Rattle.bus.specs.Groups.{groupSize, groupCount}
+use Rattle.doubleword.specs.Doubleword.{Doubleword, Done, doublewordsOf, changed}
+use Rattle.access.specs.Access.{State, state, Progress, allOf, next, readOne, writeOne}
+use Rattle.doubleword.specs.DoublewordCode.{doublewordOf, BelowFour, DoublewordNeeds, Reads, Writes}
+use Rattle.access.specs.AccessLoop.{wantedOf, accessNext, restOf, AccessNeeds, nextDoubleword, ReadStep, WriteStep}
+use Rattle.access.proofs.Values.{one-length, one-memory}
+
+words-append : (a b : List Record) → wordsOf (a ++ b) ≡ wordsOf a ++ wordsOf b
+unfolding wordsOf
+words-append [] b = refl
+words-append (r ∷ a) b = rw (words-append a b)
+
+logged-append : (log : List ℕ) (first : ℕ) (a b : List Record) → logged log first (a ++ b) ≡ logged (logged log first a) (first + length a) b
+logged-append log first a b =
+    let e : 3 * first + length (wordsOf a) ≡ 3 * (first + length a) = omega (arith, words-length a) in
+    rw (words-append a b) (rw e at (sets-append log (3 * first) (wordsOf a) (wordsOf b)))
+
+-- the next doubleword, and those after it
+next-of : (g : ℕ) (xs : List ℕ) (address n place : ℕ) → 0 < n →
+    doublewordsOf (suc g) xs address n place
+    ≡ record {
+      line = address / 16 * 16;
+      wanted = run (address % 16) (min n (4 - address % 4));
+      place = place;
+      answers = take groupSize xs;
+    }
+    ∷ doublewordsOf g (drop groupSize xs) (address + min n (4 - address % 4)) (n - min n (4 - address % 4)) (place + min n (4 - address % 4))
+unfolding doublewordsOf
+next-of g xs address zero place h = absurd (omega arith)
+next-of g xs address (suc n) place h = refl
+
+none-of : (g : ℕ) (xs : List ℕ) (address place : ℕ) → doublewordsOf g xs address 0 place ≡ []
+unfolding doublewordsOf
+none-of zero xs address place = refl
+none-of (suc g) xs address place = refl
+
+-- the group of answers that serves the next doubleword
+abbrev pub groupAt : AccessCursor → List ℕ → List ℕ
+groupAt cursor xs = take groupSize (drop (cursor .group * groupSize) xs)
+
+module _ (cursor : AccessCursor) (xs : List ℕ) (records : ℕ) (some : 0 < cursor .left) (more : cursor .group < groupCount) where
+  abbrev count : ℕ
+  count = min (cursor .left) (4 - cursor .address % 4)
+
+  pub rest-next : restOf cursor xs ≡ doublewordOf (wantedOf cursor) (groupAt cursor xs) ∷ restOf (accessNext cursor count records) xs
+  unfolding restOf
+  rest-next =
+      let g : groupCount - cursor .group ≡ suc (groupCount - (cursor .group + 1)) = omega arith in
+      let d : cursor .group * groupSize + groupSize ≡ (cursor .group + 1) * groupSize = omega arith in
+      let q : drop groupSize (drop (cursor .group * groupSize) xs) ≡ drop ((cursor .group + 1) * groupSize) xs = drop-drop groupSize (cursor .group * groupSize) xs ∙ ap (λ (i : ℕ). drop i xs) d in
+      ap (λ (i : ℕ). doublewordsOf i (drop (cursor .group * groupSize) xs) (cursor .address) (cursor .left) (cursor .place)) g
+      ∙ next-of (groupCount - (cursor .group + 1)) (drop (cursor .group * groupSize) xs) (cursor .address) (cursor .left) (cursor .place) some
+      ∙ ap (λ (ys : List ℕ). doublewordOf (wantedOf cursor) (groupAt cursor xs) ∷ doublewordsOf (groupCount - (cursor .group + 1)) ys (cursor .address + count) (cursor .left - count) (cursor .place + count)) q
+
+pub rest-done : (cursor : AccessCursor) (xs : List ℕ) → cursor .left ≡ 0 → restOf cursor xs ≡ []
+unfolding restOf
+rest-done cursor xs e =
+    ap (λ (n : ℕ). doublewordsOf (groupCount - cursor .group) (drop (cursor .group * groupSize) xs) (cursor .address) n (cursor .place)) e
+    ∙ none-of (groupCount - cursor .group) (drop (cursor .group * groupSize) xs) (cursor .address) (cursor .place)
+
+-- what the loops keep: the doublewords left give what all give
+module _ (one : State → Doubleword → Done) (xs : List ℕ) where
+  pub record AccessInvariant (p : Progress) (log₀ : List ℕ) (cursor : AccessCursor) (s : State) (log : List ℕ) : Type 0 where
+    pub states : allOf one s (restOf cursor xs) .state ≡ p .state
+    pub logs : logged log (cursor .records) (allOf one s (restOf cursor xs) .records) ≡ logged log₀ 0 (p .records)
+    pub made : cursor .records + length (allOf one s (restOf cursor xs) .records) ≡ length (p .records)
+
+  pub access-invariant-begin : (cursor : AccessCursor) (s : State) (log₀ : List ℕ) → cursor .records ≡ 0 → AccessInvariant (allOf one s (restOf cursor xs)) log₀ cursor s log₀
+  access-invariant-begin cursor s log₀ e =
+      record {
+        states = refl;
+        logs = ap (λ (n : ℕ). logged log₀ n (allOf one s (restOf cursor xs) .records)) e;
+        made = omega arith;
+      }
+
+  module _ (cursor : AccessCursor) (s : State) (log : List ℕ) (some : 0 < cursor .left) (more : cursor .group < groupCount) where
+    abbrev w : Doubleword
+    w = doublewordOf (wantedOf cursor) (groupAt cursor xs)
+
+    -- all doublewords left are the next one and those after it
+    pub all-next : (records : ℕ) → allOf one s (restOf cursor xs)
+        ≡ record {
+          state = allOf one (next s w (one s w)) (restOf (accessNext cursor (min (cursor .left) (4 - cursor .address % 4)) records) xs) .state;
+          bytes = one s w .bytes ++ allOf one (next s w (one s w)) (restOf (accessNext cursor (min (cursor .left) (4 - cursor .address % 4)) records) xs) .bytes;
+          records = one s w .records ++ allOf one (next s w (one s w)) (restOf (accessNext cursor (min (cursor .left) (4 - cursor .address % 4)) records) xs) .records;
+        }
+    unfolding allOf
+    all-next records = rw (rest-next cursor xs records some more)
+
+    pub access-invariant-next : {p : Progress} {log₀ : List ℕ} (s′ : State) (log′ : List ℕ) (n : ℕ) → AccessInvariant p log₀ cursor s log →
+        s′ ≡ next s w (one s w) →
+        log′ ≡ logged log (cursor .records) (one s w .records) →
+        n ≡ length (one s w .records) →
+        AccessInvariant p log₀ (accessNext cursor (min (cursor .left) (4 - cursor .address % 4)) n) s′ log′
+    access-invariant-next s′ log′ n g es el en =
+        let a = all-next n in
+        let rest = allOf one (next s w (one s w)) (restOf (accessNext cursor (min (cursor .left) (4 - cursor .address % 4)) n) xs) in
+        let k : cursor .records + n ≡ cursor .records + length (one s w .records) = omega arith in
+        let m : cursor .records + length (allOf one s (restOf cursor xs) .records) ≡ cursor .records + (length (one s w .records) + length (rest .records)) = ap (λ (q : Progress). cursor .records + length (q .records)) a ∙ ap (λ (i : ℕ). cursor .records + i) (length-append (one s w .records) (rest .records)) in
+        record {
+          states = rw es (sym (ap (λ (q : Progress). q .state) a) ∙ g .states);
+          logs =
+              rw (es, el)
+              (ap (λ (i : ℕ). logged (logged log (cursor .records) (one s w .records)) i (rest .records)) k
+              ∙ sym (logged-append log (cursor .records) (one s w .records) (rest .records))
+              ∙ sym (ap (λ (q : Progress). logged log (cursor .records) (q .records)) a)
+              ∙ g .logs);
+          made = rw es (omega (arith, g .made));
+        }
+
+    -- the bytes that a read has still to put into its operand
+    pub bytes-next : (p : Progress) (operand operand′ operand₀ : List ℕ) (s′ : State) (n : ℕ) →
+        sets operand (cursor .place) (allOf one s (restOf cursor xs) .bytes) ≡ sets operand₀ 0 (p .bytes) →
+        s′ ≡ next s w (one s w) →
+        operand′ ≡ sets operand (cursor .place) (one s w .bytes) →
+        length (one s w .bytes) ≡ min (cursor .left) (4 - cursor .address % 4) →
+        sets operand′ (cursor .place + min (cursor .left) (4 - cursor .address % 4)) (allOf one s′ (restOf (accessNext cursor (min (cursor .left) (4 - cursor .address % 4)) n) xs) .bytes) ≡ sets operand₀ 0 (p .bytes)
+    bytes-next p operand operand′ operand₀ s′ n g es eo el =
+        let a = all-next n in
+        let rest = allOf one (next s w (one s w)) (restOf (accessNext cursor (min (cursor .left) (4 - cursor .address % 4)) n) xs) in
+        rw (es, eo)
+        (ap (λ (i : ℕ). sets (sets operand (cursor .place) (one s w .bytes)) (cursor .place + i) (rest .bytes)) (sym el)
+        ∙ sym (sets-append operand (cursor .place) (one s w .bytes) (rest .bytes))
+        ∙ sym (ap (λ (q : Progress). sets operand (cursor .place) (q .bytes)) a)
+        ∙ g)
+
+  pub access-invariant-end : {p : Progress} {log₀ : List ℕ} (cursor : AccessCursor) (s : State) (log : List ℕ) → cursor .left ≡ 0 → AccessInvariant p log₀ cursor s log →
+      (s ≡ p .state) × (log ≡ logged log₀ 0 (p .records)) × (cursor .records ≡ length (p .records))
+  unfolding allOf wordsOf
+  access-invariant-end cursor s log z g =
+      let r = rest-done cursor xs z in
+      (rw r at (g .states), rw r at (g .logs), (let m = rw r at (g .made) in omega arith))
+
+-- the bytes left fit into the doublewords left: all go into this one, or this one ends at a boundary
+all-here : (left room c : ℕ) → c ≡ min left room → left ≤ room → left - c ≡ 0
+all-here left room c e h = omega arith
+
+none-fits : (x y : ℕ) → x ≡ 0 → x ≤ y
+none-fits x y e = omega arith
+
+some-here : (left room c : ℕ) → c ≡ min left room → room < left → c ≡ room
+some-here left room c e h = omega arith
+
+boundary : (a c : ℕ) → c ≡ 4 - a % 4 → (a + c) % 4 ≡ 0
+boundary a c e = omega arith
+
+fewer : (left b g c : ℕ) → b < 4 → c ≡ 4 - b → left ≤ 4 * (2 - g) - b → g < 2 → left - c ≤ 4 * (2 - (g + 1))
+fewer left b g c bl e l h = omega arith
+
+fits-next : (left a g c : ℕ) → c ≡ min left (4 - a % 4) → left ≤ 4 * (2 - g) - a % 4 → g < 2 → left - c ≤ 4 * (2 - (g + 1)) - (a + c) % 4
+fits-next left a g c e l h =
+    elim (decLe left (4 - a % 4)) [
+      | yes p ↦ none-fits (left - c) _ (all-here left (4 - a % 4) c e p)
+      | no p ↦
+          let k = some-here left (4 - a % 4) c e (over left (4 - a % 4) p) in
+          let f = boundary a c k in
+          ends (left - c) (4 * (2 - (g + 1))) ((a + c) % 4) f (fewer left (a % 4) g c (omega arith) k l h)
+    ]
+  where
+    over : (x y : ℕ) → (x ≤ y → ⊥) → y < x
+    over x y n = omega arith
+
+    ends : (x y z : ℕ) → z ≡ 0 → x ≤ y → x ≤ y - z
+    ends x y z e h = omega arith
+
+-- buffers of the same lengths
+pub needs-lengths : {cursor : AccessCursor} {ram parity array answers log operand ram′ parity′ array′ log′ operand′ : ℕ} →
+    ram′ ≡ ram → parity′ ≡ parity → array′ ≡ array → log′ ≡ log → operand′ ≡ operand →
+    AccessNeeds cursor ram parity array answers log operand → AccessNeeds cursor ram′ parity′ array′ answers log′ operand′
+needs-lengths er ep ea el eo z = rw (er, ep, ea, el, eo) z
+
+-- what the next doubleword needs, and what is left after it
+module _ (cursor : AccessCursor) (ram parity array answers log operand : ℕ) (z : AccessNeeds cursor ram parity array answers log operand) (some : 0 < cursor .left) where
+  pub needs-more : cursor .group < groupCount
+  needs-more = omega (arith, z .fits, z .last)
+
+  pub needs-doubleword : (given : ℕ) → given ≡ groupSize → DoublewordNeeds (wantedOf cursor) (cursor .records) ram parity given log
+  needs-doubleword given e =
+      record {
+        aligned = omega arith;
+        inside = omega (arith, z .inside, z .whole);
+        small = z .small;
+        bits = omega (arith, z .bits, z .whole);
+        some = omega arith;
+        lanes = omega arith;
+        line = omega arith;
+        served = e;
+        records = omega (arith, z .made, z .room, needs-more);
+        few = omega (arith, z .made, needs-more);
+      }
+
+  pub needs-next : (n : ℕ) → n ≤ groupSize → AccessNeeds (accessNext cursor (min (cursor .left) (4 - cursor .address % 4)) n) ram parity array answers log operand
+  needs-next n l =
+      record {
+        inside = omega (arith, z .inside);
+        whole = z .whole;
+        small = z .small;
+        bits = z .bits;
+        lines = z .lines;
+        served = z .served;
+        room = z .room;
+        fits = fits-next (cursor .left) (cursor .address) (cursor .group) _ refl (z .fits) needs-more;
+        last = omega (arith, needs-more);
+        made = omega (arith, z .made);
+        operands = omega (arith, z .operands);
+        four = z .four;
+      }
+
+-- the group of answers that the code takes is the rules'
+pub group-is : (xs : List ℕ) (from to : ℕ) → to ≡ from + 16 → take (to - from) (drop from xs) ≡ take groupSize (drop from xs)
+group-is xs from to e = let k : to - from ≡ 16 = omega arith in ap (λ (n : ℕ). take n (drop from xs)) k
+
+pub group-length : (xs : List ℕ) (from to : ℕ) → to ≡ from + 16 → from + 16 ≤ length xs → length (take (to - from) (drop from xs)) ≡ groupSize
+group-length xs from to e l =
+    let k : to - from ≡ 16 = omega arith in
+    length-take (to - from) (drop from xs) ∙ rw (length-drop from xs) (omega arith)
+
+-- where the change is `Unchanged` the directory stays
+pub keep-changed : (d d′ : Directory) (line : ℕ) (change : Change) → change ≡ Unchanged → d′ ≡ d → d′ ≡ changed d line change
+unfolding changed
+keep-changed d d′ line change e same = rw e same
+
+-- what the loop of a read keeps
+module _ (pcd : Bool) (xs : List ℕ) where
+  pub record ReadInvariant (p : Progress) (log₀ operand₀ : List ℕ) (cursor : AccessCursor) (s : State) (log operand : List ℕ) : Type 0 where
+    pub invariant : AccessInvariant (readOne pcd) xs p log₀ cursor s log
+    pub bytes : sets operand (cursor .place) (allOf (readOne pcd) s (restOf cursor xs) .bytes) ≡ sets operand₀ 0 (p .bytes)
+
+  pub reading-begin : (cursor : AccessCursor) (s : State) (log₀ operand₀ : List ℕ) → cursor .records ≡ 0 → cursor .place ≡ 0 →
+      ReadInvariant (allOf (readOne pcd) s (restOf cursor xs)) log₀ operand₀ cursor s log₀ operand₀
+  reading-begin cursor s log₀ operand₀ e f =
+      record {
+        invariant = access-invariant-begin (readOne pcd) xs cursor s log₀ e;
+        bytes = ap (λ (i : ℕ). sets operand₀ i (allOf (readOne pcd) s (restOf cursor xs) .bytes)) f;
+      }
+
+  -- the next doubleword of the code, read by the rules
+  pub reading-next : {p : Progress} {log₀ operand₀ : List ℕ} (cursor : AccessCursor) (d : Directory) (m : Memory) (array log operand : List ℕ) (r : StepResult) (d′ : Directory) (array′ log′ operand′ : List ℕ) (u : AccessCursor) →
+      0 < cursor .left → cursor .group < groupCount →
+      ReadInvariant p log₀ operand₀ cursor (state d m array) log operand →
+      ReadStep (readOne pcd (state d m array) (nextDoubleword cursor xs)) cursor log operand r array′ log′ operand′ →
+      d′ ≡ changed d (r .line) (r .change) →
+      u ≡ accessNext cursor (r .count) (r .records) →
+      ReadInvariant p log₀ operand₀ u (state d′ m array′) log′ operand′
+  reading-next {p} {log₀} {operand₀} cursor d m array log operand r d′ array′ log′ operand′ u some more g k ed eu =
+      let here = nextDoubleword cursor xs in
+      let s = state d m array in
+      let done = readOne pcd s here in
+      let c : d′ ≡ changed d (here .line) (done .change) = ed ∙ ap (λ (x : ℕ). changed d x (r .change)) (k .line) ∙ ap (changed d (here .line)) (k .change) in
+      let es : state d′ m array′ ≡ next s here done =
+      ap (λ (x : Directory). state x m array′) c
+      ∙ ap (λ (x : Memory). state (changed d (here .line) (done .change)) x array′) (sym (one-memory pcd s here))
+      ∙ ap (λ (x : List ℕ). state (changed d (here .line) (done .change)) (done .memory) x) (k .arrays) in
+      rw (eu, k .counts, k .made)
+      (record {
+        invariant = access-invariant-next (readOne pcd) xs cursor s log some more (state d′ m array′) log′ (length (done .records)) (g .invariant) es (k .logs) refl;
+        bytes = bytes-next (readOne pcd) xs cursor s log some more p operand operand′ operand₀ (state d′ m array′) (length (done .records)) (g .bytes) es (k .bytes) (one-length pcd s here);
+      })
+
+-- the next doubleword of the code, written by the rules
+pub writing-next : (operand xs : List ℕ) {p : Progress} {log₀ : List ℕ} (cursor : AccessCursor) (d : Directory) (m : Memory) (array log : List ℕ) (r : StepResult) (d′ : Directory) (m′ : Memory) (array′ log′ : List ℕ) (u : AccessCursor) →
+    0 < cursor .left → cursor .group < groupCount →
+    AccessInvariant (writeOne operand) xs p log₀ cursor (state d m array) log →
+    WriteStep (writeOne operand (state d m array) (nextDoubleword cursor xs)) cursor log r m′ array′ log′ →
+    d′ ≡ changed d (r .line) (r .change) →
+    u ≡ accessNext cursor (r .count) (r .records) →
+    AccessInvariant (writeOne operand) xs p log₀ u (state d′ m′ array′) log′
+writing-next operand xs cursor d m array log r d′ m′ array′ log′ u some more g k ed eu =
+    let here = nextDoubleword cursor xs in
+    let s = state d m array in
+    let done = writeOne operand s here in
+    let c : d′ ≡ changed d (here .line) (done .change) = ed ∙ ap (λ (x : ℕ). changed d x (r .change)) (k .line) ∙ ap (changed d (here .line)) (k .change) in
+    let es : state d′ m′ array′ ≡ next s here done =
+    ap (λ (x : Directory). state x m′ array′) c
+    ∙ ap (λ (x : Memory). state (changed d (here .line) (done .change)) x array′) (k .memories)
+    ∙ ap (λ (x : List ℕ). state (changed d (here .line) (done .change)) (done .memory) x) (k .arrays) in
+    rw (eu, k .counts, k .made) (access-invariant-next (writeOne operand) xs cursor s log some more (state d′ m′ array′) log′ (length (done .records)) g es (k .logs) refl)
+
+-- where nothing is left the loops have left what all doublewords leave
+pub reading-end : (pcd : Bool) (xs : List ℕ) {p : Progress} {log₀ operand₀ : List ℕ} (cursor : AccessCursor) (s : State) (log operand : List ℕ) →
+    cursor .left ≡ 0 → ReadInvariant pcd xs p log₀ operand₀ cursor s log operand → operand ≡ sets operand₀ 0 (p .bytes)
+unfolding allOf
+reading-end pcd xs cursor s log operand z g = let r = rest-done cursor xs z in rw r at (g .bytes)
+
+-- the cursor after a doubleword
+module _ (cursor u : AccessCursor) (count n : ℕ) (some : 0 < cursor .left) (ec : count ≡ min (cursor .left) (4 - cursor .address % 4)) where
+  pub cursor-less : u ≡ accessNext cursor count n → u .left < cursor .left
+  cursor-less eu = rw (eu, ec) (omega arith)
+
+  pub cursor-needs : u ≡ accessNext cursor count n → (ram parity array answers log operand : ℕ) → n ≤ groupSize → AccessNeeds cursor ram parity array answers log operand → AccessNeeds u ram parity array answers log operand
+  cursor-needs eu ram parity array answers log operand l z = rw (eu, ec) (needs-next cursor ram parity array answers log operand z some n l)
+
+-- what the code's next cursor needs
+pub cursor-steps : (cursor : AccessCursor) (count n ram parity array answers log operand : ℕ) → count ≡ min (cursor .left) (4 - cursor .address % 4) → n ≤ groupSize →
+    AccessNeeds cursor ram parity array answers log operand →
+    (count ≤ cursor .left) × (cursor .address + cursor .left < 4294967296) × (cursor .group < 64) × (cursor .place < 64) × (cursor .left ≤ 64) × (cursor .records ≤ 64) × (n ≤ 64)
+cursor-steps cursor count n ram parity array answers log operand ec l z = (
+  rw ec (omega arith),
+  omega (arith, z .inside, z .small),
+  omega (arith, z .last),
+  omega (arith, z .operands, z .four),
+  omega (arith, z .operands, z .four),
+  omega (arith, z .made, z .last),
+  omega arith,
+)
+
+-- what the next doubleword's code needs
+pub cursor-doubleword : (cursor : AccessCursor) (w : Wanted) (ram parity array answers log₀ log operand₀ operand given : ℕ) → 0 < cursor .left → w ≡ wantedOf cursor →
+    AccessNeeds cursor ram parity array answers log₀ operand₀ → log ≡ log₀ → operand ≡ operand₀ → given ≡ groupSize →
+    DoublewordNeeds w (cursor .records) ram parity given log × (w .place + w .count ≤ operand)
+cursor-doubleword cursor w ram parity array answers log₀ log operand₀ operand given some ew z el eo eg =
+    rw (ew, el, eo) (needs-doubleword cursor ram parity array answers log₀ operand₀ z some given eg, room (cursor .place) (cursor .left) _ operand₀ (z .operands))
+  where
+    room : (place left r operand : ℕ) → place + left ≤ operand → place + min left r ≤ operand
+    room place left r operand h = omega arith
+
+-- a step of the code, from what its parts leave
+module _ (cursor : AccessCursor) (xs : List ℕ) (w : Wanted) (given : List ℕ) (ew : w ≡ wantedOf cursor) (eg : given ≡ groupAt cursor xs) (moved : DoublewordResult) (b : BelowFour (moved .change)) where
+  abbrev stepped : StepResult
+  stepped = record { line = w .line; change = moved .change; count = w .count; records = moved .records }
+
+  pub read-step-left : (one : Wanted → List ℕ → Done) (log₀ operand₀ array log operand : List ℕ) →
+      Reads (one w given) (w .place) (cursor .records) log₀ operand₀ moved array log operand →
+      ReadStep (one (wantedOf cursor) (groupAt cursor xs)) cursor log₀ operand₀ stepped array log operand
+  read-step-left one log₀ operand₀ array log operand k =
+      let k′ : Reads (one (wantedOf cursor) (groupAt cursor xs)) (cursor .place) (cursor .records) log₀ operand₀ moved array log operand = rw (ew, eg) at k in
+      record {
+        line = ap (λ (x : Wanted). x .line) ew;
+        change = k′ .change;
+        below = b;
+        counts = ap (λ (x : Wanted). x .count) ew;
+        made = k′ .made;
+        arrays = k′ .arrays;
+        logs = k′ .logs;
+        bytes = k′ .bytes;
+        most = k′ .most;
+      }
+
+  pub write-step-left : (one : Wanted → List ℕ → Done) (log₀ : List ℕ) (m : Memory) (array log : List ℕ) →
+      Writes (one w given) (cursor .records) log₀ moved m array log →
+      WriteStep (one (wantedOf cursor) (groupAt cursor xs)) cursor log₀ stepped m array log
+  write-step-left one log₀ m array log k =
+      let k′ : Writes (one (wantedOf cursor) (groupAt cursor xs)) (cursor .records) log₀ moved m array log = rw (ew, eg) at k in
+      record {
+        line = ap (λ (x : Wanted). x .line) ew;
+        change = k′ .change;
+        below = b;
+        counts = ap (λ (x : Wanted). x .count) ew;
+        made = k′ .made;
+        memories = k′ .memories;
+        arrays = k′ .arrays;
+        logs = k′ .logs;
+        most = k′ .most;
+      }

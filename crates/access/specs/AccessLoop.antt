@@ -1,0 +1,88 @@
+-- What the code's own state between two doublewords of an access stands for, and what the next doubleword leaves.
+use Prim.Native.Nat.{ℕ, _+_, _*_, _-_, _/_, _%_, _≤_, min}
+use mathlib.Core.Path.{_≡_}
+use mathlib.Core.List.{List}
+use lib.ListN.{length, take, drop}
+use lib.Seq.{sets}
+use Rattle.bus.specs.Groups.{groupSize, groupCount}
+use Rattle.memory.specs.Parity.{Memory}
+use Rattle.bus.specs.Record.{logged}
+use Rattle.doubleword.specs.declared.change.Wanted.{Wanted}
+use Rattle.doubleword.specs.Doubleword.{Doubleword, Done, doublewordsOf}
+use Rattle.doubleword.specs.DoublewordCode.{BelowFour, doublewordOf}
+use Rattle.access.specs.declared.cursor.AccessCursor.{AccessCursor}
+use Rattle.access.specs.declared.cursor.StepResult.{StepResult}
+
+-- The start of an access, its next doubleword, and what is left after it.
+abbrev pub accessStart : ℕ → ℕ → AccessCursor
+accessStart address width = record { address = address; left = width; group = 0; place = 0; records = 0 }
+
+abbrev pub wantedOf : AccessCursor → Wanted
+wantedOf cursor =
+    record {
+      line = cursor .address / 16 * 16;
+      from = cursor .address % 16;
+      count = min (cursor .left) (4 - cursor .address % 4);
+      place = cursor .place;
+    }
+
+abbrev pub accessNext : AccessCursor → ℕ → ℕ → AccessCursor
+accessNext cursor count records =
+    record {
+      address = cursor .address + count;
+      left = cursor .left - count;
+      group = cursor .group + 1;
+      place = cursor .place + count;
+      records = cursor .records + records;
+    }
+
+-- The doublewords left.
+unfoldable pub restOf : AccessCursor → List ℕ → List Doubleword
+restOf cursor answers =
+    doublewordsOf (groupCount - cursor .group) (drop (cursor .group * groupSize) answers) (cursor .address) (cursor .left) (cursor .place)
+
+-- What the doublewords left need of the buffers.
+pub record AccessNeeds (cursor : AccessCursor) (ram parity array answers log operand : ℕ) : Type 0 where
+  pub inside : cursor .address + cursor .left ≤ ram
+  pub whole : ram % 16 ≡ 0
+  pub small : ram ≤ 16777216
+  pub bits : parity ≡ ram / 4
+  pub lines : array ≡ 8192
+  pub served : answers ≡ groupSize * groupCount
+  pub room : 3 * (groupSize * groupCount) ≤ log
+  pub fits : cursor .left ≤ 4 * (groupCount - cursor .group) - cursor .address % 4
+  pub last : cursor .group ≤ groupCount
+  pub made : cursor .records ≤ cursor .group * groupSize
+  pub operands : cursor .place + cursor .left ≤ operand
+  pub four : operand ≡ 4
+
+-- The line of the next doubleword, and the doubleword with its own group of answers.
+abbrev pub lineAddress : AccessCursor → ℕ
+lineAddress cursor = cursor .address / 16 * 16
+
+abbrev pub nextDoubleword : AccessCursor → List ℕ → Doubleword
+nextDoubleword cursor answers = doublewordOf (wantedOf cursor) (take groupSize (drop (cursor .group * groupSize) answers))
+
+-- What the code hands back and leaves in the buffers for what the next doubleword of a read, or of a write, does.
+pub record ReadStep (done : Done) (cursor : AccessCursor) (log₀ operand₀ : List ℕ) (r : StepResult) (array log operand : List ℕ) : Type 0 where
+  pub line : r .line ≡ lineAddress cursor
+  pub change : r .change ≡ done .change
+  pub below : BelowFour (r .change)
+  pub counts : r .count ≡ min (cursor .left) (4 - cursor .address % 4)
+  pub made : r .records ≡ length (done .records)
+  pub arrays : array ≡ done .array
+  pub logs : log ≡ logged log₀ (cursor .records) (done .records)
+  pub bytes : operand ≡ sets operand₀ (cursor .place) (done .bytes)
+  pub most : r .records ≤ groupSize
+
+-- The same for a write.
+pub record WriteStep (done : Done) (cursor : AccessCursor) (log₀ : List ℕ) (r : StepResult) (m : Memory) (array log : List ℕ) : Type 0 where
+  pub line : r .line ≡ lineAddress cursor
+  pub change : r .change ≡ done .change
+  pub below : BelowFour (r .change)
+  pub counts : r .count ≡ min (cursor .left) (4 - cursor .address % 4)
+  pub made : r .records ≡ length (done .records)
+  pub memories : m ≡ done .memory
+  pub arrays : array ≡ done .array
+  pub logs : log ≡ logged log₀ (cursor .records) (done .records)
+  pub most : r .records ≤ groupSize
