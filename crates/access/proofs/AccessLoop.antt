@@ -217,7 +217,7 @@ module _ (cursor : AccessCursor) (ram parity array answers log operand : ℕ) (z
         whole = z .whole;
         small = z .small;
         bits = z .bits;
-        lines = z .lines;
+        arrayLength = z .arrayLength;
         served = z .served;
         room = z .room;
         fits = fits-next (cursor .left) (cursor .address) (cursor .group) _ refl (z .fits) needs-more;

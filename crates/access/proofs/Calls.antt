@@ -106,7 +106,7 @@ module _ (d : Directory) (m : Memory) (array : List ℕ) (address width : ℕ) (
         whole = l .0 .whole;
         small = l .0 .most;
         bits = l .0 .bits;
-        lines = l .1;
+        arrayLength = l .1;
         served = r .served;
         room = r .room;
         fits = omega (arith, r .four);

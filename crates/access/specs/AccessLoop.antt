@@ -47,7 +47,7 @@ pub record AccessNeeds (cursor : AccessCursor) (ram parity array answers log ope
   pub whole : ram % 16 ≡ 0
   pub small : ram ≤ 16777216
   pub bits : parity ≡ ram / 4
-  pub lines : array ≡ 8192
+  pub arrayLength : array ≡ 8192
   pub served : answers ≡ groupSize * groupCount
   pub room : 3 * (groupSize * groupCount) ≤ log
   pub fits : cursor .left ≤ 4 * (groupCount - cursor .group) - cursor .address % 4

@@ -5,8 +5,8 @@ ghost use Rattle.access.specs.AccessLoop.{accessNext, accessStart, wante
 use doubleword::Change;
 use doubleword::Wanted;
 
-// What is left between two doublewords: the address of the next wanted byte, the bytes left, the group of answers that
-// serves them, their place in the operand, and the records made.
+// What is left between two doublewords: the address of the next wanted byte, the bytes left, their place in the operand, the
+// group of answers that serves them, and the records made.
 pub struct AccessCursor {
     pub address: u32,
     pub left: usize,

@@ -45,7 +45,7 @@ pub record NwInvariant (d : Directory) : Type 0 where
 pub record Coherent (s : State) (m : List ℕ) : Type 0 where
   pub formed : WellFormed (s .directory)
   pub lent : GoodMemory (length (s .memory .ram)) (length (s .memory .parity))
-  pub lines-lent : length (s .array) ≡ 8192
+  pub arrayLength : length (s .array) ≡ 8192
   pub agrees : Agrees (s .memory)
   pub rams : s .memory .ram ≡ m
   pub lines : Lines (s .directory) m (s .array)

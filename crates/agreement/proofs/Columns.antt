@@ -15,11 +15,11 @@ use Rattle.lines.specs.declared.scanning.Event.{Event}
 use Rattle.lines.specs.declared.scanning.Event.the-variants.{Malformed, Read, Write, External, Snoop, Flush, Control, Reset}
 use Rattle.lines.specs.Fields.{pairBytes, linesOf}
 use Rattle.lines.specs.Scan.{scanned}
-use Rattle.events.specs.Perform.{Performed, zeroLog, eventDone, lineDone}
+use Rattle.events.specs.Perform.{Performed, performed, zeroLog, eventDone, lineDone}
 use Rattle.events.specs.Output.{stateAfter, rowsOf, start, outputOf}
-use Rattle.agreement.specs.Calls.{read, write, external, snoop, flush, control, reset, step}
-use Rattle.agreement.specs.Plain.{Plain}
-use Rattle.agreement.specs.Agreement.{Legal}
+use Rattle.agreement.specs.Calls.{Call, read, write, external, snoop, flush, control, reset, step}
+use Rattle.agreement.specs.Plain.{Plain, plain}
+use Rattle.agreement.specs.Agreement.{Legal, setsNw}
 use Rattle.agreement.specs.Program.{plainEvent, plainLine, plainRows, countsOf, plainOutput, eventSetsNw, NoLineSetsNw, Columns}
 use Rattle.agreement.proofs.Coherence.{Coherent}
 use Rattle.agreement.proofs.Reading.{coherent-with}
@@ -33,35 +33,28 @@ record LineGood (u : Performed) (p : Plain) : Type 0 where
   values : u .outcome .value ≡ p .value
 
 module _ (s : State) (m : List ℕ) (c : Coherent s m) where
+  -- an event that makes a call
+  made : (k : Call) → setsNw k ≡ false →
+      LineGood (performed (step s k .leaves .outcome) (step s k .leaves .memory) (step s k .leaves .array)) (plain m k)
+  made k q =
+      let g = call-good s m c k q in
+      record { coherent = g .coherent; numbers = g .numbers; values = g .values }
+
   event-good : (line : List ℕ) (e : Event) → eventSetsNw e ≡ false → LineGood (eventDone s line e) (plainEvent m line e)
   unfolding eventDone plainEvent step
   event-good line Malformed q =
       record {
-        coherent = coherent-with s m c (s .directory) (c .formed) (c .off) (s .array) (c .lines-lent) (c .lines);
+        coherent = coherent-with s m c (s .directory) (c .formed) (c .off) (s .array) (c .arrayLength) (c .lines);
         numbers = refl;
         values = refl;
       }
-  event-good line (Read a w pcd) q =
-      let g = call-good s m c (read a w pcd (boardAnswers a w) zeroLog) refl in
-      record { coherent = g .coherent; numbers = g .numbers; values = g .values }
-  event-good line (Write a w v) q =
-      let g = call-good s m c (write a w v (boardAnswers a w) zeroLog) refl in
-      record { coherent = g .coherent; numbers = g .numbers; values = g .values }
-  event-good line (External a from) q =
-      let g = call-good s m c (external a (pairBytes (drop from line))) refl in
-      record { coherent = g .coherent; numbers = g .numbers; values = g .values }
-  event-good line (Snoop a) q =
-      let g = call-good s m c (snoop a) refl in
-      record { coherent = g .coherent; numbers = g .numbers; values = g .values }
-  event-good line Flush q =
-      let g = call-good s m c flush refl in
-      record { coherent = g .coherent; numbers = g .numbers; values = g .values }
-  event-good line (Control cd nw) q =
-      let g = call-good s m c (control cd nw) q in
-      record { coherent = g .coherent; numbers = g .numbers; values = g .values }
-  event-good line Reset q =
-      let g = call-good s m c reset refl in
-      record { coherent = g .coherent; numbers = g .numbers; values = g .values }
+  event-good line (Read a w pcd) q = made (read a w pcd (boardAnswers a w) zeroLog) refl
+  event-good line (Write a w v) q = made (write a w v (boardAnswers a w) zeroLog) refl
+  event-good line (External a from) q = made (external a (pairBytes (drop from line))) refl
+  event-good line (Snoop a) q = made (snoop a) refl
+  event-good line Flush q = made flush refl
+  event-good line (Control cd nw) q = made (control cd nw) q
+  event-good line Reset q = made reset refl
 
   line-good : (line : List ℕ) → eventSetsNw (scanned line) ≡ false → LineGood (lineDone s line) (plainLine m line)
   unfolding lineDone

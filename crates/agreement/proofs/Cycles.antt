@@ -24,14 +24,14 @@ use Rattle.agreement.proofs.Bytes.{bytes-split, bytes-same, bytes-sets}
 use Rattle.agreement.proofs.Memories.{stored-append, never-wrong}
 
 -- bytes of one doubleword of a line
-pub record Within (r : Run) : Type 0 where
+pub record OneDoubleword (r : Run) : Type 0 where
   pub some : 1 ≤ r .count
   pub lanes : r .from % 4 + r .count ≤ 4
   pub line : r .from + r .count ≤ 16
 
 abbrev pub Each : List Run → Type 0
 Each [] = Unit {0}
-Each (w ∷ ws) = Within w × Each ws
+Each (w ∷ ws) = OneDoubleword w × Each ws
 
 abbrev total : List Run → ℕ
 total [] = 0
@@ -54,7 +54,7 @@ left-cases P x w ws f g =
     (λ _ e. g (let n = eqb-false (sizeOf x w) (w .count) e in omega arith))
     refl
 
-left-each : (x : ℕ) (w : Run) (ws : List Run) → Within w → Each ws → Each (wantedAfter x w ws)
+left-each : (x : ℕ) (w : Run) (ws : List Run) → OneDoubleword w → Each ws → Each (wantedAfter x w ws)
 left-each x w ws g h =
     left-cases Each x w ws (λ e. h)
     (λ l. (record { some = omega arith; lanes = omega (arith, g .lanes); line = omega (arith, g .line) }, h))
@@ -88,11 +88,11 @@ module _ (ram : List ℕ) (line : ℕ) where
   brought-length : (r : Run) (b : List ℕ) → length b ≡ 16 → length (bufferAfter ram line r b) ≡ 16
   brought-length r b l = length-sets b (r .from) (bytesAt ram (line + r .from) (r .count)) ∙ l
 
-  abbrev Same : List ℕ → ℕ → Type 0
-  Same b o = getD b o 0 ≡ getD ram (line + o) 0
+  abbrev SameByte : List ℕ → ℕ → Type 0
+  SameByte b o = getD b o 0 ≡ getD ram (line + o) 0
 
   -- a byte of the line buffer that a cycle brings is RAM's
-  lands : (r : Run) (b : List ℕ) (o : ℕ) → r .from + r .count ≤ length b → r .from ≤ o → o < r .from + r .count → Same (bufferAfter ram line r b) o
+  lands : (r : Run) (b : List ℕ) (o : ℕ) → r .from + r .count ≤ length b → r .from ≤ o → o < r .from + r .count → SameByte (bufferAfter ram line r b) o
   lands r b o l p q =
       let e : r .from + (o - r .from) ≡ o = omega arith in
       let f : line + r .from + (o - r .from) ≡ line + o = omega arith in
@@ -100,7 +100,7 @@ module _ (ram : List ℕ) (line : ℕ) where
       rw (e, f) at (sets-in b (r .from) (bytesAt ram (line + r .from) (r .count)) (o - r .from) (rw n (omega arith)) (omega arith) ∙ bytes-at ram (line + r .from) (r .count) (o - r .from) (omega arith))
 
   -- and one that is RAM's stays so
-  keeps : (r : Run) (b : List ℕ) (o : ℕ) → r .from + r .count ≤ length b → Same b o → Same (bufferAfter ram line r b) o
+  keeps : (r : Run) (b : List ℕ) (o : ℕ) → r .from + r .count ≤ length b → SameByte b o → SameByte (bufferAfter ram line r b) o
   keeps r b o l h =
       let n = bytes-length ram (line + r .from) (r .count) in
       elim (decLt o (r .from)) [
@@ -111,7 +111,7 @@ module _ (ram : List ℕ) (line : ℕ) where
         ]
       ]
 
-  over-keeps : (ws : List Run) → Each ws → (b : List ℕ) → length b ≡ 16 → (o : ℕ) → Same b o → Same (over (bufferAfter ram line) ws b) o
+  over-keeps : (ws : List Run) → Each ws → (b : List ℕ) → length b ≡ 16 → (o : ℕ) → SameByte b o → SameByte (over (bufferAfter ram line) ws b) o
   over-keeps [] g b l o h = h
   over-keeps (w ∷ ws) g b l o h = over-keeps ws (g .1) _ (brought-length w b l) o (keeps w b o (rw l (g .0 .line)) h)
 
@@ -119,10 +119,10 @@ module _ (ram : List ℕ) (line : ℕ) where
   covers o [] = false
   covers o (w ∷ ws) = (leb (w .from) o && ltb o (w .from + w .count)) || covers o ws
 
-  over-lands : (ws : List Run) → Each ws → (b : List ℕ) → length b ≡ 16 → (o : ℕ) → covers o ws ≡ true → Same (over (bufferAfter ram line) ws b) o
+  over-lands : (ws : List Run) → Each ws → (b : List ℕ) → length b ≡ 16 → (o : ℕ) → covers o ws ≡ true → SameByte (over (bufferAfter ram line) ws b) o
   over-lands [] g b l o h = absurd (let z : _≡_ {A = ℕ} 0 1 = cc in omega arith)
   over-lands (w ∷ ws) g b l o h =
-      by-test (λ c. (leb (w .from) o && ltb o (w .from + w .count)) ≡ c → (c || covers o ws) ≡ true → Same (over (bufferAfter ram line) ws (bufferAfter ram line w b)) o)
+      by-test (λ c. (leb (w .from) o && ltb o (w .from + w .count)) ≡ c → (c || covers o ws) ≡ true → SameByte (over (bufferAfter ram line) ws (bufferAfter ram line w b)) o)
       (leb (w .from) o && ltb o (w .from + w .count))
       (λ _ e _.
       let p = both (leb (w .from) o) _ e in
@@ -153,23 +153,23 @@ burst-total (suc zero) = refl
 burst-total (suc (suc zero)) = refl
 burst-total (suc (suc (suc q))) = refl
 
-whole : (f : ℕ) → f % 4 ≡ 0 → f + 4 ≤ 16 → Within (run f 4)
+whole : (f : ℕ) → f % 4 ≡ 0 → f + 4 ≤ 16 → OneDoubleword (run f 4)
 whole f e l = record { some = omega arith; lanes = omega arith; line = l }
 
 pub burst-each : (q : ℕ) → Each (burst q)
 unfolding burst
 burst-each q = by-start q
   where
-    at0 : Within (run 0 4)
+    at0 : OneDoubleword (run 0 4)
     at0 = whole 0 refl (omega arith)
 
-    at4 : Within (run 4 4)
+    at4 : OneDoubleword (run 4 4)
     at4 = whole 4 refl (omega arith)
 
-    at8 : Within (run 8 4)
+    at8 : OneDoubleword (run 8 4)
     at8 = whole 8 refl (omega arith)
 
-    at12 : Within (run 12 4)
+    at12 : OneDoubleword (run 12 4)
     at12 = whole 12 refl (omega arith)
 
     by-start : (q : ℕ) → Each (burst q)
@@ -194,9 +194,9 @@ fill-buffer ram line q xs l o k =
     (over-lands ram line (burst q) (burst-each q) (replicate 16 0) refl o (burst-covers ram line q o k))
 
 -- a plain read brings the wanted bytes
-pub own-bytes : (ram : List ℕ) (line : ℕ) (w : Run) → Within w → (xs : List ℕ) → 16 ≤ length xs →
+pub plain-bytes : (ram : List ℕ) (line : ℕ) (w : Run) → OneDoubleword w → (xs : List ℕ) → 16 ≤ length xs →
     bytesAt (through (bufferAfter ram line) (cyclesOf xs (w ∷ [])) (replicate 16 0)) (w .from) (w .count) ≡ bytesAt ram (line + w .from) (w .count)
-own-bytes ram line w g xs l =
+plain-bytes ram line w g xs l =
     rw (brought-cycles ram line xs (w ∷ []) (g, tt) (omega (arith, g .line)) (replicate 16 0))
     (bytes-same _ ram (w .from) (line + w .from) (w .count) λ o b.
     let e : line + (w .from + o) ≡ line + w .from + o = omega arith in
@@ -210,9 +210,9 @@ sent-split buffer line a m n s =
     rw (bytes-split buffer a m n, stored-append s (line + a) (bytesAt buffer a m) (bytesAt buffer (a + m) n), bytes-length buffer a m, e)
 
 -- write cycles store the wanted bytes
-pub own-stored : (x : List ℕ) (line : ℕ) (w : Run) → Within w → length x ≡ w .count → (xs : List ℕ) → 16 ≤ length xs → (m : Memory) →
+pub plain-stored : (x : List ℕ) (line : ℕ) (w : Run) → OneDoubleword w → length x ≡ w .count → (xs : List ℕ) → 16 ≤ length xs → (m : Memory) →
     through (memoryAfter (sets (replicate 16 0) (w .from) x) line) (cyclesOf xs (w ∷ [])) m ≡ stored m (line + w .from) x
-own-stored x line w g e xs l m =
+plain-stored x line w g e xs l m =
     let buffer = sets (replicate 16 0) (w .from) x in
     through-cycles (memoryAfter buffer line) (sent-split buffer line) xs (w ∷ []) (g, tt) (omega (arith, g .line)) m
     ∙ ap (stored m (line + w .from)) (rw e at (bytes-sets (replicate 16 0) (w .from) x (rw e (g .line))))
@@ -221,9 +221,9 @@ own-stored x line w g e xs l m =
 
 abbrev pub EachCycle : List Cycle → Type 0
 EachCycle [] = Unit {0}
-EachCycle (c ∷ cs) = Within (c .moved) × EachCycle cs
+EachCycle (c ∷ cs) = OneDoubleword (c .moved) × EachCycle cs
 
-moved-within : (x : ℕ) (w : Run) → Within w → Within (run (w .from) (sizeOf x w))
+moved-within : (x : ℕ) (w : Run) → OneDoubleword w → OneDoubleword (run (w .from) (sizeOf x w))
 moved-within x w g =
     let a = size-some x (w .from) (w .count) (g .some) in
     let b = size-most x (w .from) (w .count) in
@@ -247,7 +247,7 @@ pub sound-append : (a b : List Record) → Sound a → Sound b → Sound (a ++ b
 sound-append [] b p q = q
 sound-append (r ∷ rs) b p q = (p .0, sound-append rs b (p .1) q)
 
-sound-map : (make : Cycle → Record) → ((c : Cycle) → Within (c .moved) → carries (make c) ≡ 0) → (cs : List Cycle) → EachCycle cs → Sound (map make cs)
+sound-map : (make : Cycle → Record) → ((c : Cycle) → OneDoubleword (c .moved) → carries (make c) ≡ 0) → (cs : List Cycle) → EachCycle cs → Sound (map make cs)
 sound-map make h [] g = tt
 sound-map make h (c ∷ cs) g = (h c (g .0), sound-map make h cs (g .1))
 

@@ -24,7 +24,7 @@ start-coherent m array g =
     record {
       formed = reset-well-formed;
       lent = l .0;
-      lines-lent = l .1;
+      arrayLength = l .1;
       agrees = g .agrees;
       rams = refl;
       lines = no-lines afterReset (m .ram) array reset-none;
@@ -37,7 +37,7 @@ agrees-from [] s m c n = tt
 agrees-from (x ∷ cs) s m c n =
     let g = call-good s m c x (n .0) in
     let h = g .coherent in (
-      record { numbers = g .numbers; values = g .values; views = g .views; rams = h .rams; sound = g .sound },
+      record { numbers = g .numbers; values = g .values; views = g .views; rams = h .rams; no-parity-error = g .sound },
       agrees-from cs (nextState (step s x)) (plain m x .memory) h (n .1),
     )
 

@@ -54,14 +54,14 @@ module _ (s : State) (m : List ℕ) (c : Coherent s m) where
   pub read-number : (a w : ℕ) (xs log : List ℕ) → readNumber s a w xs log ≡ argumentNumber (length m) a w xs (length log)
   unfolding readNumber
   read-number a w xs log =
-      zero-or (lentNumber (length (s .memory .ram)) (length (s .memory .parity)) (length (s .array))) _ (lent-clear _ _ (c .lent) _ (c .lines-lent))
+      zero-or (lentNumber (length (s .memory .ram)) (length (s .memory .parity)) (length (s .array))) _ (lent-clear _ _ (c .lent) _ (c .arrayLength))
       ∙ or-nothing (argumentNumber (length (s .memory .ram)) a w xs (length log)) _ (states-clear a w)
       ∙ ap (λ (l : List ℕ). argumentNumber (length l) a w xs (length log)) (c .rams)
 
   pub write-number : (a w v : ℕ) (xs log : List ℕ) → writeNumber s a w v xs log ≡ orElse (argumentNumber (length m) a w xs (length log)) (valueNumber w v)
   unfolding writeNumber
   write-number a w v xs log =
-      zero-or (lentNumber (length (s .memory .ram)) (length (s .memory .parity)) (length (s .array))) _ (lent-clear _ _ (c .lent) _ (c .lines-lent))
+      zero-or (lentNumber (length (s .memory .ram)) (length (s .memory .parity)) (length (s .array))) _ (lent-clear _ _ (c .lent) _ (c .arrayLength))
       ∙ ap (orElse (argumentNumber (length (s .memory .ram)) a w xs (length log))) (or-nothing (valueNumber w v) _ (states-clear a w))
       ∙ ap (λ (l : List ℕ). orElse (argumentNumber (length l) a w xs (length log)) (valueNumber w v)) (c .rams)
 
@@ -77,7 +77,7 @@ module _ (s : State) (m : List ℕ) (c : Coherent s m) where
   view-number a =
       or-nothing (viewInputNumber (length (s .memory .ram)) (length (s .array)) a) _ (state-clear a)
       ∙ zero-or (ramNumber (length (s .memory .ram))) _ (ram-clear _ _ (c .lent))
-      ∙ zero-or (arrayNumber (length (s .array))) _ (rw (eq-eqb (length (s .array)) 8192 (c .lines-lent)))
+      ∙ zero-or (arrayNumber (length (s .array))) _ (rw (eq-eqb (length (s .array)) 8192 (c .arrayLength)))
       ∙ ap (λ (l : List ℕ). viewAddressNumber (length l) a) (c .rams)
 
 -- the plain memory's numbers are 0 and 4 to 10

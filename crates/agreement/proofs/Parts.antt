@@ -11,12 +11,12 @@ use Rattle.bus.specs.Groups.{groupSize}
 use Rattle.doubleword.specs.Doubleword.{Doubleword, doublewordsOf}
 use Rattle.memory.proofs.Places.{bytes-length}
 use Rattle.agreement.proofs.Bytes.{bytes-split}
-use Rattle.agreement.proofs.Cycles.{Within}
+use Rattle.agreement.proofs.Cycles.{OneDoubleword}
 
 -- a doubleword of an accepted access, in a memory of so many bytes
 pub record Proper (size : ℕ) (w : Doubleword) : Type 0 where
   pub aligned : w .line % 16 ≡ 0
-  pub within : Within (w .wanted)
+  pub within : OneDoubleword (w .wanted)
   pub inside : w .line + 16 ≤ size
   pub enough : 16 ≤ length (w .answers)
 
@@ -25,23 +25,23 @@ EachProper size [] = Unit {0}
 EachProper size (w ∷ ws) = Proper size w × EachProper size ws
 
 -- the bytes of memory that a doubleword wants, and those of an operand that it is given
-abbrev pub wantedOf : List ℕ → Doubleword → List ℕ
-wantedOf m w = bytesAt m (w .line + w .wanted .from) (w .wanted .count)
+abbrev pub wantedBytes : List ℕ → Doubleword → List ℕ
+wantedBytes m w = bytesAt m (w .line + w .wanted .from) (w .wanted .count)
 
 abbrev pub givenOf : List ℕ → Doubleword → List ℕ
 givenOf operand w = bytesAt operand (w .place) (w .wanted .count)
 
 abbrev pub allWanted : List ℕ → List Doubleword → List ℕ
 allWanted m [] = []
-allWanted m (w ∷ ws) = wantedOf m w ++ allWanted m ws
+allWanted m (w ∷ ws) = wantedBytes m w ++ allWanted m ws
 
 -- memory with what doublewords are given
-abbrev pub written : List ℕ → List ℕ → Doubleword → List ℕ
-written operand m w = sets m (w .line + w .wanted .from) (givenOf operand w)
+abbrev pub memoryWritten : List ℕ → List ℕ → Doubleword → List ℕ
+memoryWritten operand m w = sets m (w .line + w .wanted .from) (givenOf operand w)
 
 abbrev pub allWritten : List ℕ → List ℕ → List Doubleword → List ℕ
 allWritten operand m [] = m
-allWritten operand m (w ∷ ws) = allWritten operand (written operand m w) ws
+allWritten operand m (w ∷ ws) = allWritten operand (memoryWritten operand m w) ws
 
 pub parts-proper : (g : ℕ) (xs : List ℕ) (a n place size : ℕ) → length xs ≡ groupSize * g → n ≤ 4 * g - a % 4 → a + n ≤ size → size % 16 ≡ 0 → EachProper size (doublewordsOf g xs a n place)
 unfolding doublewordsOf

@@ -24,14 +24,14 @@ use Rattle.doubleword.specs.Doubleword.{Doubleword, Done, changed, dataOffset, 
 use Rattle.access.specs.Access.{State, state, Progress, readOne, next, allOf}
 use Rattle.memory.proofs.Places.{bytes-at, bytes-length}
 use Rattle.agreement.proofs.Bytes.{bytes-same}
-use Rattle.agreement.proofs.Cycles.{Sound, sound-append, sound-reads, cycles-within, burst-each, fill-buffer, own-bytes}
+use Rattle.agreement.proofs.Cycles.{Sound, sound-append, sound-reads, cycles-within, burst-each, fill-buffer, plain-bytes}
 use Rattle.agreement.proofs.Coherence.{Lines, NwInvariant, Coherent, fewer-lines, held-bytes, filled-lines}
-use Rattle.agreement.proofs.Parts.{Proper, EachProper, wantedOf, allWanted}
+use Rattle.agreement.proofs.Parts.{Proper, EachProper, wantedBytes, allWanted}
 
 -- another directory and data array beside the same memory
 pub coherent-with : (s : State) (m : List ℕ) → Coherent s m → (d : Directory) → WellFormed d → NwInvariant d → (array : List ℕ) → length array ≡ 8192 → Lines d m array → Coherent (state d (s .memory) array) m
 coherent-with s m c d g o array a l =
-    record { formed = g; lent = c .lent; lines-lent = a; agrees = c .agrees; rams = c .rams; lines = l; off = o }
+    record { formed = g; lent = c .lent; arrayLength = a; agrees = c .agrees; rams = c .rams; lines = l; off = o }
 
 -- a use of a way
 pub use-off : (d : Directory) (r w : ℕ) → NwInvariant d → NwInvariant (afterUse d r w)
@@ -48,7 +48,7 @@ use-lines d r w m array = fewer-lines d (afterUse d r w) m array (λ s v tag sl 
 -- what a doubleword of a read leaves
 pub record ReadGood (s : State) (m : List ℕ) (w : Doubleword) (done : Done) : Type 0 where
   pub coherent : Coherent (next s w done) m
-  pub gives : done .bytes ≡ wantedOf m w
+  pub gives : done .bytes ≡ wantedBytes m w
   pub sound : Sound (done .records)
 
 module _ (s : State) (m : List ℕ) (c : Coherent s m) (w : Doubleword) (ok : Proper (length m) w) where
@@ -63,7 +63,7 @@ module _ (s : State) (m : List ℕ) (c : Coherent s m) (w : Doubleword) (ok : Pr
   read-hit way e =
       let k = lookup-at d (w .line) way e in
       record {
-        coherent = coherent-with s m c (afterUse d (setOf (w .line)) way) (use-well-formed d (c .formed) (setOf (w .line)) way (omega arith) (k .0)) (use-off d (setOf (w .line)) way (c .off)) (s .array) (c .lines-lent) (use-lines d (setOf (w .line)) way m (s .array) (c .lines));
+        coherent = coherent-with s m c (afterUse d (setOf (w .line)) way) (use-well-formed d (c .formed) (setOf (w .line)) way (omega arith) (k .0)) (use-off d (setOf (w .line)) way (c .off)) (s .array) (c .arrayLength) (use-lines d (setOf (w .line)) way m (s .array) (c .lines));
         gives = held-bytes d m (s .array) (c .lines) (w .line) way (ok .aligned) (k .0) (k .1) (w .wanted .from) (w .wanted .count) (ok .within .line);
         sound = tt;
       }
@@ -72,8 +72,8 @@ module _ (s : State) (m : List ℕ) (c : Coherent s m) (w : Doubleword) (ok : Pr
   unfolding readPlain changed
   read-plain =
       record {
-        coherent = coherent-with s m c d (c .formed) (c .off) (s .array) (c .lines-lent) (c .lines);
-        gives = own-bytes (s .memory .ram) (w .line) (w .wanted) (ok .within) (w .answers) (ok .enough) ∙ ap (λ (l : List ℕ). wantedOf l w) (c .rams);
+        coherent = coherent-with s m c d (c .formed) (c .off) (s .array) (c .arrayLength) (c .lines);
+        gives = plain-bytes (s .memory .ram) (w .line) (w .wanted) (ok .within) (w .answers) (ok .enough) ∙ ap (λ (l : List ℕ). wantedBytes l w) (c .rams);
         sound = sound-reads plainRead (omega arith) (s .memory) (c .agrees) (w .line) fits (plainCycles w) (cycles-within (w .answers) (w .wanted ∷ []) (ok .within, tt));
       }
 
@@ -100,8 +100,8 @@ module _ (s : State) (m : List ℕ) (c : Coherent s m) (w : Doubleword) (ok : Pr
       (fill-address-well-formed d (c .formed) (w .line) victim (omega (arith, fits, c .lent .most)) vl e)
       (record { disabled = λ h. absurd (never h); empty = λ h. absurd (never h) })
       (sets (s .array) (dataOffset (w .line) victim) (bytesAt buffer 0 16))
-      (length-sets (s .array) (dataOffset (w .line) victim) (bytesAt buffer 0 16) ∙ c .lines-lent)
-      (filled-lines d (c .formed) m (s .array) (c .lines) (w .line) victim (ok .aligned) (ok .inside) (c .lines-lent) vl (bytesAt buffer 0 16) (bytes-length buffer 0 16)
+      (length-sets (s .array) (dataOffset (w .line) victim) (bytesAt buffer 0 16) ∙ c .arrayLength)
+      (filled-lines d (c .formed) m (s .array) (c .lines) (w .line) victim (ok .aligned) (ok .inside) (c .arrayLength) vl (bytesAt buffer 0 16) (bytes-length buffer 0 16)
       (λ o l. bytes-at buffer 0 16 o l ∙ buffer-is (0 + o) (omega arith) ∙ ap (λ (i : ℕ). getD m (w .line + i) 0) (omega arith)))
 
   read-fill : lookupOf d (w .line) ≡ Nothing → d .cd ≡ false → ReadGood s m w (readFill victim (s .memory) (s .array) w)
@@ -112,7 +112,7 @@ module _ (s : State) (m : List ℕ) (c : Coherent s m) (w : Doubleword) (ok : Pr
             by-test (λ b. Coherent (state (changed d (w .line) (cond b (Fill victim) Unchanged)) (s .memory) (cond b (sets (s .array) (dataOffset (w .line) victim) (bytesAt buffer 0 16)) (s .array))) m)
             (ken (lastAnswer 0 (fillCycles w)))
             (λ _. kept-coherent e enabled)
-            (λ _. coherent-with s m c d (c .formed) (c .off) (s .array) (c .lines-lent) (c .lines));
+            (λ _. coherent-with s m c d (c .formed) (c .off) (s .array) (c .arrayLength) (c .lines));
         gives = bytes-same buffer m (w .wanted .from) (w .line + w .wanted .from) (w .wanted .count) (λ o l.
             let f : w .line + w .wanted .from + o ≡ w .line + (w .wanted .from + o) = omega arith in
             rw f (buffer-is (w .wanted .from + o) (omega (arith, ok .within .line))));

@@ -48,5 +48,5 @@ module _ (s : State) (m : List ℕ) (c : Coherent s m) (a : ℕ) where
   pub external-coherent : (x : List ℕ) → GoodExternal (length m) a (length x) → Coherent (state (afterSnoop (s .directory) a) (stored (s .memory) a x) (s .array)) (sets m a x)
   external-coherent x k =
       let e : a / 16 * 16 + a % 16 ≡ a = omega arith in
-      coherent-stored s m c a x (k .inside) (afterSnoop (s .directory) a) (snoop-well-formed (s .directory) (c .formed) a) snooped-off (s .array) (c .lines-lent)
+      coherent-stored s m c a x (k .inside) (afterSnoop (s .directory) a) (snoop-well-formed (s .directory) (c .formed) a) snooped-off (s .array) (c .arrayLength)
       (rw e at (stored-miss (afterSnoop (s .directory) a) m (s .array) snooped-lines (a / 16 * 16) (a % 16) x (omega arith) (k .line) snooped-none))

@@ -59,7 +59,7 @@ module _ (s : State) (m : List ℕ) (c : Coherent s m) (x : Call) where
       let k : plainNumber m x ≡ 0 → ⊥ = λ q. h (e ∙ q) in
       rw (cond-false _ (plainDone m x) (record { number = plainNumber m x; value = 0; shown = []; memory = m }) (ne-eqb _ 0 k), f h)
       (record {
-        coherent = coherent-with s m c (s .directory) (c .formed) (c .off) (s .array) (c .lines-lent) (c .lines);
+        coherent = coherent-with s m c (s .directory) (c .formed) (c .off) (s .array) (c .arrayLength) (c .lines);
         numbers = e;
         values = refl;
         views = refl;
@@ -152,7 +152,7 @@ module _ (s : State) (m : List ℕ) (c : Coherent s m) where
   changed-good : (d : Directory) → WellFormed d → NwInvariant d → Lines d m (s .array) → Good (directoryStep s (outcome d 0 0 0)) (plainAccepted 0 [] m)
   changed-good d g o l =
       record {
-        coherent = coherent-with s m c d g o (s .array) (c .lines-lent) l;
+        coherent = coherent-with s m c d g o (s .array) (c .arrayLength) l;
         numbers = refl;
         values = refl;
         views = refl;
@@ -187,7 +187,7 @@ module _ (s : State) (m : List ℕ) (c : Coherent s m) where
       (λ _ e.
       rw (control-refused (s .directory) cd nw e, e)
       (record {
-        coherent = coherent-with s m c (s .directory) (c .formed) (c .off) (s .array) (c .lines-lent) (c .lines);
+        coherent = coherent-with s m c (s .directory) (c .formed) (c .off) (s .array) (c .arrayLength) (c .lines);
         numbers = refl;
         values = refl;
         views = refl;
@@ -219,7 +219,7 @@ module _ (s : State) (m : List ℕ) (c : Coherent s m) where
       by-number s m c (view a) n (view-number s m c a)
       (λ z.
       record {
-        coherent = coherent-with s m c (s .directory) (c .formed) (c .off) (s .array) (c .lines-lent) (c .lines);
+        coherent = coherent-with s m c (s .directory) (c .formed) (c .off) (s .array) (c .arrayLength) (c .lines);
         numbers = z;
         values = refl;
         views = view-done (s .directory .tags) (s .directory .valid) (s .directory .lru) (s .memory .ram) (s .array) a n refl z ∙ shown-is a (lookupOf (s .directory) a) refl;

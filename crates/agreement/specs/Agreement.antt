@@ -17,13 +17,13 @@ abbrev pub NoParityError : After → Type 0
 NoParityError a =
     (k : ℕ) → k < a .outcome .cycles → getD (a .log) (3 * k + 1) 0 / 128 % 2 ≡ 0
 
--- "Compared after each call": numbers, values, views, "and all of RAM".
+-- "Compared after each call": numbers, values, views, "and all of RAM". For every call, refused ones too (D50).
 pub record Matches (x : Step) (p : Plain) : Type 0 where
   pub numbers : x .leaves .outcome .number ≡ p .number
   pub values : x .leaves .outcome .value ≡ p .value
   pub views : x .shown ≡ p .shown
   pub rams : x .leaves .memory .ram ≡ p .memory
-  pub sound : NoParityError (x .leaves)
+  pub no-parity-error : NoParityError (x .leaves)
 
 -- After each call of a list, of the unit in a state and the plain memory beside it.
 unfoldable pub AgreesAll : State → List ℕ → List Call → Type 0

@@ -8,6 +8,7 @@ use Rattle.access.specs.Access.{State, state, After, after, outcome, readCall, 
 use Rattle.access.specs.Masters.{Written, externalCall, snoopOutcome, controlOutcome, flushOutcome, resetOutcome}
 use Rattle.views.specs.View.{viewNumberIn, viewIn}
 
+-- Numbers are ℕ, so that a claim about every list covers more than 32-bit addresses and 8-bit bytes.
 -- "the calls' arguments except directory, RAM, parity and data array": "The log, the board's answers and an external write's bytes are each call's own and may be anything."
 pub data Call : Type 0 where
   read : (address width : ℕ) → (pcd : Bool) → (answers log : List ℕ) → Call

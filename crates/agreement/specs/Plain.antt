@@ -17,7 +17,7 @@ pub record Plain : Type 0 where
   pub shown : List ℕ
   pub memory : List ℕ
 
--- The number of a call that meets 4 to 10, from its own arguments; "Any other call answers 0."
+-- The number of a call that meets 4 to 10, from its own arguments; "Any other call answers 0." RAM's length is the plain memory's own.
 unfoldable pub plainNumber : List ℕ → Call → ℕ
 plainNumber m (read address width pcd answers log) = argumentNumber (length m) address width answers (length log)
 plainNumber m (write address width value answers log) =
@@ -33,8 +33,8 @@ plainNumber m reset = 0
 abbrev pub plainAccepted : ℕ → List ℕ → List ℕ → Plain
 plainAccepted value bytes m = record { number = 0; value = value; shown = bytes; memory = m }
 
--- "A write or external write replaces its bytes; a read gives its bytes; a view gives its sixteen; snoop, flush, control and reset do nothing".
--- "with the bytes taken little-endian"
+-- "A write or external write replaces its bytes; a read gives its bytes; a view gives its sixteen; snoop, flush, control and reset do nothing";
+-- a read's value is that "with the bytes taken little-endian".
 unfoldable pub plainDone : List ℕ → Call → Plain
 plainDone m (read address width pcd answers log) = plainAccepted (valueOf (bytesAt m address width)) [] m
 plainDone m (write address width value answers log) = plainAccepted 0 [] (sets m address (bytesOf width value))

@@ -1,5 +1,5 @@
 // The calls on a directory whose arrays are lent, for a host that holds one: the same rules as the calls by value, and
-// nothing of the directory is copied. A contract holds whatever the one of CD and NW is that the call does not look at.
+// nothing of the directory is copied. Where a call looks at only one of CD and NW, its contract holds for either value of the other.
 ghost use mathlib.Core.Path.{_≡_};
 ghost use mathlib.Core.Bool.{Bool};
 ghost use mathlib.Core.List.{List};

@@ -32,6 +32,13 @@ or-grouped a b c =
     (λ z. let e = zero-or a b z in let k = zero-or a (orElse b c) z in rw (e, k))
     (λ n. let e = first-or a b n in let k = first-or a (orElse b c) n in rw (e, k) (first-or a c n))
 
+-- the code's first number where it is met, and its second one where not
+pub number-first : (n a b : ℕ) → n ≡ a → (n ≡ 0 → ⊥) → n ≡ orElse a b
+number-first n a b e h = e ∙ sym (first-or a b (λ z. h (e ∙ z)))
+
+pub number-later : (n k a b : ℕ) → n ≡ a → n ≡ 0 → k ≡ b → k ≡ orElse a b
+number-later n k a b e z f = f ∙ sym (zero-or a b (sym e ∙ z))
+
 -- the numbers of two sets, of which the second is looked at only where the first answers 0 and is another
 module _ (at : ℕ → ℕ) (first last number : ℕ) (en : number ≡ at first) where
   pub states-first : (not (eqb number 0) || eqb first last) ≡ true → number ≡ orElse (at first) (at last)
@@ -39,13 +46,13 @@ module _ (at : ℕ → ℕ) (first last number : ℕ) (en : number ≡ at first)
       same-or _ number 0
       (λ z.
       let same : first ≡ last = eqb-true first last (rw (eq-eqb number 0 z) at h) in
-      en ∙ ap at same ∙ sym (zero-or (at first) (at last) (sym en ∙ z)))
-      (λ n. en ∙ sym (first-or (at first) (at last) (λ z. n (en ∙ z))))
+      number-later number number (at first) (at last) en z (en ∙ ap at same))
+      (number-first number (at first) (at last) en)
 
   pub states-last : (not (eqb number 0) || eqb first last) ≡ false → (later : ℕ) → later ≡ at last → later ≡ orElse (at first) (at last)
   states-last h later e =
       let z = eqb-true number 0 (not-false _ (neither (not (eqb number 0)) (eqb first last) h .0)) in
-      e ∙ sym (zero-or (at first) (at last) (sym en ∙ z))
+      number-later number later (at first) (at last) en z e
 
 when-zero : (b : Bool) (n : ℕ) → 0 < n → when b n ≡ 0 → b ≡ false
 when-zero true n h e = absurd (omega arith)
@@ -87,7 +94,7 @@ lent-accepted ram parity array e =
 -- 1, 3 and 5 of a view
 pub record GoodView (ram array address : ℕ) : Type 0 where
   pub whole : ram % 16 ≡ 0
-  pub lines : array ≡ 8192
+  pub arrayLength : array ≡ 8192
   pub inside : address < ram
 
 pub view-accepted : (ram array address : ℕ) → viewInputNumber ram array address ≡ 0 → GoodView ram array address
@@ -97,7 +104,7 @@ view-accepted ram array address e =
     let q = or-zero (arrayNumber array) _ (p .1) in
     record {
       whole = ram-accepted ram (p .0) .2;
-      lines = array-accepted array (q .0);
+      arrayLength = array-accepted array (q .0);
       inside = ltb-true address ram (not-false _ (when-zero (not (ltb address ram)) 5 (omega arith) (q .1)));
     }
 

@@ -1,5 +1,5 @@
 // Runs the call scripts that its arguments name on the calls of `access` and on line views, and prints after each call all
-// that it answers and a digest of each thing that it is lent. oracle/scripts/player.py says what lines and rows are; its
+// that it answers and a digest of each thing that it is lent. oracle/scripts/script_unit.py says what lines and rows are; its
 // model makes the scripts (../data, ../args) and the rows that are expected (../stdout), by oracle/expectations.py --write.
 mod calls;
 mod digest;

@@ -18,7 +18,7 @@ use Rattle.memory.specs.Bytes.{bytesAt}
 use Rattle.doubleword.specs.Doubleword.{dataOffset}
 use Rattle.refusal.specs.Refusal.{orElse, viewInputNumber}
 use Rattle.memory.proofs.Places.{bytes-length}
-use Rattle.refusal.proofs.Accepted.{or-zero, zero-or, first-or, GoodView, view-accepted}
+use Rattle.refusal.proofs.Accepted.{or-zero, GoodView, view-accepted}
 use Rattle.views.specs.View.{viewNumberIn, shown, viewIn}
 
 -- a part that lies within a list
@@ -33,21 +33,14 @@ sixteen-bytes l from to e h =
     let k : to - from ≡ 16 = omega arith in
     ap (λ (n : ℕ). take n (drop from l)) k ∙ part-bytes l from 16 h
 
--- the first of two numbers that is met
-pub number-first : (n a b : ℕ) → n ≡ a → (n ≡ 0 → ⊥) → n ≡ orElse a b
-number-first n a b e h = e ∙ sym (first-or a b (λ z. h (e ∙ z)))
-
-pub number-later : (n k a b : ℕ) → n ≡ a → n ≡ 0 → k ≡ b → k ≡ orElse a b
-number-later n k a b e z f = f ∙ sym (zero-or a b (sym e ∙ z))
-
 -- what an accepted view knows of lengths and address
 module _ (tags : List ℕ) (valid : List Bool) (lru : List ℕ) (ram array address n : ℕ) (en : n ≡ viewNumberIn tags valid lru ram array address) (z : n ≡ 0) where
   good : GoodView ram array address
   unfolding viewNumberIn
   good = view-accepted _ _ _ (or-zero (viewInputNumber ram array address) (stateIn tags valid lru (setOf address)) (sym en ∙ z) .0)
 
-  pub slot-inside : (slot : ℕ) → slot + 16 ≤ 8192 → slot + 16 ≤ array
-  slot-inside slot h = omega (arith, good .lines)
+  pub data-inside : (offset : ℕ) → offset + 16 ≤ 8192 → offset + 16 ≤ array
+  data-inside offset h = omega (arith, good .arrayLength)
 
   pub line-inside : address / 16 * 16 + 16 ≤ ram
   line-inside = omega (arith, good .whole, good .inside)
@@ -63,9 +56,9 @@ module _ (tags : List ℕ) (valid : List Bool) (lru ram array : List ℕ) (addre
     unfolding viewIn
     view-done = cond-true _ _ _ (eq-eqb _ 0 (sym en ∙ z))
 
-    pub view-held : (way : ℕ) → lookupIn tags valid address ≡ At way → (slot : ℕ) → slot ≡ dataOffset address way → (r : List ℕ) → r ≡ bytesAt array slot 16 → r ≡ viewIn tags valid lru ram array address
+    pub view-held : (way : ℕ) → lookupIn tags valid address ≡ At way → (offset : ℕ) → offset ≡ dataOffset address way → (r : List ℕ) → r ≡ bytesAt array offset 16 → r ≡ viewIn tags valid lru ram array address
     unfolding shown
-    view-held way e slot s r k = k ∙ rw s (sym (view-done ∙ rw e))
+    view-held way e offset s r k = k ∙ rw s (sym (view-done ∙ rw e))
 
     pub view-missed : lookupIn tags valid address ≡ Nothing → (r : List ℕ) → r ≡ bytesAt ram (address / 16 * 16) 16 → r ≡ viewIn tags valid lru ram array address
     unfolding shown

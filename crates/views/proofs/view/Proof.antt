@@ -3,7 +3,7 @@ use mathlib.Core.Path.{_≡_, sym, _∙_}
 use Rattle.directory.specs.declared.ways.Found.the-variants.{At, Nothing}
 use Rattle.directory.specs.Ways.{lookupIn}
 use Rattle.directory.proofs.FourWays.{lookup-below}
-use Rattle.views.proofs.Viewing.{view-refused, slot-inside, line-inside, view-held, view-missed}
+use Rattle.views.proofs.Viewing.{view-refused, data-inside, line-inside, view-held, view-missed}
 use borrow.Author.Needs.{needs}
 use Rattle.views.proofs.view.Statement.{statement}
 use Rattle.views.proofs.view.Tie as tie
@@ -40,7 +40,7 @@ data-offset-requires : tie.Need-data-offset-requires
 data-offset-requires c κs = lookup-below _ _ _ _ (found (c .before))
 
 sixteen-requires : tie.Need-sixteen-requires
-sixteen-requires c κs = slot-inside _ _ _ _ _ _ _ (c .before .before .before .before .before .before .view-number .ensures) (c .before .before .before .before .before .if1 .left) _ (c .data-offset .ensures .1)
+sixteen-requires c κs = data-inside _ _ _ _ _ _ _ (c .before .before .before .before .before .before .view-number .ensures) (c .before .before .before .before .before .if1 .left) _ (c .data-offset .ensures .1)
 
 enum-told : tie.Need-enum-told
 enum-told c = search needs

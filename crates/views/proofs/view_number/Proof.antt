@@ -1,5 +1,5 @@
 use mathlib.Core.Path.{_∙_}
-use Rattle.views.proofs.Viewing.{number-first, number-later}
+use Rattle.refusal.proofs.Accepted.{number-first, number-later}
 use Rattle.views.specs.View.{viewNumberIn}
 use borrow.Author.Needs.{needs}
 use Rattle.views.proofs.view_number.Statement.{statement}

@@ -35,7 +35,7 @@ part-group-end : tie.Need-part-group-end
 part-group-end c = search needs
 
 read-doubleword-requires : tie.Need-read-doubleword-requires
-read-doubleword-requires c κs = let a = c .before .before .before .before .before .before .before .before .before .before .before .before .args in let s = cursor-doubleword _ _ _ _ _ _ _ _ _ _ _ (c .before .before .before .before .before .before .before .before .before .before .before .before .pre .0) (c .before .before .before .before .before .wanted .ensures) (c .before .before .before .before .before .before .before .before .before .before .before .before .pre .1) refl refl (group-length (now (a .answers)) (a .cursor .group * 16) (a .cursor .group * 16 + 16) refl (omega (arith, needs-more _ _ _ _ _ _ _ (c .before .before .before .before .before .before .before .before .before .before .before .before .pre .1) (c .before .before .before .before .before .before .before .before .before .before .before .before .pre .0), c .before .before .before .before .before .before .before .before .before .before .before .before .pre .1 .served))) in (s .0, c .before .before .before .before .before .before .before .before .before .before .before .before .pre .1 .lines, s .1)
+read-doubleword-requires c κs = let a = c .before .before .before .before .before .before .before .before .before .before .before .before .args in let s = cursor-doubleword _ _ _ _ _ _ _ _ _ _ _ (c .before .before .before .before .before .before .before .before .before .before .before .before .pre .0) (c .before .before .before .before .before .wanted .ensures) (c .before .before .before .before .before .before .before .before .before .before .before .before .pre .1) refl refl (group-length (now (a .answers)) (a .cursor .group * 16) (a .cursor .group * 16 + 16) refl (omega (arith, needs-more _ _ _ _ _ _ _ (c .before .before .before .before .before .before .before .before .before .before .before .before .pre .1) (c .before .before .before .before .before .before .before .before .before .before .before .before .pre .0), c .before .before .before .before .before .before .before .before .before .before .before .before .pre .1 .served))) in (s .0, c .before .before .before .before .before .before .before .before .before .before .before .before .pre .1 .arrayLength, s .1)
 
 same-length : tie.Need-same-length
 same-length c = c .before .before .before .before .before .before .read-doubleword .kept .1 .1 .1 .1 .1 .1 .0
