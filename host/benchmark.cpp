@@ -22,7 +22,7 @@ constexpr uint32_t ram_bytes = 65536;
 constexpr uint32_t calls = 16384; // of one turn
 
 // One side's state, and the sum of what its calls answered.
-struct Bench {
+struct Side {
     unit486_directory directory;
     std::vector<uint8_t> ram, parity, data;
     uint8_t answers[UNIT486_ANSWERS];
@@ -32,7 +32,7 @@ struct Bench {
     unit486_buffers lent;
     unit486_board board;
 
-    Bench() : ram(ram_bytes), parity(ram_bytes / 4), data(UNIT486_DATA_BYTES)
+    Side() : ram(ram_bytes), parity(ram_bytes / 4), data(UNIT486_DATA_BYTES)
     {
         lent = {ram.data(), ram.size(), parity.data(), parity.size(), data.data(), data.size()};
         board = {answers, UNIT486_ANSWERS, log, UNIT486_LOG_WORDS};
@@ -49,8 +49,8 @@ struct Bench {
             baseline::read(directory, lent, line, 4, false, board);
     }
 
-    Bench(const Bench &) = delete; // lent and board point into it
-    Bench &operator=(const Bench &) = delete;
+    Side(const Side &) = delete; // lent and board point into it
+    Side &operator=(const Side &) = delete;
 
     void note(const unit486_result &result)
     {
@@ -58,7 +58,7 @@ struct Bench {
         cycles += result.cycles;
     }
 
-    bool same_as(const Bench &other) const
+    bool same_as(const Side &other) const
     {
         return sum == other.sum && cycles == other.cycles && ram == other.ram && parity == other.parity &&
                data == other.data &&
@@ -69,31 +69,31 @@ struct Bench {
 
 // The calls of each side under one name each.
 struct Library {
-    static unit486_result read(Bench &bench, uint32_t address, bool pcd)
+    static unit486_result read(Side &side, uint32_t address, bool pcd)
     {
-        return unit486_read(&bench.directory, &bench.lent, address, 4, pcd, &bench.board);
+        return unit486_read(&side.directory, &side.lent, address, 4, pcd, &side.board);
     }
-    static unit486_result write(Bench &bench, uint32_t address, uint32_t value)
+    static unit486_result write(Side &side, uint32_t address, uint32_t value)
     {
-        return unit486_write(&bench.directory, &bench.lent, address, 4, value, &bench.board);
+        return unit486_write(&side.directory, &side.lent, address, 4, value, &side.board);
     }
-    static uint32_t external_write(Bench &bench, uint32_t address, const uint8_t *bytes, size_t length)
+    static uint32_t external_write(Side &side, uint32_t address, const uint8_t *bytes, size_t length)
     {
-        return unit486_external_write(&bench.directory, &bench.lent, address, bytes, length);
+        return unit486_external_write(&side.directory, &side.lent, address, bytes, length);
     }
-    static uint32_t view(Bench &bench, uint32_t address, uint8_t *shown)
+    static uint32_t view(Side &side, uint32_t address, uint8_t *shown)
     {
-        return unit486_line_view(&bench.directory, &bench.lent, address, shown);
+        return unit486_line_view(&side.directory, &side.lent, address, shown);
     }
-    static uint32_t snoop(Bench &bench, uint32_t address) { return unit486_snoop(&bench.directory, address); }
-    static uint32_t drop_line(Bench &bench, uint32_t address)
+    static uint32_t snoop(Side &side, uint32_t address) { return unit486_snoop(&side.directory, address); }
+    static uint32_t drop_line(Side &side, uint32_t address)
     {
-        return unit486_drop_line(&bench.directory, address);
+        return unit486_drop_line(&side.directory, address);
     }
-    static void flush(Bench &bench) { unit486_flush(&bench.directory); }
-    static uint32_t control(Bench &bench, bool cd)
+    static void flush(Side &side) { unit486_flush(&side.directory); }
+    static uint32_t control(Side &side, bool cd)
     {
-        return unit486_set_control(&bench.directory, cd, false).number;
+        return unit486_control_directory(&side.directory, cd, false).number;
     }
     static size_t run(const std::string &text, std::vector<uint8_t> &output)
     {
@@ -103,32 +103,29 @@ struct Library {
 };
 
 struct Baseline {
-    static unit486_result read(Bench &bench, uint32_t address, bool pcd)
+    static unit486_result read(Side &side, uint32_t address, bool pcd)
     {
-        return baseline::read(bench.directory, bench.lent, address, 4, pcd, bench.board);
+        return baseline::read(side.directory, side.lent, address, 4, pcd, side.board);
     }
-    static unit486_result write(Bench &bench, uint32_t address, uint32_t value)
+    static unit486_result write(Side &side, uint32_t address, uint32_t value)
     {
-        return baseline::write(bench.directory, bench.lent, address, 4, value, bench.board);
+        return baseline::write(side.directory, side.lent, address, 4, value, side.board);
     }
-    static uint32_t external_write(Bench &bench, uint32_t address, const uint8_t *bytes, size_t length)
+    static uint32_t external_write(Side &side, uint32_t address, const uint8_t *bytes, size_t length)
     {
-        return baseline::external_write(bench.directory, bench.lent, address, bytes, length);
+        return baseline::external_write(side.directory, side.lent, address, bytes, length);
     }
-    static uint32_t view(Bench &bench, uint32_t address, uint8_t *shown)
+    static uint32_t view(Side &side, uint32_t address, uint8_t *shown)
     {
-        return baseline::view(bench.directory, bench.lent, address, shown);
+        return baseline::view(side.directory, side.lent, address, shown);
     }
-    static uint32_t snoop(Bench &bench, uint32_t address)
+    static uint32_t snoop(Side &side, uint32_t address) { return baseline::snoop(side.directory, address); }
+    static uint32_t drop_line(Side &side, uint32_t address)
     {
-        return baseline::snoop(bench.directory, address);
+        return baseline::snoop(side.directory, address);
     }
-    static uint32_t drop_line(Bench &bench, uint32_t address)
-    {
-        return baseline::snoop(bench.directory, address);
-    }
-    static void flush(Bench &bench) { baseline::flush(bench.directory); }
-    static uint32_t control(Bench &bench, bool cd) { return baseline::control(bench.directory, cd, false); }
+    static void flush(Side &side) { baseline::flush(side.directory); }
+    static uint32_t control(Side &side, bool cd) { return baseline::control(side.directory, cd, false); }
     static size_t run(const std::string &text, std::vector<uint8_t> &output)
     {
         return baseline::run(
@@ -148,20 +145,20 @@ double median(std::vector<double> times)
 }
 
 // Median seconds of a turn of each side, and the median of the turns' ratios. The two halves of a turn
-// are neighbours in time, so what slows the machine down for a while slows both down.
+// are neighbours in time, so a slow moment slows both down.
 struct Times {
-    double library, plain, ratio;
+    double library, baseline, ratio;
 };
 
 // Who is first alternates, and the first turn is not counted.
-template <class First, class Second> Times time_both(First library, Second plain)
+template <class First, class Second> Times time_both(First library, Second baseline)
 {
     std::vector<double> times[2], ratios;
     for (int turn = 0; turn <= turns; ++turn) {
         double seconds[2] = {};
         for (const int side : {turn % 2, 1 - turn % 2}) {
             const auto start = std::chrono::steady_clock::now();
-            side == 0 ? library() : plain();
+            side == 0 ? library() : baseline();
             seconds[side] = seconds_of(start);
         }
         if (turn == 0)
@@ -185,14 +182,14 @@ void require(bool same, const char *name)
 // call show that the calls are what the row says: hits, fills, uncached.
 template <class Turn> void row(const char *name, uint32_t cycles, Turn turn, uint8_t answer = UNIT486_KEN)
 {
-    Bench library, plain;
+    Side library, baseline;
     std::memset(library.answers, answer, sizeof library.answers);
-    std::memset(plain.answers, answer, sizeof plain.answers);
-    const Times times = time_both([&] { turn(library, Library{}); }, [&] { turn(plain, Baseline{}); });
-    require(library.same_as(plain), name);
-    require(plain.cycles == uint64_t{cycles} * calls * (turns + 1), name);
+    std::memset(baseline.answers, answer, sizeof baseline.answers);
+    const Times times = time_both([&] { turn(library, Library{}); }, [&] { turn(baseline, Baseline{}); });
+    require(library.same_as(baseline), name);
+    require(baseline.cycles == uint64_t{cycles} * calls * (turns + 1), name);
     std::printf("| %-44s | %9.1f | %9.1f | %6.2f |\n", name, times.library / calls * 1e9,
-        times.plain / calls * 1e9, times.ratio);
+        times.baseline / calls * 1e9, times.ratio);
 }
 
 // Addresses of held doublewords in random order, the same for both sides.
@@ -208,74 +205,74 @@ std::vector<uint32_t> random_addresses()
 void read_rows()
 {
     const std::vector<uint32_t> addresses = random_addresses();
-    row("read hit, sequential", 0, [](Bench &bench, auto side) {
+    row("read hit, sequential", 0, [](Side &side, auto unit) {
         for (uint32_t k = 0; k < calls; ++k)
-            bench.note(side.read(bench, k * 4 % UNIT486_DATA_BYTES, false));
+            side.note(unit.read(side, k * 4 % UNIT486_DATA_BYTES, false));
     });
-    row("read hit, random", 0, [&](Bench &bench, auto side) {
+    row("read hit, random", 0, [&](Side &side, auto unit) {
         for (const uint32_t address : addresses)
-            bench.note(side.read(bench, address, false));
+            side.note(unit.read(side, address, false));
     });
     // All of RAM in turn, 32 tags for each set: each line is gone before it is read again. The lines that
     // are held at first come last.
-    const auto fills = [](Bench &bench, auto side) {
+    const auto fills = [](Side &side, auto unit) {
         for (uint32_t k = 0; k < calls; ++k)
-            bench.note(side.read(bench, (UNIT486_DATA_BYTES + k * UNIT486_LINE_BYTES) % ram_bytes, false));
+            side.note(unit.read(side, (UNIT486_DATA_BYTES + k * UNIT486_LINE_BYTES) % ram_bytes, false));
     };
     row("read miss with fill, 32-bit bus (4 cycles)", 4, fills);
     row("read miss with fill, BS16# (8 cycles)", 8, fills, UNIT486_KEN | UNIT486_BS16);
     row("read miss with fill, BS8# (16 cycles)", 16, fills, UNIT486_KEN | UNIT486_BS8);
-    row("uncached read (PCD = 1, 1 cycle)", 1, [](Bench &bench, auto side) {
+    row("uncached read (PCD = 1, 1 cycle)", 1, [](Side &side, auto unit) {
         for (uint32_t k = 0; k < calls; ++k)
-            bench.note(side.read(bench, UNIT486_DATA_BYTES + k * 4 % UNIT486_DATA_BYTES, true));
+            side.note(unit.read(side, UNIT486_DATA_BYTES + k * 4 % UNIT486_DATA_BYTES, true));
     });
 }
 
 void write_rows()
 {
     const std::vector<uint32_t> addresses = random_addresses();
-    row("write hit, through to RAM (1 cycle)", 1, [&](Bench &bench, auto side) {
+    row("write hit, through to RAM (1 cycle)", 1, [&](Side &side, auto unit) {
         for (const uint32_t address : addresses)
-            bench.note(side.write(bench, address, address * 2654435761u));
+            side.note(unit.write(side, address, address * 2654435761u));
     });
-    row("write miss (1 cycle)", 1, [&](Bench &bench, auto side) {
+    row("write miss (1 cycle)", 1, [&](Side &side, auto unit) {
         for (const uint32_t address : addresses)
-            bench.note(side.write(bench, UNIT486_DATA_BYTES + address, address * 2654435761u));
+            side.note(unit.write(side, UNIT486_DATA_BYTES + address, address * 2654435761u));
     });
 }
 
 // All 512 lines dropped one by one, then marked valid again: a look at 512 bytes and a store of them for
 // 512 snoops.
-template <class Snoop> void drop_all(Bench &bench, Snoop snoop)
+template <class Snoop> void drop_all(Side &side, Snoop snoop)
 {
     for (uint32_t k = 0; k < calls; ++k) {
-        bench.sum += snoop(k % UNIT486_LINES * UNIT486_LINE_BYTES);
+        side.sum += snoop(k % UNIT486_LINES * UNIT486_LINE_BYTES);
         if (k % UNIT486_LINES != UNIT486_LINES - 1)
             continue;
-        require(std::memchr(bench.directory.valid, 1, UNIT486_LINES) == nullptr, "snoop hit");
-        std::memset(bench.directory.valid, 1, UNIT486_LINES);
+        require(std::memchr(side.directory.valid, 1, UNIT486_LINES) == nullptr, "snoop hit");
+        std::memset(side.directory.valid, 1, UNIT486_LINES);
     }
 }
 
 void master_rows()
 {
-    row("snoop hit", 0, [](Bench &bench, auto side) {
-        drop_all(bench, [&](uint32_t address) { return side.snoop(bench, address); });
+    row("snoop hit", 0, [](Side &side, auto unit) {
+        drop_all(side, [&](uint32_t address) { return unit.snoop(side, address); });
     });
-    row("snoop hit, thin call (drop_line)", 0, [](Bench &bench, auto side) {
-        drop_all(bench, [&](uint32_t address) { return side.drop_line(bench, address); });
+    row("snoop hit, thin call (drop_line)", 0, [](Side &side, auto unit) {
+        drop_all(side, [&](uint32_t address) { return unit.drop_line(side, address); });
     });
-    row("snoop miss", 0, [](Bench &bench, auto side) {
+    row("snoop miss", 0, [](Side &side, auto unit) {
         for (uint32_t k = 0; k < calls; ++k)
-            bench.sum += side.snoop(bench, UNIT486_DATA_BYTES + k * UNIT486_LINE_BYTES);
+            side.sum += unit.snoop(side, UNIT486_DATA_BYTES + k * UNIT486_LINE_BYTES);
     });
     const auto external = [](uint32_t length) {
-        return [length](Bench &bench, auto side) {
+        return [length](Side &side, auto unit) {
             uint8_t bytes[UNIT486_LINE_BYTES];
             for (uint32_t k = 0; k < calls; ++k) {
                 std::memset(bytes, static_cast<int>(k), sizeof bytes);
-                bench.sum += side.external_write(
-                    bench, UNIT486_DATA_BYTES + k * 16 % UNIT486_DATA_BYTES, bytes, length);
+                side.sum += unit.external_write(
+                    side, UNIT486_DATA_BYTES + k * 16 % UNIT486_DATA_BYTES, bytes, length);
             }
         };
     };
@@ -285,21 +282,21 @@ void master_rows()
 
 void directory_rows()
 {
-    row("flush", 0, [](Bench &bench, auto side) {
+    row("flush", 0, [](Side &side, auto unit) {
         for (uint32_t k = 0; k < calls; ++k) {
-            bench.directory.valid[k % UNIT486_LINES] = true;
-            side.flush(bench);
+            side.directory.valid[k % UNIT486_LINES] = true;
+            unit.flush(side);
         }
     });
-    row("control (by value)", 0, [](Bench &bench, auto side) {
+    row("control (by value)", 0, [](Side &side, auto unit) {
         for (uint32_t k = 0; k < calls; ++k)
-            bench.sum += side.control(bench, k % 2 != 0);
+            side.sum += unit.control(side, k % 2 != 0);
     });
-    row("line view of a held line", 0, [](Bench &bench, auto side) {
+    row("line view of a held line", 0, [](Side &side, auto unit) {
         uint8_t shown[UNIT486_LINE_BYTES];
         for (uint32_t k = 0; k < calls; ++k) {
-            bench.sum += side.view(bench, k * 4 % UNIT486_DATA_BYTES, shown);
-            bench.sum += shown[k % UNIT486_LINE_BYTES];
+            side.sum += unit.view(side, k * 4 % UNIT486_DATA_BYTES, shown);
+            side.sum += shown[k % UNIT486_LINE_BYTES];
         }
     });
 }
@@ -325,14 +322,14 @@ void program_row()
     size_t events = 1;
     for (std::string line; text.size() + (line = event_line(random)).size() <= UNIT486_INPUT_MOST; ++events)
         text += line;
-    std::vector<uint8_t> library(UNIT486_OUTPUT_MOST), plain(UNIT486_OUTPUT_MOST);
+    std::vector<uint8_t> library(UNIT486_OUTPUT_MOST), baseline(UNIT486_OUTPUT_MOST);
     size_t lengths[2] = {};
-    const Times times = time_both(
-        [&] { lengths[0] = Library::run(text, library); }, [&] { lengths[1] = Baseline::run(text, plain); });
-    require(lengths[0] == lengths[1] && library == plain, "event program");
+    const Times times = time_both([&] { lengths[0] = Library::run(text, library); },
+        [&] { lengths[1] = Baseline::run(text, baseline); });
+    require(lengths[0] == lengths[1] && library == baseline, "event program");
     std::printf("\nThe event program on %zu events (%zu bytes):\n\n", events, text.size());
     std::printf("| %-44s | %9.0f | %9.0f | %6.2f |\n", "events per second; ratio of times",
-        events / times.library, events / times.plain, times.ratio);
+        events / times.library, events / times.baseline, times.ratio);
 }
 
 } // namespace

@@ -3,8 +3,7 @@
 //
 //     differential [CALLS [SEED]]     at least so many calls; 2000000 and 1 if not given
 //
-// It ends with 1 at the first difference, and also where something that can happen was never met.
-#include <algorithm>
+// It ends with 1 at the first difference, and also where a number or a condition was never met.
 #include <cinttypes>
 #include <cstdio>
 #include <cstdlib>
@@ -20,7 +19,7 @@ int main(int count, char **words)
     series.large(200);
     while (coverage.calls < calls) {
         series.hot(3000);
-        series.hostile(1500);
+        series.refused(1500);
         series.events(60);
     }
     const bool met = coverage.report();

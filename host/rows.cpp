@@ -4,7 +4,7 @@
 //     rows events FILE..     each file's name, then the program's output for it
 //     rows calls FILE..      each file's name, then the row of each line of the call script
 //
-// The lines of a script, and what a row has, are described in oracle/scripts/player.py.
+// The lines of a script, and what a row has, are described in oracle/scripts/script_unit.py.
 #include <cinttypes>
 #include <cstdio>
 #include <cstring>
@@ -57,7 +57,7 @@ Bytes contents(uint32_t seed, size_t length)
 }
 
 // A unit with its log, on which the lines of a script are run.
-struct Player {
+struct ScriptUnit {
     baseline::Directory directory;
     Bytes ram, parity, data;
     std::vector<uint32_t> log;
@@ -99,14 +99,14 @@ struct Player {
 
     void store(char letter, std::istringstream &line)
     {
-        uint32_t place = 0, value = 0;
-        line >> place >> value;
+        uint32_t index = 0, value = 0;
+        line >> index >> value;
         switch (letter) {
-        case 'T': directory.tags[place] = value; break;
-        case 'K': directory.valid[place] = value != 0; break;
-        case 'L': directory.lru[place] = static_cast<uint8_t>(value); break;
-        case 'M': directory.cd = place != 0, directory.nw = value != 0; break;
-        default: parity[place] ^= static_cast<uint8_t>(value);
+        case 'T': directory.tags[index] = value; break;
+        case 'K': directory.valid[index] = value != 0; break;
+        case 'L': directory.lru[index] = static_cast<uint8_t>(value); break;
+        case 'M': directory.cd = index != 0, directory.nw = value != 0; break;
+        default: parity[index] ^= static_cast<uint8_t>(value);
         }
     }
 
@@ -168,7 +168,7 @@ struct Player {
         print_digests();
     }
 
-    void play(const std::string &text)
+    void run_line(const std::string &text)
     {
         std::istringstream line(text.substr(1));
         const char letter = text[0];
@@ -202,10 +202,10 @@ struct Player {
 
 void print_calls(const std::string &name)
 {
-    Player player;
+    ScriptUnit unit;
     std::ifstream file(name);
     for (std::string line; std::getline(file, line);)
-        player.play(line);
+        unit.run_line(line);
 }
 
 } // namespace

@@ -3,6 +3,7 @@
 The files are made in `inputs/`; the rows are those of the model's program, `unit486_model.events`.
 """
 
+import sys
 from collections.abc import Callable
 from functools import cache
 
@@ -41,6 +42,14 @@ def expectations() -> list[tuple[str, Callable[[], bytes]]]:
     return [*data, (f"{CRATE}/args", arguments), (f"{CRATE}/stdout", printed)]
 
 
-if __name__ == "__main__":
+def main(words: list[str]) -> int:
+    if words:
+        print("usage: event_files.py", file=sys.stderr)
+        return 2
     for made in files():
         print(f"{made.name}: {len(made.lines)} lines in {len(made.text())} bytes")
+    return 0
+
+
+if __name__ == "__main__":
+    sys.exit(main(sys.argv[1:]))

@@ -45,7 +45,7 @@ def write(path: str, generated: bytes) -> bool:
     return True
 
 
-def strays() -> list[str]:
+def extra_files() -> list[str]:
     """Files that stand among a program's data and are not generated."""
     listed = {ROOT / path for path, _ in EXPECTATIONS}
     folders = {path.parent for path in listed if path.parent.name == "data"}
@@ -53,16 +53,16 @@ def strays() -> list[str]:
     return sorted(str(path.relative_to(ROOT)) for path in found)
 
 
-def main(arguments: list[str]) -> int:
-    if arguments not in ([], ["--write"]):
+def main(words: list[str]) -> int:
+    if words not in ([], ["--write"]):
         print("usage: expectations.py [--write]", file=sys.stderr)
         return 2
-    step = write if arguments else agrees
+    step = write if words else agrees
     done = [step(path, bytes_of(generate())) for path, generate in EXPECTATIONS]
-    print(f"{sum(done)} of {len(done)} files {'written' if arguments else 'as generated'}")
-    for path in strays():
+    print(f"{sum(done)} of {len(done)} files {'written' if words else 'as generated'}")
+    for path in extra_files():
         print(f"{path}: not generated")
-    return 0 if all(done) and not strays() else 1
+    return 0 if all(done) and not extra_files() else 1
 
 
 if __name__ == "__main__":

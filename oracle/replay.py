@@ -1,8 +1,9 @@
 """The program `replay`: its scripts, its arguments and what it must print, as the model gives it.
 
-The lines of a script, and the rows, are described in `scripts/player.py`.
+The lines of a script, and the rows, are described in `scripts/script_unit.py`.
 """
 
+import sys
 from collections.abc import Callable
 from functools import cache
 
@@ -45,6 +46,14 @@ def expectations() -> list[tuple[str, Callable[[], str]]]:
     return [*data, (f"{CRATE}/args", arguments), (f"{CRATE}/stdout", printed)]
 
 
-if __name__ == "__main__":
+def main(words: list[str]) -> int:
+    if words:
+        print("usage: replay.py", file=sys.stderr)
+        return 2
     for made in scripts():
         print(f"{made.name}: {made.met['calls']} calls in {len(made.text())} bytes")
+    return 0
+
+
+if __name__ == "__main__":
+    sys.exit(main(sys.argv[1:]))

@@ -8,7 +8,7 @@ import sys
 from collections.abc import Callable
 
 from checks import event_files, random_lists, readings, replays, vectors
-from checks.bench import Mismatch, done
+from checks.unit_calls import Mismatch, done
 
 GROUPS: list[tuple[str, Callable[[], None]]] = [
     ("LRU updates, victims, four fills", vectors.lru_table),
@@ -30,7 +30,10 @@ GROUPS: list[tuple[str, Callable[[], None]]] = [
 ]
 
 
-def main() -> int:
+def main(words: list[str]) -> int:
+    if words:
+        print("usage: selftest.py", file=sys.stderr)
+        return 2
     for name, group in GROUPS:
         done.clear()
         try:
@@ -44,4 +47,4 @@ def main() -> int:
 
 
 if __name__ == "__main__":
-    sys.exit(main())
+    sys.exit(main(sys.argv[1:]))

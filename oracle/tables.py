@@ -1,14 +1,15 @@
-"""Expected output of the test programs, as the model gives it.
+"""The rows that the program `directory_tables` must print.
 
-Each table is rows of fields parted by a tab, numbers in decimal, every row ended by a newline.
+A row has fields parted by a tab, numbers in decimal, and ends with a newline.
 """
 
+import sys
 from collections.abc import Callable, Iterator
 from itertools import combinations
 
 from unit486_model import access, refusal
 from unit486_model import directory as steps
-from unit486_model.directory import LRU_LIMIT, TAG_LIMIT, WAYS, Directory, place_of
+from unit486_model.directory import LRU_LIMIT, TAG_LIMIT, WAYS, Directory, line_index
 
 Row = tuple[str | int, ...]
 
@@ -21,7 +22,7 @@ OTHER_SET = 6
 
 
 def text_of(rows: Iterator[Row]) -> str:
-    """Rows as a test program prints them; a yes-or-no field prints as 0 or 1."""
+    """Rows as the program prints them; a yes-or-no field prints as 0 or 1."""
     return "".join("\t".join(_field(field) for field in row) + "\n" for row in rows)
 
 
@@ -30,7 +31,7 @@ def _field(field: str | int) -> str:
 
 
 def directory_tables() -> str:
-    """What the test program on the directory prints."""
+    """All that the program `directory_tables` must print."""
     return text_of(_directory_rows())
 
 
@@ -45,17 +46,17 @@ def _directory_rows() -> Iterator[Row]:
     yield ("flush", *_sums(_flushed()))
 
 
-def plant(directory: Directory, set_index: int, way: int, tag: int) -> None:
+def store_line(directory: Directory, set_index: int, way: int, tag: int) -> None:
     """Make one line valid without a use."""
-    directory.tags[place_of(set_index, way)] = tag
-    directory.valid[place_of(set_index, way)] = True
+    directory.tags[line_index(set_index, way)] = tag
+    directory.valid[line_index(set_index, way)] = True
 
 
 def full_set(set_index: int, tags: tuple[int, ...], lru: int) -> Directory:
     """A reset directory but for one set, whose ways are valid with these tags."""
     directory = steps.reset()
     for way, tag in enumerate(tags):
-        plant(directory, set_index, way, tag)
+        store_line(directory, set_index, way, tag)
     directory.lru[set_index] = lru
     return directory
 
@@ -79,7 +80,7 @@ def _victim_rows() -> Iterator[Row]:
         for mask in range(1 << WAYS):
             directory = full_set(SET, (10, 11, 12, 13), lru)
             for way in range(WAYS):
-                directory.valid[place_of(SET, way)] = bool(mask >> way & 1)
+                directory.valid[line_index(SET, way)] = bool(mask >> way & 1)
             yield ("victim", lru, mask, steps.victim(directory, SET))
 
 
@@ -94,12 +95,12 @@ def _snoop_rows() -> Iterator[Row]:
     for cd, nw in PAIRS:
         directory = steps.reset()
         directory.cd, directory.nw = cd, nw
-        plant(directory, SET, 1, 7)
-        plant(directory, SET, 2, 9)
+        store_line(directory, SET, 1, 7)
+        store_line(directory, SET, 2, 9)
         directory.lru[SET] = 3
         snooped, other = 7 * 2048 + SET * 16 + 11, 9 * 2048 + SET * 16
         number = access.snoop(directory, snooped).number
-        held = [steps.find(directory, address) is not None for address in (snooped, other)]
+        held = [steps.lookup(directory, address) is not None for address in (snooped, other)]
         yield ("snoop", cd, nw, number, *held)
 
 
@@ -109,33 +110,33 @@ def good_directory() -> Directory:
 
 
 def _same_tag(directory: Directory, lower: int, upper: int, valid: bool) -> None:
-    directory.tags[place_of(SET, upper)] = directory.tags[place_of(SET, lower)]
-    directory.valid[place_of(SET, upper)] = valid
+    directory.tags[line_index(SET, upper)] = directory.tags[line_index(SET, lower)]
+    directory.valid[line_index(SET, upper)] = valid
 
 
-def _set_tag(directory: Directory, way: int, tag: int, valid: bool = True) -> None:
-    directory.tags[place_of(SET, way)] = tag
-    directory.valid[place_of(SET, way)] = valid
+def _store_tag(directory: Directory, way: int, tag: int, valid: bool = True) -> None:
+    directory.tags[line_index(SET, way)] = tag
+    directory.valid[line_index(SET, way)] = valid
 
 
-def _set_lru(directory: Directory, lru: int) -> None:
+def _store_lru(directory: Directory, lru: int) -> None:
     directory.lru[SET] = lru
 
 
 def _order_21(directory: Directory) -> None:
-    _set_tag(directory, 0, TAG_LIMIT + 1)
-    _set_tag(directory, 1, TAG_LIMIT + 1)
-    _set_lru(directory, LRU_LIMIT + 1)
+    _store_tag(directory, 0, TAG_LIMIT + 1)
+    _store_tag(directory, 1, TAG_LIMIT + 1)
+    _store_lru(directory, LRU_LIMIT + 1)
 
 
 def _order_22(directory: Directory) -> None:
-    _set_tag(directory, 3, TAG_LIMIT + 1)
-    _set_lru(directory, LRU_LIMIT + 1)
+    _store_tag(directory, 3, TAG_LIMIT + 1)
+    _store_lru(directory, LRU_LIMIT + 1)
 
 
 def _other_set(directory: Directory) -> None:
-    plant(directory, OTHER_SET, 0, TAG_LIMIT + 1)
-    plant(directory, OTHER_SET, 1, TAG_LIMIT + 1)
+    store_line(directory, OTHER_SET, 0, TAG_LIMIT + 1)
+    store_line(directory, OTHER_SET, 1, TAG_LIMIT + 1)
     directory.lru[OTHER_SET] = LRU_LIMIT + 1
 
 
@@ -143,7 +144,7 @@ def _state_rows() -> Iterator[Row]:
     def asked(label: str, change: Callable[[Directory], None]) -> Row:
         directory = good_directory()
         change(directory)
-        return ("state", label, refusal.state(directory, [SET]))
+        return ("state", label, refusal.states_number(directory, [SET]))
 
     yield asked("good", lambda directory: None)
     for i, j in combinations(range(WAYS), 2):
@@ -152,11 +153,11 @@ def _state_rows() -> Iterator[Row]:
         yield asked(f"stale_{i}_{j}", lambda directory: _same_tag(directory, i, j, False))
     for i in range(WAYS):
         above = TAG_LIMIT + 1
-        yield asked(f"limit_{i}", lambda directory: _set_tag(directory, i, TAG_LIMIT))
-        yield asked(f"above_{i}", lambda directory: _set_tag(directory, i, above))
-        yield asked(f"above_invalid_{i}", lambda directory: _set_tag(directory, i, above, False))
-    yield asked("lru_7", lambda directory: _set_lru(directory, LRU_LIMIT))
-    yield asked("lru_8", lambda directory: _set_lru(directory, LRU_LIMIT + 1))
+        yield asked(f"limit_{i}", lambda directory: _store_tag(directory, i, TAG_LIMIT))
+        yield asked(f"above_{i}", lambda directory: _store_tag(directory, i, above))
+        yield asked(f"above_invalid_{i}", lambda directory: _store_tag(directory, i, above, False))
+    yield asked("lru_7", lambda directory: _store_lru(directory, LRU_LIMIT))
+    yield asked("lru_8", lambda directory: _store_lru(directory, LRU_LIMIT + 1))
     yield asked("order_21", _order_21)
     yield asked("order_22", _order_22)
     yield asked("other_set", _other_set)
@@ -164,18 +165,26 @@ def _state_rows() -> Iterator[Row]:
 
 def _sums(directory: Directory) -> Row:
     """Number of valid lines, sum of tags, sum of LRU numbers, CD, NW."""
-    marks = (directory.cd, directory.nw)
-    return (sum(directory.valid), sum(directory.tags), sum(directory.lru), *marks)
+    control_bits = (directory.cd, directory.nw)
+    return (sum(directory.valid), sum(directory.tags), sum(directory.lru), *control_bits)
 
 
 def _flushed() -> Directory:
     directory = good_directory()
     directory.cd = directory.nw = False
-    plant(directory, 127, 3, 99)
+    store_line(directory, 127, 3, 99)
     directory.lru[127] = 5
     access.flush(directory)
     return directory
 
 
-if __name__ == "__main__":
+def main(words: list[str]) -> int:
+    if words:
+        print("usage: tables.py", file=sys.stderr)
+        return 2
     print(directory_tables(), end="")
+    return 0
+
+
+if __name__ == "__main__":
+    sys.exit(main(sys.argv[1:]))

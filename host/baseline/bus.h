@@ -40,7 +40,7 @@ inline void read_cycle(
     const unit486_buffers &lent, uint32_t address, unsigned lanes, uint32_t flags, Records &records)
 {
     const uint32_t word = load(lent.ram + address) & lane_bits[lanes];
-    const unsigned wrong = (dp_of(word) ^ lent.parity[address / 4]) & lanes;
+    const unsigned wrong = (dp_bits(word) ^ lent.parity[address / 4]) & lanes;
     records.put(address, lanes | flags | (wrong ? UNIT486_WRONG_PARITY : 0), word);
 }
 
@@ -60,15 +60,15 @@ inline bool fill_cycles(
     const unit486_buffers &lent, uint32_t address, const uint8_t *answers, Records &records)
 {
     unsigned answer = 0;
-    for (unsigned turn = 0; turn < UNIT486_LINE_BYTES; turn += 4) {
+    for (unsigned offset = 0; offset < UNIT486_LINE_BYTES; offset += 4) {
         // "0-4-8-12, 4-0-12-8, 8-12-0-4 or 12-8-4-0" is the start, exclusive-or 0, 4, 8, 12.
-        const uint32_t doubleword = address ^ turn;
+        const uint32_t doubleword = address ^ offset;
         unsigned wanted = all_lanes;
         do {
             answer = *answers++;
             const unsigned lanes = moved_lanes(wanted, answer);
             wanted &= ~lanes;
-            const bool last = turn == 12 && wanted == 0;
+            const bool last = offset == 12 && wanted == 0;
             read_cycle(lent, doubleword, lanes, UNIT486_FILL | (last ? UNIT486_LAST : 0), records);
         } while (wanted);
     }

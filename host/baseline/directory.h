@@ -1,4 +1,4 @@
-// The directory: places, lookup, use, victim, and what is wrong with a set. Quotations are document 01's.
+// The directory: indexes, lookup, use, victim, and what is wrong with a set. Quotations are document 01's.
 #pragma once
 
 #include "unit486.h"
@@ -15,20 +15,20 @@ constexpr uint8_t lru_limit = 7;
 // "tag = address / 2048, set = (address / 16) mod 128, byte = address mod 16"
 inline uint32_t tag_of(uint32_t address) { return address / 2048; }
 inline unsigned set_of(uint32_t address) { return address / 16 % UNIT486_SETS; }
-inline uint32_t line_of(uint32_t address) { return address & ~15u; }
+inline uint32_t line_address(uint32_t address) { return address & ~15u; }
 
 // Tags and valid marks stand at set x 4 + way, as lines do in the data array.
-inline unsigned place_of(unsigned set, unsigned way) { return set * ways + way; }
+inline unsigned line_index(unsigned set, unsigned way) { return set * ways + way; }
 
 // The lowest way of a mask of ways, or no_way. No branch depends on which way it is.
 inline unsigned lowest(unsigned mask) { return static_cast<unsigned>(__builtin_ctz(mask | 1u << no_way)); }
 
-// The way that holds the address's line, or no_way. A set that passed set_number has one at most.
-inline unsigned find(const Directory &directory, uint32_t address)
+// The way that holds the address's line, or no_way. A set that passed state_number has one at most.
+inline unsigned lookup(const Directory &directory, uint32_t address)
 {
     const uint32_t tag = tag_of(address);
-    const uint32_t *t = directory.tags + place_of(set_of(address), 0);
-    const bool *v = directory.valid + place_of(set_of(address), 0);
+    const uint32_t *t = directory.tags + line_index(set_of(address), 0);
+    const bool *v = directory.valid + line_index(set_of(address), 0);
     return lowest((v[0] & (t[0] == tag)) | (v[1] & (t[1] == tag)) << 1 | (v[2] & (t[2] == tag)) << 2 |
                   (v[3] & (t[3] == tag)) << 3);
 }
@@ -46,7 +46,7 @@ inline void use(Directory &directory, unsigned set, unsigned way)
 // 2 + B2."
 inline unsigned victim(const Directory &directory, unsigned set)
 {
-    const bool *v = directory.valid + place_of(set, 0);
+    const bool *v = directory.valid + line_index(set, 0);
     const unsigned valid = v[0] | v[1] << 1 | v[2] << 2 | v[3] << 3;
     const unsigned invalid = lowest(~valid & 15);
     if (invalid != no_way)
@@ -56,16 +56,16 @@ inline unsigned victim(const Directory &directory, unsigned set)
 }
 
 // "A kept fill writes the victim's bytes, tag and valid mark", and is a use. The bytes are the caller's
-// part: it gets the line's place.
+// part: it gets the line's index.
 inline unsigned fill(Directory &directory, uint32_t address)
 {
     const unsigned set = set_of(address);
     const unsigned way = victim(directory, set);
-    const unsigned place = place_of(set, way);
-    directory.tags[place] = tag_of(address);
-    directory.valid[place] = true;
+    const unsigned index = line_index(set, way);
+    directory.tags[index] = tag_of(address);
+    directory.valid[index] = true;
     use(directory, set, way);
-    return place;
+    return index;
 }
 
 // "A snoop invalidates the line holding its address. With NW = 1 it changes nothing."
@@ -73,16 +73,16 @@ inline void invalidate(Directory &directory, uint32_t address)
 {
     if (directory.nw)
         return;
-    const unsigned way = find(directory, address);
+    const unsigned way = lookup(directory, address);
     if (way != no_way)
-        directory.valid[place_of(set_of(address), way)] = false;
+        directory.valid[line_index(set_of(address), way)] = false;
 }
 
 // "21. Two valid lines with one tag. 22. A valid tag above 2,097,151. 23. LRU number above 7."
-inline uint32_t set_number(const Directory &directory, unsigned set)
+inline uint32_t state_number(const Directory &directory, unsigned set)
 {
-    const uint32_t *t = directory.tags + place_of(set, 0);
-    const bool *v = directory.valid + place_of(set, 0);
+    const uint32_t *t = directory.tags + line_index(set, 0);
+    const bool *v = directory.valid + line_index(set, 0);
     // All tests at once: a branch for each would cost more than the tests.
     const unsigned same = (v[0] & v[1] & (t[0] == t[1])) | (v[0] & v[2] & (t[0] == t[2])) |
                           (v[0] & v[3] & (t[0] == t[3])) | (v[1] & v[2] & (t[1] == t[2])) |
@@ -97,14 +97,14 @@ inline uint32_t set_number(const Directory &directory, unsigned set)
 
 // "Checked in every touched set, the lower address's set first"; "All of one set comes before the next
 // set." The bytes lie in RAM and in two lines at most.
-inline uint32_t state_number(const Directory &directory, uint32_t address, uint32_t count)
+inline uint32_t states_number(const Directory &directory, uint32_t address, uint32_t count)
 {
     const unsigned lower = set_of(address);
     const unsigned upper = set_of(address + count - 1);
-    const uint32_t number = set_number(directory, lower);
+    const uint32_t number = state_number(directory, lower);
     if (number != 0 || upper == lower)
         return number;
-    return set_number(directory, upper);
+    return state_number(directory, upper);
 }
 
 } // namespace baseline

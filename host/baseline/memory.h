@@ -1,7 +1,6 @@
 // Doublewords of RAM, their lanes and their parity.
 #pragma once
 
-#include <cstddef>
 #include <cstdint>
 #include <cstring>
 
@@ -35,7 +34,7 @@ inline void store_lanes(uint8_t *to, unsigned lanes, uint32_t word)
 }
 
 // "Even parity: a byte and its DP bit together have an even number of ones": DP0 to DP3 of a doubleword.
-inline unsigned dp_of(uint32_t word)
+inline unsigned dp_bits(uint32_t word)
 {
     word ^= word >> 4;
     word ^= word >> 2;
@@ -47,7 +46,7 @@ inline unsigned dp_of(uint32_t word)
 // "bits 0 to 3 are DP0 to DP3, the upper four are ignored and become 0 when that byte is written"
 inline void store_parity(uint8_t &parity, unsigned lanes, uint32_t word)
 {
-    parity = (parity & all_lanes & ~lanes) | (dp_of(word) & lanes);
+    parity = (parity & all_lanes & ~lanes) | (dp_bits(word) & lanes);
 }
 
 } // namespace baseline

@@ -109,7 +109,7 @@ static void scan_line(const uint8_t *line, const uint8_t *end, Event &event)
 }
 
 // "The program has 65,536 zero RAM bytes, zero parity, a zero data array, a reset directory."
-struct Machine {
+struct Unit {
     Directory directory;
     uint8_t ram[ram_bytes];
     uint8_t parity[ram_bytes / 4];
@@ -186,8 +186,8 @@ size_t run(const uint8_t *input, size_t input_length, uint8_t *output, size_t ou
         text.put_row(0, {12, 0, 0});
         return text.length;
     }
-    const auto machine = std::make_unique<Machine>();
-    reset(machine->directory);
+    const auto unit = std::make_unique<Unit>();
+    reset(unit->directory);
     const uint8_t *end = input + input_length;
     Event event;
     uint32_t row = 0;
@@ -195,7 +195,7 @@ size_t run(const uint8_t *input, size_t input_length, uint8_t *output, size_t ou
         const void *newline = std::memchr(line, '\n', static_cast<size_t>(end - line));
         const uint8_t *stop = newline ? static_cast<const uint8_t *>(newline) : end;
         scan_line(line, stop, event);
-        text.put_row(++row, machine->perform(event));
+        text.put_row(++row, unit->perform(event));
         line = newline ? stop + 1 : end; // "the last newline optional"
     }
     return text.length;

@@ -1,4 +1,4 @@
-// "Turned away because of the input": each function gives the lowest number that it meets, or 0.
+// Refused, "because of the input": each function gives the lowest number that it meets, or 0.
 #pragma once
 
 #include <cstring>
@@ -39,7 +39,7 @@ inline bool good_answers(const uint8_t *answers, size_t length)
 }
 
 // 1 to 7, of a read or a write. Address + width is a sum of 64 bits, which cannot wrap.
-inline uint32_t access_number(
+inline uint32_t input_number(
     const unit486_buffers &lent, uint32_t address, uint32_t width, const unit486_board &board)
 {
     const uint32_t number = memory_number(lent);
@@ -63,7 +63,7 @@ inline uint32_t value_number(uint32_t width, uint32_t value)
 }
 
 // 1, 2, 10. "External write empty, over 16 bytes, across lines or beyond RAM."
-inline uint32_t external_number(const unit486_buffers &lent, uint32_t address, size_t length)
+inline uint32_t external_input_number(const unit486_buffers &lent, uint32_t address, size_t length)
 {
     const uint32_t number = memory_number(lent);
     if (number != 0)

@@ -1,5 +1,5 @@
-// The calls. Each looks for its number before it changes anything, so that a call which is turned away
-// leaves all that it was lent as it was.
+// The calls. Each looks for its number before it changes anything, so that a refused call leaves
+// all that it was lent as it was.
 #include "unit.h"
 
 #include <cstring>
@@ -31,16 +31,16 @@ void flush(Directory &directory) { std::memset(directory.valid, 0, sizeof direct
 
 uint32_t snoop(Directory &directory, uint32_t address)
 {
-    const uint32_t number = set_number(directory, set_of(address));
+    const uint32_t number = state_number(directory, set_of(address));
     if (number == 0)
         invalidate(directory, address);
     return number;
 }
 
-// Where the data array holds the doubleword of an address.
-static uint8_t *held_at(const unit486_buffers &lent, unsigned place, uint32_t address)
+// Where the byte of an address stands in the data array, by the index of its line.
+static size_t data_offset(unsigned index, uint32_t address)
 {
-    return lent.data + place * UNIT486_LINE_BYTES + address % UNIT486_LINE_BYTES;
+    return size_t{index * UNIT486_LINE_BYTES} + address % UNIT486_LINE_BYTES;
 }
 
 // "Read miss: a fill when CD = 0, PCD = 0 and the first cycle has KEN#. Otherwise the wanted bytes only."
@@ -53,8 +53,9 @@ static uint8_t *held_at(const unit486_buffers &lent, unsigned place, uint32_t ad
         read_cycles(lent, address, wanted, answers, records);
     } else if (fill_cycles(lent, address, answers, records)) {
         // "It is kept only if the last cycle also has KEN#".
-        const uint32_t line = line_of(address);
-        std::memcpy(held_at(lent, fill(directory, address), line), lent.ram + line, UNIT486_LINE_BYTES);
+        const uint32_t line = line_address(address);
+        const size_t offset = data_offset(fill(directory, address), line);
+        std::memcpy(lent.data + offset, lent.ram + line, UNIT486_LINE_BYTES);
     }
     return load(lent.ram + address) & lane_bits[wanted];
 }
@@ -64,12 +65,12 @@ static uint8_t *held_at(const unit486_buffers &lent, unsigned place, uint32_t ad
 static uint32_t read_doubleword(Directory &directory, const unit486_buffers &lent, uint32_t address,
     unsigned wanted, bool may_fill, const uint8_t *answers, Records &records)
 {
-    const unsigned way = find(directory, address);
+    const unsigned way = lookup(directory, address);
     if (way == no_way)
         return read_miss(directory, lent, address, wanted, may_fill, answers, records);
     const unsigned set = set_of(address);
     use(directory, set, way);
-    return load(held_at(lent, place_of(set, way), address)) & lane_bits[wanted];
+    return load(lent.data + data_offset(line_index(set, way), address)) & lane_bits[wanted];
 }
 
 // The wanted lanes of an access: 0 to 3 in the lower doubleword, 4 to 7 in the upper one.
@@ -78,9 +79,9 @@ static unsigned wanted_lanes(uint32_t address, uint32_t width) { return ((1u << 
 unit486_result read(Directory &directory, const unit486_buffers &lent, uint32_t address, uint32_t width,
     bool pcd, const unit486_board &board)
 {
-    uint32_t number = access_number(lent, address, width, board);
+    uint32_t number = input_number(lent, address, width, board);
     if (number == 0)
-        number = state_number(directory, address, width);
+        number = states_number(directory, address, width);
     if (number != 0)
         return {number, 0, 0};
     Records records{board.log};
@@ -104,11 +105,11 @@ unit486_result read(Directory &directory, const unit486_buffers &lent, uint32_t 
 static void write_doubleword(Directory &directory, const unit486_buffers &lent, uint32_t address,
     unsigned wanted, uint32_t word, const uint8_t *answers, Records &records)
 {
-    const unsigned way = find(directory, address);
+    const unsigned way = lookup(directory, address);
     if (way != no_way) {
         const unsigned set = set_of(address);
         use(directory, set, way);
-        store_lanes(held_at(lent, place_of(set, way), address), wanted, word);
+        store_lanes(lent.data + data_offset(line_index(set, way), address), wanted, word);
         if (directory.cd && directory.nw)
             return;
     }
@@ -118,11 +119,11 @@ static void write_doubleword(Directory &directory, const unit486_buffers &lent, 
 unit486_result write(Directory &directory, const unit486_buffers &lent, uint32_t address, uint32_t width,
     uint32_t value, const unit486_board &board)
 {
-    uint32_t number = access_number(lent, address, width, board);
+    uint32_t number = input_number(lent, address, width, board);
     if (number == 0)
         number = value_number(width, value);
     if (number == 0)
-        number = state_number(directory, address, width);
+        number = states_number(directory, address, width);
     if (number != 0)
         return {number, 0, 0};
     Records records{board.log};
@@ -144,15 +145,15 @@ unit486_result write(Directory &directory, const unit486_buffers &lent, uint32_t
 uint32_t external_write(
     Directory &directory, const unit486_buffers &lent, uint32_t address, const uint8_t *bytes, size_t length)
 {
-    uint32_t number = external_number(lent, address, length);
+    uint32_t number = external_input_number(lent, address, length);
     if (number == 0)
-        number = set_number(directory, set_of(address));
+        number = state_number(directory, set_of(address));
     if (number != 0)
         return number;
     std::memcpy(lent.ram + address, bytes, length);
     // The written lanes of the line's sixteen, four for each doubleword.
     const unsigned written = ((1u << length) - 1) << address % 16;
-    const uint32_t line = line_of(address);
+    const uint32_t line = line_address(address);
     for (unsigned k = 0; k < 4; ++k) {
         const unsigned lanes = written >> 4 * k & all_lanes;
         if (lanes != 0)
@@ -165,7 +166,7 @@ uint32_t external_write(
 uint32_t view_number(const Directory &directory, const unit486_buffers &lent, uint32_t address)
 {
     const uint32_t number = view_input_number(lent, address);
-    return number != 0 ? number : set_number(directory, set_of(address));
+    return number != 0 ? number : state_number(directory, set_of(address));
 }
 
 // "A line view is a part of the data array where the line is held, otherwise a part of RAM, always the
@@ -175,10 +176,10 @@ uint32_t view(const Directory &directory, const unit486_buffers &lent, uint32_t 
     const uint32_t number = view_number(directory, lent, address);
     if (number != 0)
         return number;
-    const unsigned way = find(directory, address);
-    const uint32_t line = line_of(address);
+    const unsigned way = lookup(directory, address);
+    const uint32_t line = line_address(address);
     const uint8_t *part =
-        way == no_way ? lent.ram + line : held_at(lent, place_of(set_of(address), way), line);
+        way == no_way ? lent.ram + line : lent.data + data_offset(line_index(set_of(address), way), line);
     std::memcpy(shown, part, UNIT486_LINE_BYTES);
     return 0;
 }
@@ -191,7 +192,7 @@ static uint8_t answer_at(uint64_t address)
 }
 
 // "repeated 16 times for each doubleword; an absent upper doubleword takes the lower's". A width that
-// will be turned away has none.
+// will be refused has none.
 void board_answers(uint32_t address, uint32_t width, uint8_t *answers)
 {
     const bool crosses = good_width(width) && address % 4 + width > 4;

@@ -5,7 +5,7 @@
 #include <cstdio>
 
 #include "baseline/unit.h"
-#include "world.h"
+#include "sides.h"
 
 enum class Kind {
     reset,
@@ -39,7 +39,7 @@ struct Call {
 };
 
 // The result of a call that answers a number alone.
-inline unit486_result only(uint32_t number) { return {number, 0, 0}; }
+inline unit486_result number_only(uint32_t number) { return {number, 0, 0}; }
 
 inline unit486_result call_library(Side &side, const Call &call)
 {
@@ -47,19 +47,20 @@ inline unit486_result call_library(Side &side, const Call &call)
     const unit486_board board = side.board();
     unit486_directory *directory = &side.directory;
     switch (call.kind) {
-    case Kind::reset: return unit486_start(directory);
-    case Kind::control: return unit486_set_control(directory, call.cd, call.nw);
-    case Kind::flush: unit486_flush(directory); return only(0);
-    case Kind::snoop: return only(unit486_snoop(directory, call.address));
-    case Kind::drop_line: return only(unit486_drop_line(directory, call.address));
+    case Kind::reset: return unit486_reset_directory(directory);
+    case Kind::control: return unit486_control_directory(directory, call.cd, call.nw);
+    case Kind::flush: unit486_flush(directory); return number_only(0);
+    case Kind::snoop: return number_only(unit486_snoop(directory, call.address));
+    case Kind::drop_line: return number_only(unit486_drop_line(directory, call.address));
     case Kind::external_write:
-        return only(
+        return number_only(
             unit486_external_write(directory, &lent, call.address, side.bytes.start(), side.bytes.length));
     case Kind::read: return unit486_read(directory, &lent, call.address, call.width, call.pcd, &board);
     case Kind::write: return unit486_write(directory, &lent, call.address, call.width, call.value, &board);
-    case Kind::view: return only(unit486_line_view(directory, &lent, call.address, side.shown.start()));
-    case Kind::view_number: return only(unit486_line_view_number(directory, &lent, call.address));
-    default: unit486_board_answers(call.address, call.width, side.answers.start()); return only(0);
+    case Kind::view:
+        return number_only(unit486_line_view(directory, &lent, call.address, side.shown.start()));
+    case Kind::view_number: return number_only(unit486_line_view_number(directory, &lent, call.address));
+    default: unit486_board_answers(call.address, call.width, side.answers.start()); return number_only(0);
     }
 }
 
@@ -69,19 +70,19 @@ inline unit486_result call_baseline(Side &side, const Call &call)
     const unit486_board board = side.board();
     unit486_directory &directory = side.directory;
     switch (call.kind) {
-    case Kind::reset: baseline::reset(directory); return only(0);
-    case Kind::control: return only(baseline::control(directory, call.cd, call.nw));
-    case Kind::flush: baseline::flush(directory); return only(0);
+    case Kind::reset: baseline::reset(directory); return number_only(0);
+    case Kind::control: return number_only(baseline::control(directory, call.cd, call.nw));
+    case Kind::flush: baseline::flush(directory); return number_only(0);
     case Kind::snoop:
-    case Kind::drop_line: return only(baseline::snoop(directory, call.address));
+    case Kind::drop_line: return number_only(baseline::snoop(directory, call.address));
     case Kind::external_write:
-        return only(
+        return number_only(
             baseline::external_write(directory, lent, call.address, side.bytes.start(), side.bytes.length));
     case Kind::read: return baseline::read(directory, lent, call.address, call.width, call.pcd, board);
     case Kind::write: return baseline::write(directory, lent, call.address, call.width, call.value, board);
-    case Kind::view: return only(baseline::view(directory, lent, call.address, side.shown.start()));
-    case Kind::view_number: return only(baseline::view_number(directory, lent, call.address));
-    default: baseline::board_answers(call.address, call.width, side.answers.start()); return only(0);
+    case Kind::view: return number_only(baseline::view(directory, lent, call.address, side.shown.start()));
+    case Kind::view_number: return number_only(baseline::view_number(directory, lent, call.address));
+    default: baseline::board_answers(call.address, call.width, side.answers.start()); return number_only(0);
     }
 }
 

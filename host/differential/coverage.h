@@ -6,7 +6,7 @@
 
 #include "calls.h"
 
-enum Happening {
+enum Condition {
     read_hit,
     read_hit_under_cd_or_pcd,
     plain_read,
@@ -34,10 +34,10 @@ enum Happening {
     run_whole_output,
     run_output_cut,
     run_without_last_newline,
-    happenings
+    conditions
 };
 
-constexpr const char *happening_names[happenings] = {
+constexpr const char *condition_names[conditions] = {
     "read hits",
     "read hits with CD = 1 or PCD = 1",
     "plain reads",
@@ -92,8 +92,8 @@ constexpr uint32_t possible_numbers[kinds] = {
 
 inline bool is_held(const unit486_directory &directory, uint32_t address)
 {
-    for (size_t place = address / 16 % 128 * 4, way = 0; way < 4; ++way)
-        if (directory.valid[place + way] && directory.tags[place + way] == address / 2048)
+    for (size_t index = address / 16 % 128 * 4, way = 0; way < 4; ++way)
+        if (directory.valid[index + way] && directory.tags[index + way] == address / 2048)
             return true;
     return false;
 }
@@ -102,7 +102,7 @@ class Coverage {
 public:
     uint64_t calls = 0;
 
-    void note(Happening happening, uint64_t times = 1) { met[happening] += times; }
+    void note(Condition condition, uint64_t times = 1) { met[condition] += times; }
 
     void note_number(Kind kind, uint32_t number)
     {
@@ -140,8 +140,8 @@ public:
                 good = report_number(kind, number) && good;
             std::printf("\n");
         }
-        for (size_t k = 0; k < happenings; ++k) {
-            std::printf("%-58s %10" PRIu64 "%s\n", happening_names[k], met[k], met[k] ? "" : "  NEVER MET");
+        for (size_t k = 0; k < conditions; ++k) {
+            std::printf("%-58s %10" PRIu64 "%s\n", condition_names[k], met[k], met[k] ? "" : "  NEVER MET");
             good = good && met[k] != 0;
         }
         return good;
@@ -149,7 +149,7 @@ public:
 
 private:
     uint64_t numbers[kinds][32] = {};
-    uint64_t met[happenings] = {};
+    uint64_t met[conditions] = {};
 
     bool report_number(size_t kind, uint32_t number) const
     {
@@ -203,7 +203,7 @@ private:
 
     static uint32_t doublewords_of(const Call &call) { return call.address % 4 + call.width > 4 ? 2 : 1; }
 
-    void note_place(const unit486_directory &before, const Call &call)
+    void note_access(const unit486_directory &before, const Call &call)
     {
         if (call.address % 16 + call.width > 16)
             note(access_across_lines);
@@ -214,7 +214,7 @@ private:
     void note_read(
         const unit486_directory &before, const Call &call, const unit486_result &result, const Side &side)
     {
-        note_place(before, call);
+        note_access(before, call);
         const Groups groups = note_records(result, side);
         const uint32_t hits = doublewords_of(call) - groups.plain - groups.fills;
         const uint32_t kept = groups.fills ? note_kept_fills(before, side.directory) : 0;
@@ -234,7 +234,7 @@ private:
     void note_write(
         const unit486_directory &before, const Call &call, const unit486_result &result, const Side &side)
     {
-        note_place(before, call);
+        note_access(before, call);
         const uint32_t doublewords = doublewords_of(call);
         uint32_t held = is_held(before, call.address);
         if (doublewords == 2)

@@ -39,7 +39,7 @@ private:
         case 0: return "";
         case 1: return overlong();
         case 2: return wrong_field();
-        default: return damaged(well_formed());
+        default: return changed(well_formed());
         }
     }
 
@@ -130,7 +130,7 @@ private:
     }
 
     // One byte put in, taken out or replaced. What comes out may be well formed.
-    std::string damaged(std::string made)
+    std::string changed(std::string made)
     {
         const char byte = random.pick({'\t', ' ', '0', '9', 'A', 'a', 'R', '\r', '\0', '\xff', '-', '\n'});
         const uint32_t at = random.below(static_cast<uint32_t>(made.size()));

@@ -1,7 +1,6 @@
-// A seeded generator, the same on every machine.
+// A seeded generator: the same seed gives the same sequence.
 #pragma once
 
-#include <cstddef>
 #include <cstdint>
 #include <initializer_list>
 

@@ -9,7 +9,7 @@
 #include "calls.h"
 #include "coverage.h"
 #include "event_text.h"
-#include "world.h"
+#include "sides.h"
 
 class Series {
 public:
@@ -19,36 +19,36 @@ public:
     void hot(uint32_t calls)
     {
         name = "hot";
-        make_world(random.percent(20) ? random.between(1, 128) * 16 : random.between(256, 2048) * 16);
+        make_sides(random.percent(20) ? random.between(1, 128) * 16 : random.between(256, 2048) * 16);
         choose_sets();
         enable_cache();
         quiet = random.percent(40);
         for (uint32_t k = 0; k < calls; ++k) {
             if (random.percent(5))
-                disturb();
+                add_fault();
             const Call call = next_call();
             restore_lengths();
             if (random.percent(3))
-                spoil_lengths();
-            check(random.percent(4) ? spoiled(call) : call);
+                lend_wrong_lengths();
+            check(random.percent(4) ? with_wrong_argument(call) : call);
         }
     }
 
     // Every call on sets made anew, well formed or not, with wrong lengths and arguments often.
-    void hostile(uint32_t calls)
+    void refused(uint32_t calls)
     {
-        name = "hostile";
-        make_world(random.pick({16u, 32u, 48u, 2032u, 2048u, 2064u, 4096u, 8192u}));
+        name = "refused";
+        make_sides(random.pick({16u, 32u, 48u, 2032u, 2048u, 2064u, 4096u, 8192u}));
         choose_sets();
         quiet = false;
         for (uint32_t k = 0; k < calls; ++k) {
             Call call = next_call();
             restore_lengths();
             if (random.percent(20))
-                spoil_lengths();
+                lend_wrong_lengths();
             if (random.percent(20))
-                call = spoiled(call);
-            plant(call);
+                call = with_wrong_argument(call);
+            make_sets(call);
             check(call);
         }
     }
@@ -57,7 +57,7 @@ public:
     void large(uint32_t calls)
     {
         name = "large";
-        make_world(UNIT486_RAM_MOST);
+        make_sides(UNIT486_RAM_MOST);
         sets[0] = 127, sets[1] = 0, sets[2] = 1;
         enable_cache();
         quiet = false;
@@ -84,20 +84,20 @@ private:
     uint64_t seed;
     Random random;
     Coverage &coverage;
-    World world;
+    Sides sides;
     const char *name = "";
     uint32_t ram_length = 0;
     uint32_t parity_length = 0;
     uint32_t sets[3] = {};
     bool quiet = false; // few calls that end a line's validity, so that full sets are common
 
-    // ---- the world ----
+    // ---- the sides ----
 
-    void make_world(uint32_t length)
+    void make_sides(uint32_t length)
     {
         ram_length = length;
         parity_length = length / 4;
-        Side &side = world.baseline;
+        Side &side = sides.baseline;
         side.ram.make(ram_length + 32, random);
         side.parity.make(parity_length + 32, random);
         side.data.make(UNIT486_DATA_BYTES + 32, random);
@@ -111,7 +111,7 @@ private:
                 (parity & ~(1u << k % 4)) | __builtin_parity(side.ram.start()[k]) << k % 4);
         }
         baseline::reset(side.directory);
-        world.library = world.baseline;
+        sides.library = sides.baseline;
     }
 
     // Most series cross from the last set into the first.
@@ -131,24 +131,24 @@ private:
     }
 
     // What no call does: a parity fault, or bytes in RAM or in the data array that no longer agree.
-    void disturb()
+    void add_fault()
     {
         const uint32_t at = address() % ram_length;
-        const uint32_t slot = (at / 16 % 128 * 4 + random.below(4)) * 16 + random.below(16);
+        const uint32_t data_offset = (at / 16 % 128 * 4 + random.below(4)) * 16 + random.below(16);
         const uint8_t mask = random.byte();
         const uint32_t what = random.below(3);
-        world.both([&](Side &side) {
-            uint8_t *const places[] = {
-                side.parity.start() + at / 4, side.ram.start() + at, side.data.start() + slot};
-            *places[what] ^= mask;
+        sides.both([&](Side &side) {
+            uint8_t *const bytes[] = {
+                side.parity.start() + at / 4, side.ram.start() + at, side.data.start() + data_offset};
+            *bytes[what] ^= mask;
         });
     }
 
     // The touched sets of a call, made anew.
-    void plant(const Call &call)
+    void make_sets(const Call &call)
     {
         const bool cd = random.percent(40), nw = random.percent(40);
-        world.both([&](Side &side) { side.directory.cd = cd, side.directory.nw = nw; });
+        sides.both([&](Side &side) { side.directory.cd = cd, side.directory.nw = nw; });
         plant_set(call.address);
         if (call.address % 16 + call.width > 16)
             plant_set(call.address + call.width - 1);
@@ -166,7 +166,7 @@ private:
         uint8_t lru = static_cast<uint8_t>(random.below(8));
         for (uint32_t faults = random.percent(70) ? 0 : random.between(1, 2); faults > 0; --faults)
             plant_fault(tags, valid, lru);
-        world.both([&](Side &side) {
+        sides.both([&](Side &side) {
             std::memcpy(side.directory.tags + first, tags, sizeof tags);
             std::memcpy(side.directory.valid + first, valid, sizeof valid);
             side.directory.lru[first / 4] = lru;
@@ -194,21 +194,21 @@ private:
 
     void lend_lengths(size_t ram, size_t parity)
     {
-        world.both([&](Side &side) { side.ram.length = ram, side.parity.length = parity; });
+        sides.both([&](Side &side) { side.ram.length = ram, side.parity.length = parity; });
     }
 
     void restore_lengths()
     {
         const size_t log = random.percent(30) ? random.between(96, 128) : 96;
         lend_lengths(ram_length, parity_length);
-        world.both([&](Side &side) {
+        sides.both([&](Side &side) {
             side.data.length = UNIT486_DATA_BYTES;
             side.answers.length = UNIT486_ANSWERS;
             side.log.length = log;
         });
     }
 
-    void spoil_lengths()
+    void lend_wrong_lengths()
     {
         const size_t ram = random.pick({ram_length - 16, ram_length - 8, ram_length - 1, ram_length + 1,
             ram_length + 8, ram_length + 16, 0u, 1u, 15u});
@@ -217,7 +217,7 @@ private:
         const size_t answers = random.pick({0u, 16u, 31u, 33u, 48u});
         const size_t log = random.pick({0u, 3u, 95u});
         const uint32_t which = random.percent(70) ? 1u << random.below(5) : random.below(32);
-        world.both([&](Side &side) {
+        sides.both([&](Side &side) {
             side.ram.length = which & 1 ? ram : side.ram.length;
             side.parity.length = which & 2 ? parity : side.parity.length;
             side.data.length = which & 4 ? data : side.data.length;
@@ -276,8 +276,8 @@ private:
         return call;
     }
 
-    // An argument that some number turns away, most of the time.
-    Call spoiled(Call call)
+    // An argument that is refused, most of the time.
+    Call with_wrong_argument(Call call)
     {
         const uint8_t above = static_cast<uint8_t>(random.pick({8u, 9u, 16u, 128u, 255u}));
         const uint32_t at = random.below(UNIT486_ANSWERS);
@@ -287,7 +287,7 @@ private:
             call.address =
                 random.pick({ram_length, ram_length - 1, ram_length - 3, UINT32_MAX, random.word()});
             break;
-        case 2: world.both([&](Side &side) { side.answers.start()[at] = above; }); break;
+        case 2: sides.both([&](Side &side) { side.answers.start()[at] = above; }); break;
         default: call.value = random.pick({256u, 65536u, UINT32_MAX, random.word()});
         }
         return call;
@@ -300,7 +300,7 @@ private:
             uint8_t answers[64];
             make_answers(call, answers);
             const uint32_t base = random.word();
-            world.both([&](Side &side) {
+            sides.both([&](Side &side) {
                 std::memcpy(side.answers.start(), answers, sizeof answers);
                 for (uint32_t k = 0; k < side.log.room(); ++k)
                     side.log.start()[k] = base + k * 0x9e3779b9;
@@ -311,7 +311,7 @@ private:
             const size_t length = random.percent(90) ? random.between(1, room) : random.below(20);
             const uint64_t bytes[2] = {random.next(), random.next()};
             Lent<uint8_t> Side::*buffer = call.kind == Kind::view ? &Side::shown : &Side::bytes;
-            world.both([&](Side &side) {
+            sides.both([&](Side &side) {
                 std::memcpy((side.*buffer).start(), bytes, sizeof bytes);
                 side.bytes.length = length;
             });
@@ -334,30 +334,30 @@ private:
             baseline::board_answers(call.address, call.width, answers);
     }
 
-    // ---- both sides ----
+    // ---- calls on both sides ----
 
     void check(const Call &call)
     {
-        const unit486_directory before = world.baseline.directory;
-        const unit486_result library = call_library(world.library, call);
-        const unit486_result plain = call_baseline(world.baseline, call);
+        const unit486_directory before = sides.baseline.directory;
+        const unit486_result library = call_library(sides.library, call);
+        const unit486_result baseline = call_baseline(sides.baseline, call);
         ++coverage.calls;
         const std::string found =
-            std::memcmp(&library, &plain, sizeof plain) ? "the result" : world.difference();
+            std::memcmp(&library, &baseline, sizeof baseline) ? "the result" : sides.difference();
         if (!found.empty()) {
-            announce(found);
-            print_call(call, world.baseline);
+            print_mismatch(found);
+            print_call(call, sides.baseline);
             std::printf("  CD %d, NW %d before the call\n", before.cd, before.nw);
             std::printf("  library:  number %u, value %u, cycles %u\n", library.number, library.value,
                 library.cycles);
-            std::printf(
-                "  baseline: number %u, value %u, cycles %u\n", plain.number, plain.value, plain.cycles);
+            std::printf("  baseline: number %u, value %u, cycles %u\n", baseline.number, baseline.value,
+                baseline.cycles);
             std::exit(1);
         }
-        coverage.note_call(before, call, plain, world.baseline);
+        coverage.note_call(before, call, baseline, sides.baseline);
     }
 
-    void announce(const std::string &found) const
+    void print_mismatch(const std::string &found) const
     {
         std::printf(
             "MISMATCH in call %" PRIu64 " of seed %" PRIu64 " (%s series)\n", coverage.calls, seed, name);
@@ -372,50 +372,51 @@ private:
     // One run of the event program into a buffer that may be too short.
     void check_run(const std::string &text)
     {
-        Texts plain;
-        plain.input.make(text.size(), random);
-        std::memcpy(plain.input.start(), text.data(), text.size());
+        Texts baseline;
+        baseline.input.make(text.size(), random);
+        std::memcpy(baseline.input.start(), text.data(), text.size());
         const size_t lines = static_cast<size_t>(std::count(text.begin(), text.end(), '\n')) + 1;
         const size_t enough = 26 + 44 * lines;
-        plain.output.make(enough, random);
+        baseline.output.make(enough, random);
         if (random.percent(30))
-            plain.output.length = random.below(static_cast<uint32_t>(random.percent(50) ? enough / 4 : 60));
-        plain.output.length = std::min(plain.output.length, enough);
-        Texts library = plain;
+            baseline.output.length =
+                random.below(static_cast<uint32_t>(random.percent(50) ? enough / 4 : 60));
+        baseline.output.length = std::min(baseline.output.length, enough);
+        Texts library = baseline;
         library.whole = unit486_run(
             library.input.start(), library.input.length, library.output.start(), library.output.length);
-        plain.whole =
-            baseline::run(plain.input.start(), plain.input.length, plain.output.start(), plain.output.length);
+        baseline.whole = baseline::run(
+            baseline.input.start(), baseline.input.length, baseline.output.start(), baseline.output.length);
         ++coverage.calls;
-        compare_run(library, plain);
-        note_run(text, plain);
+        compare_run(library, baseline);
+        note_run(text, baseline);
     }
 
-    void compare_run(const Texts &library, const Texts &plain) const
+    void compare_run(const Texts &library, const Texts &baseline) const
     {
-        std::string found = library.output.difference(plain.output);
+        std::string found = library.output.difference(baseline.output);
         if (found.empty())
-            found = library.input.difference(plain.input);
-        if (found.empty() && library.whole == plain.whole)
+            found = library.input.difference(baseline.input);
+        if (found.empty() && library.whole == baseline.whole)
             return;
-        announce(found.empty() ? "length of the output" : found);
-        std::printf("  whole output: library %zu, baseline %zu; lent %zu bytes\n", library.whole, plain.whole,
-            plain.output.length);
-        std::printf("  input of %zu bytes:\n", plain.input.length);
-        std::fwrite(plain.input.start(), 1, plain.input.length, stdout);
+        print_mismatch(found.empty() ? "length of the output" : found);
+        std::printf("  whole output: library %zu, baseline %zu; lent %zu bytes\n", library.whole,
+            baseline.whole, baseline.output.length);
+        std::printf("  input of %zu bytes:\n", baseline.input.length);
+        std::fwrite(baseline.input.start(), 1, baseline.input.length, stdout);
         std::printf("\n");
         std::exit(1);
     }
 
-    void note_run(const std::string &text, const Texts &plain)
+    void note_run(const std::string &text, const Texts &baseline)
     {
-        const bool cut = plain.whole > plain.output.length;
+        const bool cut = baseline.whole > baseline.output.length;
         coverage.note(cut ? run_output_cut : run_whole_output);
         if (!text.empty() && text.back() != '\n')
             coverage.note(run_without_last_newline);
         // The second field of each whole row is its answer.
-        const std::string output(
-            plain.output.start(), plain.output.start() + std::min(plain.whole, plain.output.length));
+        const std::string output(baseline.output.start(),
+            baseline.output.start() + std::min(baseline.whole, baseline.output.length));
         size_t line = output.find('\n');
         while (line != std::string::npos && output.find('\n', line + 1) != std::string::npos) {
             coverage.note_number(

@@ -28,7 +28,7 @@ struct Host {
 
     Host() : ram(65536), parity(65536 / 4), data(UNIT486_DATA_BYTES)
     {
-        unit486_start(&directory);
+        unit486_reset_directory(&directory);
         unit486_board_answers(0, 4, answers);
         lent = {ram.data(), ram.size(), parity.data(), parity.size(), data.data(), data.size()};
         board = {answers, UNIT486_ANSWERS, log, UNIT486_LOG_WORDS};
@@ -39,7 +39,7 @@ static constexpr uint32_t address = 0x1234;
 
 static void fill_and_hit(Host &host)
 {
-    unit486_result result = unit486_set_control(&host.directory, false, false);
+    unit486_result result = unit486_control_directory(&host.directory, false, false);
     expect("control, CD = NW = 0: number", result.number, 0);
 
     result = unit486_write(&host.directory, &host.lent, address, 4, 0x11223344, &host.board);

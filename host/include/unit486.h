@@ -13,7 +13,7 @@
                  lower doubleword of an access, 16 to 31 the upper one
      log         96 words or more; each cycle leaves three: doubleword address, flags, data
 
-   Lengths are in elements; a call with a wrong one is turned away by its number. What is lent must be
+   Lengths are in elements; a call with a wrong one is refused by its number. What is lent must be
    there for its whole length, no pointer may be null even where its length is 0, and no two things lent
    to one call may overlap. After the call all of it is the caller's again.
 
@@ -71,13 +71,7 @@ enum {
 enum { UNIT486_KEN = 1, UNIT486_BS8 = 2, UNIT486_BS16 = 4 };
 
 /* Flags of a cycle; the lower four are the moved bytes. */
-enum {
-    UNIT486_LANES = 15,
-    UNIT486_WRITE = 16,
-    UNIT486_FILL = 32,
-    UNIT486_LAST = 64,
-    UNIT486_WRONG_PARITY = 128
-};
+enum { UNIT486_WRITE = 16, UNIT486_FILL = 32, UNIT486_LAST = 64, UNIT486_WRONG_PARITY = 128 };
 
 /* The line of a set and a way is element set * 4 + way of tags and valid. Whoever stores into valid, cd
    or nw stores 0 or 1. A host that keeps the directory between calls need not look into it. */
@@ -188,7 +182,8 @@ size_t unit486_run(const uint8_t *input, size_t input_length, uint8_t *output, s
 }
 #endif
 
-/* ---- The same calls on a whole directory. Only unit486_start and unit486_set_control copy it. ---- */
+/* ---- The same calls on a whole directory. Only unit486_reset_directory and unit486_control_directory
+   copy it. ---- */
 
 /* The buffers that a host lends again and again. */
 typedef struct unit486_buffers {
@@ -267,8 +262,9 @@ static inline uint32_t unit486_line_view(
         lent->ram, lent->ram_length, lent->data, lent->data_length, address, shown);
 }
 
-/* The directory of an outcome put in its place, and the rest. */
-static inline unit486_result unit486_settle(unit486_directory *directory, const unit486_outcome *outcome)
+/* Stores the directory of an outcome and answers the rest of it. */
+static inline unit486_result unit486_store_outcome(
+    unit486_directory *directory, const unit486_outcome *outcome)
 {
     unit486_result result = {outcome->number, outcome->value, outcome->cycles};
     *directory = outcome->directory;
@@ -276,16 +272,16 @@ static inline unit486_result unit486_settle(unit486_directory *directory, const 
 }
 
 /* A reset; what the directory held before does not matter. */
-static inline unit486_result unit486_start(unit486_directory *directory)
+static inline unit486_result unit486_reset_directory(unit486_directory *directory)
 {
     unit486_outcome outcome = unit486_reset();
-    return unit486_settle(directory, &outcome);
+    return unit486_store_outcome(directory, &outcome);
 }
 
-static inline unit486_result unit486_set_control(unit486_directory *directory, bool cd, bool nw)
+static inline unit486_result unit486_control_directory(unit486_directory *directory, bool cd, bool nw)
 {
     unit486_outcome outcome = unit486_control(*directory, cd, nw);
-    return unit486_settle(directory, &outcome);
+    return unit486_store_outcome(directory, &outcome);
 }
 /* clang-format on */
 

@@ -12,7 +12,7 @@ from unit486_model import events
 from unit486_model.bus import LOG_WORDS
 from unit486_model.plain import PlainMemory
 
-from .bench import KEPT, check
+from .unit_calls import ALL_KEN, check
 from .vectors import PROGRAM_OUTPUT
 
 FILES = 200
@@ -47,7 +47,7 @@ LETTERS = {
     "C": {0, 9},
     "Z": {0},
 }
-EVENTS = ("read hits", "fills", "two fills", "writes inside", "lines replaced", "lines snooped")
+CONDITIONS = ("read hits", "fills", "two fills", "writes inside", "lines replaced", "lines snooped")
 
 
 def event_file_checks() -> None:
@@ -83,7 +83,7 @@ def _sizes(files: tuple[EventFile, ...]) -> None:
 
 
 def _met(files: tuple[EventFile, ...]) -> None:
-    """Every answer of the program, by letter, and every event that the cache has."""
+    """Every answer of the program, by letter, and every condition that the cache has."""
     answers, met = set[int](), Counter[str]()
     for file in files:
         rows = file.printed().splitlines()[1:]
@@ -93,8 +93,8 @@ def _met(files: tuple[EventFile, ...]) -> None:
     for letter, numbers in LETTERS.items():
         got = {number for number in range(30) if met[f"{letter} {number}"]}
         check(f"answers of {letter}", got, numbers)
-    for event in EVENTS:
-        check(f"{event} met", met[event] > 20, True)
+    for condition in CONDITIONS:
+        check(f"{condition} met", met[condition] > 20, True)
 
 
 def _plain_answers(file: EventFile) -> None:
@@ -114,9 +114,9 @@ def _plain_answers(file: EventFile) -> None:
 
 def _plain_answer(plain: PlainMemory, letter: str, values: list[Any]) -> tuple[int, int]:
     if letter == "R":
-        return plain.read(*values, KEPT, LOG_WORDS)
+        return plain.read(*values, ALL_KEN, LOG_WORDS)
     if letter == "W":
-        return plain.write(*values, KEPT, LOG_WORDS), 0
+        return plain.write(*values, ALL_KEN, LOG_WORDS), 0
     if letter == "X":
         return plain.external_write(*values), 0
     return plain.control(*values) if letter == "C" else 0, 0

@@ -12,17 +12,23 @@ from unit486_model.events import Unit
 from unit486_model.plain import PlainMemory
 from unit486_model.refusal import DATA_BYTES
 
-from .bench import Mismatch, check, external, read, snapshot, unit_of, view, write
+from .unit_calls import (
+    BAD_WIDTHS,
+    Mismatch,
+    check,
+    external,
+    read,
+    snapshot,
+    unit_of,
+    valid_and_tags,
+    view,
+    write,
+)
 
 # One line, two, two lines of one set; and twice six lines of one set, to have victims.
 RAM_SIZES = (16, 32, 2064, 10256, 10256)
 LISTS = 400
 CALLS = 80
-BAD_WIDTHS = (0, 3, 5, 8, 4294967295)
-
-
-def lines_of(directory: Directory) -> list[tuple[bool, int]]:
-    return list(zip(directory.valid, directory.tags))
 
 
 def replaced(before: list[tuple[bool, int]], after: list[tuple[bool, int]]) -> bool:
@@ -37,33 +43,33 @@ class RandomList:
         self.random = random.Random(seed)
         ram = bytearray(self.random.randbytes(self.random.choice(RAM_SIZES)))
         parity = memory.parity_for(ram)
-        for place in range(len(parity)):
-            parity[place] |= self.random.randrange(16) << 4
+        for index in range(len(parity)):
+            parity[index] |= self.random.randrange(16) << 4
         data = bytearray(self.random.randbytes(DATA_BYTES))
         self.unit = Unit(steps.reset(), ram, parity, data)
         self.plain = PlainMemory(bytearray(ram))
-        self.hostile = self.random.choice((0.0, 0.0, 0.05, 0.3))
-        self.seen: Counter[str] = Counter()
+        self.wrong_share = self.random.choice((0.0, 0.0, 0.05, 0.3))
+        self.met: Counter[str] = Counter()
 
-    def odd(self) -> bool:
-        return self.random.random() < self.hostile
+    def wrong(self) -> bool:
+        return self.random.random() < self.wrong_share
 
     def address(self) -> int:
         """Mostly in RAM, often in a few lines of one set, sometimes anywhere."""
         length = len(self.unit.ram)
-        if self.odd():
+        if self.wrong():
             return self.random.choice((length - 1, length, 4294967295, self.random.getrandbits(32)))
         if self.random.random() < 0.7:
             return (2048 * self.random.randrange(8) + self.random.randrange(-4, 20)) % length
         return self.random.randrange(length)
 
     def width(self) -> int:
-        return self.random.choice(BAD_WIDTHS if self.odd() else WIDTHS)
+        return self.random.choice(BAD_WIDTHS if self.wrong() else WIDTHS)
 
     def answers(self) -> list[int]:
         """Often such that fills are kept, else anything."""
         chance = self.random.random()
-        if self.odd():
+        if self.wrong():
             count = self.random.choice((0, ANSWERS - 1, ANSWERS, ANSWERS + 1))
             return [self.random.randrange(256) for _ in range(count)]
         if chance < 0.4:
@@ -72,7 +78,7 @@ class RandomList:
         return [self.random.randrange(8) | ken for _ in range(ANSWERS)]
 
     def log(self) -> list[int]:
-        extra = self.random.choice((-LOG_WORDS, -1)) if self.odd() else self.random.randrange(3)
+        extra = self.random.choice((-LOG_WORDS, -1)) if self.wrong() else self.random.randrange(3)
         return [self.random.getrandbits(32) for _ in range(LOG_WORDS + extra)]
 
     def run(self) -> None:
@@ -87,7 +93,7 @@ class RandomList:
         check("parity agrees", memory.parity_agrees(self.unit.ram, self.unit.parity), True)
 
     def compared(self, call: str, number: int, expected: int) -> None:
-        self.seen[f"{call} refused" if number else call] += 1
+        self.met[f"{call} refused" if number else call] += 1
         check(f"number of {call}", number, expected)
 
     def logged(self, result: Result, log: list[int], before: list[int]) -> None:
@@ -99,18 +105,18 @@ class RandomList:
     def read(self) -> None:
         address, width, pcd = self.address(), self.width(), self.random.random() < 0.1
         answers, log = self.answers(), self.log()
-        before, lines = list(log), lines_of(self.unit.directory)
+        before, lines = list(log), valid_and_tags(self.unit.directory)
         result = read(self.unit, address, width, answers, pcd, log)
         number, value = self.plain.read(address, width, pcd, answers, len(log))
         self.compared("read", result.number, number)
         check("value", result.value, value)
         self.logged(result, log, before)
-        self.seen["hit"] += not result.number and not result.cycles
-        self.seen["replaced"] += replaced(lines, lines_of(self.unit.directory))
+        self.met["hit"] += not result.number and not result.cycles
+        self.met["replaced"] += replaced(lines, valid_and_tags(self.unit.directory))
 
     def write(self) -> None:
         address, width = self.address(), self.width()
-        bits = self.random.choice((8, 16, 32)) if self.odd() else min(8 * width, 32)
+        bits = self.random.choice((8, 16, 32)) if self.wrong() else min(8 * width, 32)
         value, answers, log = self.random.getrandbits(bits), self.answers(), self.log()
         before = list(log)
         result = write(self.unit, address, width, value, answers, log)
@@ -121,10 +127,10 @@ class RandomList:
     def external(self) -> None:
         address = self.address()
         room = LINE_BYTES - address % LINE_BYTES
-        count = self.random.randrange(20) if self.odd() else self.random.randint(1, room)
-        data = self.random.randbytes(count)
-        number = external(self.unit, address, data).number
-        self.compared("external", number, self.plain.external_write(address, data))
+        count = self.random.randrange(20) if self.wrong() else self.random.randint(1, room)
+        written = self.random.randbytes(count)
+        number = external(self.unit, address, written).number
+        self.compared("external", number, self.plain.external_write(address, written))
 
     def view(self) -> None:
         address = self.address()
@@ -134,7 +140,7 @@ class RandomList:
         self.compared("view", number, expected)
         check("view", access.part_bytes(part, self.unit.ram, self.unit.data), sixteen)
         check("a view changes nothing", snapshot(self.unit), before)
-        self.seen["view of a held line"] += part.buffer == "data"
+        self.met["view of a held line"] += part.buffer == "data"
 
     def snoop(self) -> None:
         address = self.address()
@@ -158,29 +164,29 @@ class RandomList:
 
 def random_lists() -> None:
     """Each list agrees with the plain memory, and the lists meet what they are meant to."""
-    seen: Counter[str] = Counter()
+    met: Counter[str] = Counter()
     for seed in range(LISTS):
         tried = RandomList(seed)
         try:
             tried.run()
         except Mismatch as mismatch:
             raise Mismatch(f"list {seed}: {mismatch}") from None
-        seen += tried.seen
+        met += tried.met
     for kind in ("read", "write", "external", "view", "snoop", "flush", "control", "reset"):
-        check(f"{kind} met", seen[kind] > 50, True)
+        check(f"{kind} met", met[kind] > 50, True)
     for kind in ("read refused", "write refused", "external refused", "view refused"):
-        check(f"{kind} met", seen[kind] > 50, True)
+        check(f"{kind} met", met[kind] > 50, True)
     for kind in ("control refused", "hit", "replaced", "view of a held line"):
-        check(f"{kind} met", seen[kind] > 50, True)
+        check(f"{kind} met", met[kind] > 50, True)
 
 
 def ill_formed_directory(source: random.Random) -> Directory:
     """A directory in which the few sets of a small RAM are often ill-formed."""
     directory = steps.reset()
     directory.cd, directory.nw = source.random() < 0.5, source.random() < 0.5
-    for place in range(8):
-        directory.tags[place] = source.choice((0, 1, 2, 3, 4, 5, 2097151, 2097152))
-        directory.valid[place] = source.random() < 0.5
+    for index in range(8):
+        directory.tags[index] = source.choice((0, 1, 2, 3, 4, 5, 2097151, 2097152))
+        directory.valid[index] = source.random() < 0.5
     directory.lru[:2] = [source.choice((0, 3, 7, 8, 255)) for _ in range(2)]
     return directory
 

@@ -6,22 +6,22 @@ from unit486_model import access, board, events, memory, refusal
 from unit486_model import directory as steps
 from unit486_model.access import Part, Result
 from unit486_model.bus import ANSWERS, GROUP
-from unit486_model.directory import WAYS, place_of
+from unit486_model.directory import WAYS, line_index
 from unit486_model.events import Unit
 
-from .bench import (
-    KEPT,
+from .unit_calls import (
+    ALL_KEN,
     NO_KEN,
+    address_flags,
     answers_of,
     check,
     external,
     flags,
     held,
-    marks,
-    plant,
-    ram_number,
+    number_with_ram,
     read,
     snapshot,
+    store_line,
     unit_of,
     view,
     write,
@@ -54,9 +54,9 @@ def refusal_examples() -> None:
     check("width before value", write(small, 0, 4294967295, 4294967295).number, 4)
     check("view at the end", (view(small, 15)[0], view(small, 16)[0]), (0, 5))
     for length, number in ((0, 1), (15, 1), (16, 0), (24, 1), (32, 0)):
-        check(f"RAM {length}", ram_number(length), number)
-    check("most RAM", ram_number(memory.RAM_MOST), 0)
-    check("above it", refusal.ram_length(memory.RAM_MOST + 16), 1)
+        check(f"RAM {length}", number_with_ram(length), number)
+    check("most RAM", number_with_ram(memory.RAM_MOST), 0)
+    check("above it", refusal.ram_number(memory.RAM_MOST + 16), 1)
     for value, width, number in ((255, 1, 0), (256, 1, 8), (65535, 2, 0), (65536, 2, 8)):
         check(f"value {value}", write(unit_of(), 0, width, value).number, number)
     check("any 32-bit value", write(unit_of(), 0, 4, 4294967295).number, 0)
@@ -70,7 +70,7 @@ def _length_and_answer_numbers() -> None:
     unit = unit_of()
     read(unit, 0, 4)
     high_upper = [1] * (ANSWERS - 1) + [8]
-    for answers in (KEPT[1:], [*KEPT, 1], [], high_upper):
+    for answers in (ALL_KEN[1:], [*ALL_KEN, 1], [], high_upper):
         check("answers, also for a hit", read(unit, 0, 4, answers).number, 6)
     check("answers before log", read(unit, 0, 4, [], log=[]).number, 6)
     check("log before value", write(unit, 0, 1, 256, log=[0] * 95).number, 7)
@@ -91,8 +91,8 @@ def _length_and_answer_numbers() -> None:
 
 def state_examples() -> None:
     unit = unit_of()
-    plant(unit, 5, 0, 7)
-    plant(unit, 5, 3, 7)
+    store_line(unit, 5, 0, 7)
+    store_line(unit, 5, 3, 7)
     address = 3 * 2048 + 5 * 16
     asked: list[tuple[str, Callable[[], int]]] = [
         ("read", lambda: read(unit, address, 4).number),
@@ -107,15 +107,15 @@ def state_examples() -> None:
     for call, number in asked:
         check(f"{call}: with NW = 1 too", number(), 21)
     check("refused view", view(unit, address)[1], Part("ram", 0, 0))
-    unit.directory.valid[place_of(5, 3)] = False
+    unit.directory.valid[line_index(5, 3)] = False
     check("stale tags do not count", view(unit, address)[0], 0)
     _order_of_state_numbers()
 
 
 def _order_of_state_numbers() -> None:
     unit = unit_of()
-    plant(unit, 1, 0, 9)
-    plant(unit, 1, 1, 9)
+    store_line(unit, 1, 0, 9)
+    store_line(unit, 1, 1, 9)
     unit.directory.lru[0] = 9
     check("lower set all through", read(unit, 14, 4).number, 23)
     unit.directory.lru[0] = 0
@@ -125,12 +125,12 @@ def _order_of_state_numbers() -> None:
     check("nothing changed", snapshot(unit), before)
     unit = unit_of()
     unit.directory.lru[127], unit.directory.lru[0] = 9, 8
-    plant(unit, 0, 0, 2097152)
+    store_line(unit, 0, 0, 2097152)
     check("set 127 before set 0", read(unit, 0x7FE, 4).number, 23)
     unit.directory.lru[127] = 7
     check("set 0 after set 127", read(unit, 0x7FE, 4).number, 22)
     check("one line, one set", read(unit, 0x7FC, 4).number, 0)
-    plant(unit, 0, 1, 2097152)
+    store_line(unit, 0, 1, 2097152)
     check("21 before 22", read(unit, 0, 4).number, 21)
 
 
@@ -138,20 +138,20 @@ def lines_beyond_ram() -> None:
     """They are legal, are victims, and are dropped by snoops."""
     unit = unit_of(32)
     for way in range(WAYS):
-        plant(unit, 0, way, 2097151 - way)
+        store_line(unit, 0, way, 2097151 - way)
     check("fill", read(unit, 0, 4).cycles, 4)
     check("its victim", held(unit, 0), 0)
     check("snoop", access.snoop(unit.directory, (2097151 - 1) * 2048 + 3).number, 0)
     check("dropped", unit.directory.valid[:WAYS], [True, False, True, True])
 
 
-def snoop_steps() -> None:
+def invalidate_step() -> None:
     """The plain step on a set that the call would refuse: the lowest match alone goes."""
     unit = unit_of()
-    plant(unit, 3, 1, 6)
-    plant(unit, 3, 2, 6)
-    steps.snoop(unit.directory, 6 * 2048 + 3 * 16)
-    got = [unit.directory.valid[place_of(3, way)] for way in range(WAYS)]
+    store_line(unit, 3, 1, 6)
+    store_line(unit, 3, 2, 6)
+    steps.invalidate(unit.directory, 6 * 2048 + 3 * 16)
+    got = [unit.directory.valid[line_index(3, way)] for way in range(WAYS)]
     check("lowest match", got, [False, False, True, False])
     check("bits of a number above 7", steps.lru_after_use(8 + 4, 0), 7)
 
@@ -188,11 +188,11 @@ def cycle_examples() -> None:
     check("64 once per fill", flags(result), [47, 47, 47, 111] * 2)
     check("second kept", (held(unit, 0), result.value), (0, _value(unit, 2, 4)))
     result = read(unit_of(), 2, 4, answers_of([1], [2]))
-    check("kept, then a hit", marks(result), [(0, 47), (4, 47), (8, 47), (12, 111)])
+    check("kept, then a hit", address_flags(result), [(0, 47), (4, 47), (8, 47), (12, 111)])
     unit = unit_of()
     read(unit, 0, 4)
     result = read(unit, 14, 4, answers_of([1], [4, 2]))
-    check("upper alone misses", marks(result), [(16, 67)])
+    check("upper alone misses", address_flags(result), [(16, 67)])
     check("both halves' value", result.value, _value(unit, 14, 4))
     result = read(unit, 30, 4, answers_of([6], [1]))
     check("each line its own", flags(result), [4, 72, 47, 47, 47, 111])
@@ -216,7 +216,7 @@ def inside_and_through() -> None:
     unit.directory.cd = unit.directory.nw = True
     unit.parity[3] |= 0xF0
     before, parity = bytes(unit.ram), unit.parity[3]
-    check("write", marks(write(unit, 14, 4, 0xDDCCBBAA, NO_KEN)), [(16, 83)])
+    check("write", address_flags(write(unit, 14, 4, 0xDDCCBBAA, NO_KEN)), [(16, 83)])
     check("lower RAM stays", unit.ram[:16], before[:16])
     check("lower parity stays", unit.parity[3], parity)
     check("array", unit.data[14:16], b"\xaa\xbb")
@@ -230,7 +230,7 @@ def parity_examples() -> None:
     check("upper four cleared", unit.parity[0], 0x0E)
     unit.parity[1] ^= 2
     wrong = memory.parity_for(unit.ram)[1] ^ 2
-    check("planted", unit.parity[1], wrong)
+    check("a fault", unit.parity[1], wrong)
     check("unmoved lane", flags(read(unit, 4, 1, NO_KEN)), [65])
     check("moved lane", flags(read(unit, 5, 1, NO_KEN)), [194])
     check("by byte", flags(read(unit, 4, 4, [2] * ANSWERS)), [1, 130, 4, 72])
@@ -249,7 +249,7 @@ def view_examples() -> None:
     unit = unit_of()
     check("in RAM", view(unit, 0x81B), (0, Part("ram", 0x810, 16)))
     read(unit, 0x810, 4)
-    start = steps.data_start(1, 0)
+    start = steps.data_offset(1, 0)
     check("held", view(unit, 0x81B), (0, Part("data", start, 16)))
     unit.ram.append(0)
     check("ill-sized RAM", view(unit, 0), (1, Part("ram", 0, 0)))
@@ -353,7 +353,7 @@ def readings() -> None:
         refusal_examples,
         state_examples,
         lines_beyond_ram,
-        snoop_steps,
+        invalidate_step,
         uses,
         cycle_examples,
         inside_and_through,

@@ -7,7 +7,7 @@ from collections import Counter
 
 import replay
 
-from .bench import check
+from .unit_calls import check
 
 FILE_LIMIT = 60_000
 TOTAL_LIMIT = 1_500_000
@@ -25,7 +25,7 @@ NUMBERS = {
     "Z": (0,),
     "V": (0, 1, 3, 5, 21, 22, 23),
 }
-EVENTS = (
+CONDITIONS = (
     "read hits",
     "writes inside",
     "fills kept",
@@ -54,7 +54,7 @@ def replays() -> None:
             check(f"{letter} {number} met", at_random[f"{letter} {number}"] > 0, True)
         met = {number for number in range(30) if total[f"{letter} {number}"]}
         check(f"numbers of {letter}", met, set(numbers))
-    for event in EVENTS:
-        check(f"{event} met", at_random[event] > 20, True)
+    for condition in CONDITIONS:
+        check(f"{condition} met", at_random[condition] > 20, True)
     lengths = {int(line.split()[1]) for s in scripts.values() for line in s.lines if line[0] == "N"}
     check("RAM lengths", lengths >= set(LENGTHS), True)

@@ -8,17 +8,17 @@ from unit486_model.access import Result
 from unit486_model.bus import ANSWERS, BS8, BS16, GROUP, KEN, WIDTHS
 from unit486_model.directory import WAYS
 
-from .bench import (
+from .unit_calls import (
     NO_KEN,
+    address_flags,
     answers_of,
     check,
     flags,
     held,
-    marks,
-    plant,
-    ram_number,
+    number_with_ram,
     read,
     snapshot,
+    store_line,
     unit_of,
     write,
 )
@@ -45,7 +45,7 @@ def lru_table() -> None:
         check(f"uses from {lru}", got, uses)
         unit = unit_of(0x6000)
         for way in range(WAYS):
-            plant(unit, 9, way, way)
+            store_line(unit, 9, way, way)
         unit.directory.lru[9] = lru
         check(f"victim at {lru}", steps.victim(unit.directory, 9), victim)
         ways = []
@@ -179,14 +179,14 @@ def _flags_of_calls(width: int, offset: int, answer: int, parts: list[list[int]]
     expected = [(4 * index, flag) for index, part in enumerate(parts) for flag in part]
     unit = unit_of()
     result = read(unit, offset, width, [answer] * ANSWERS)
-    check(f"read {width} at {offset} answer {answer}", marks(result), expected)
+    check(f"read {width} at {offset} answer {answer}", address_flags(result), expected)
     check("value", result.value, int.from_bytes(unit.ram[offset : offset + width], "little"))
     for record in result.records:
         lanes = memory.read_lanes(unit.ram, record.address, record.flags & 15)
         check("data", record.data, lanes)
     written = write(unit, offset, width, 256**width - 1, [answer] * ANSWERS)
     expected = [(address, flag + 16) for address, flag in expected]
-    check(f"write {width} at {offset} answer {answer}", marks(written), expected)
+    check(f"write {width} at {offset} answer {answer}", address_flags(written), expected)
     check("bytes", unit.ram[offset : offset + width], b"\xff" * width)
 
 
@@ -216,7 +216,7 @@ BURST_TABLE = ("0 4 8 C", "4 0 C 8", "8 C 0 4", "C 8 4 0")
 
 
 def burst_order() -> None:
-    """Table 3-9, and its rule: each place is the start exclusive-or 0, 4, 8, 12."""
+    """Table 3-9, and its rule: each offset is the start exclusive-or 0, 4, 8, 12."""
     for line in BURST_TABLE:
         order = tuple(int(offset, 16) for offset in line.split())
         check(f"order from {order[0]}", bus.BURST_ORDER[order[0]], order)
@@ -251,10 +251,11 @@ def fill_vectors() -> None:
     """The records, and that the last cycle's KEN#, first and last alone, decides."""
     for address, group, expected in FILL_VECTORS:
         unit = unit_of()
-        check(f"fill from {address:x}", marks(read(unit, address, 4, answers_of(group))), expected)
+        result = read(unit, address, 4, answers_of(group))
+        check(f"fill from {address:x}", address_flags(result), expected)
         check("kept", held(unit, address), 0)
-        line = steps.line_of(address)
-        start = steps.data_start(steps.set_of(address), 0)
+        line = steps.line_address(address)
+        start = steps.data_offset(steps.set_of(address), 0)
         check("line", unit.data[start : start + 16], unit.ram[line : line + 16])
         _only_first_and_last_matter(address, group, len(expected) - 1)
 
@@ -282,8 +283,8 @@ def _only_first_and_last_matter(address: int, group: list[int], last: int) -> No
 def bench_table() -> None:
     check("32-bit write at 0", flags(write(unit_of(), 0, 4, 1, NO_KEN)), [95])
     fill = read(unit_of(), 4, 4)
-    check("fill from 4", marks(fill), [(4, 47), (0, 47), (12, 47), (8, 111)])
-    check("two at 3", marks(read(unit_of(), 3, 2, NO_KEN)), [(0, 72), (4, 65)])
+    check("fill from 4", address_flags(fill), [(4, 47), (0, 47), (12, 47), (8, 111)])
+    check("two at 3", address_flags(read(unit_of(), 3, 2, NO_KEN)), [(0, 72), (4, 65)])
     check("two at 1, BS16#", flags(read(unit_of(), 1, 2, [4] * ANSWERS)), [2, 68])
     check("two at 0, answer 6", flags(read(unit_of(), 0, 2, [6] * ANSWERS)), [1, 66])
     check("fill under BS8#", read(unit_of(), 0, 4, [3] * ANSWERS).cycles, 16)
@@ -298,7 +299,7 @@ def bench_table() -> None:
     check("nothing held", any(unit.directory.valid), False)
     check("width 3", read(unit_of(), 0, 3), Result(4))
     check("RAM 16", read(unit_of(16), 0, 4).number, 0)
-    check("RAM 15", ram_number(15), 1)
+    check("RAM 15", number_with_ram(15), 1)
     check("log 96", read(unit_of(), 0, 4, log=[0] * 96).number, 0)
     check("log 95", read(unit_of(), 0, 4, log=[0] * 95), Result(7))
 

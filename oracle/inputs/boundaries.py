@@ -5,17 +5,13 @@ from itertools import product
 
 from unit486_model.access import Result
 from unit486_model.bus import WIDTHS
-from unit486_model.directory import LINE_BYTES, SETS
+from unit486_model.directory import LINE_BYTES, WAY_BYTES
+from unit486_model.events import NUMBER_LIMIT, RAM_BYTES
 
-from checks.bench import check
+from checks.unit_calls import check
 
 from .malformed import NUMBERS, with_field
-from .writer import EventFile
-
-RAM_END = 65_536
-MOST = 4_294_967_295
-WAY_BYTES = SETS * LINE_BYTES
-DONE = Result(0)
+from .writer import DONE, EventFile
 
 
 def boundary_file(name: str) -> EventFile:
@@ -28,11 +24,12 @@ def boundary_file(name: str) -> EventFile:
 
 
 def end_files() -> Iterator[EventFile]:
-    far = (RAM_END + 4, 131_072, 2**31 - 1, 2**31, 2**32 - 65_536, MOST - 3, MOST - 1, MOST)
+    far = [RAM_BYTES + 4, 131_072, 2**31 - 1, 2**31, 2**32 - 65_536]
+    far += [NUMBER_LIMIT - 3, NUMBER_LIMIT - 1, NUMBER_LIMIT]
     for width in WIDTHS:
         file = boundary_file(f"end-{width}")
-        for address in (*range(RAM_END - 9, RAM_END + 3), *far):
-            number = 0 if address + width <= RAM_END else 5
+        for address in (*range(RAM_BYTES - 9, RAM_BYTES + 3), *far):
+            number = 0 if address + width <= RAM_BYTES else 5
             check("write", file.write(address, width, 200).number, number)
             check("read", file.read(address, width).number, number)
             check("with PCD", file.read(address, width, pcd=True).number, number)
@@ -45,14 +42,14 @@ def end_files() -> Iterator[EventFile]:
 def last_line_file() -> EventFile:
     """The last line of RAM fills from each doubleword and is seen at its last byte."""
     file = boundary_file("last-line")
-    for address in range(RAM_END - LINE_BYTES, RAM_END, 4):
+    for address in range(RAM_BYTES - LINE_BYTES, RAM_BYTES, 4):
         check("fill", file.read(address, 4), Result(0, 0, 4))
-        check("last byte", file.read(RAM_END - 1, 1), DONE)
-        check("snoop", file.snoop(RAM_END - 1), DONE)
-    check("write", file.write(RAM_END - 1, 1, 255), Result(0, 0, 1))
-    check("read", file.read(RAM_END - 4, 4), Result(0, 0xFF00_0000, 4))
-    check("external", file.external(RAM_END - 1, b"\x7f"), DONE)
-    check("read", file.read(RAM_END - 2, 2), Result(0, 0x7F00, 4))
+        check("last byte", file.read(RAM_BYTES - 1, 1), DONE)
+        check("snoop", file.snoop(RAM_BYTES - 1), DONE)
+    check("write", file.write(RAM_BYTES - 1, 1, 255), Result(0, 0, 1))
+    check("read", file.read(RAM_BYTES - 4, 4), Result(0, 0xFF00_0000, 4))
+    check("external", file.external(RAM_BYTES - 1, b"\x7f"), DONE)
+    check("read", file.read(RAM_BYTES - 2, 2), Result(0, 0x7F00, 4))
     check("first line", file.read(0, 4), Result(0, 0, 4))
     return file
 
@@ -61,7 +58,8 @@ def last_line_file() -> EventFile:
 
 
 def width_files() -> Iterator[EventFile]:
-    widths = (*range(10), 15, 16, 17, 255, 256, 257, 260, 65_535, 65_536, 65_540, 2**31, MOST)
+    widths = [*range(10), 15, 16, 17, 255, 256, 257, 260]
+    widths += [65_535, 65_536, 65_540, 2**31, NUMBER_LIMIT]
     for letter, last in (("R", 0), ("W", 9)):
         file = boundary_file(f"width-{letter}")
         for width in widths:
@@ -69,7 +67,7 @@ def width_files() -> Iterator[EventFile]:
             check(f"width {width}", file.event(letter, 32, width, last).number, number)
             # 4 comes before 5, and before 8.
             number = 5 if width in WIDTHS else 4
-            check("beyond RAM", file.event(letter, MOST, width, last), Result(number))
+            check("beyond RAM", file.event(letter, NUMBER_LIMIT, width, last), Result(number))
         for text, number in (("04", 0), ("0000000004", 0), ("00000000004", 11), ("03", 4)):
             check(f"width {text}", file.event(letter, 32, text, last).number, number)
         check("held", file.read(32, 1).number, 0)
@@ -77,7 +75,8 @@ def width_files() -> Iterator[EventFile]:
 
 
 def value_files() -> Iterator[EventFile]:
-    values = (0, 1, 127, 128, 255, 256, 257, 32_768, 65_535, 65_536, 65_537, 2**24, 2**31, MOST)
+    values = [0, 1, 127, 128, 255, 256, 257, 32_768]
+    values += [65_535, 65_536, 65_537, 2**24, 2**31, NUMBER_LIMIT]
     for width in (*WIDTHS, 3):
         file = boundary_file(f"value-{width}")
         written = 0
@@ -87,7 +86,7 @@ def value_files() -> Iterator[EventFile]:
             written = written if number else value
             check("as written", file.read(32, 4).value, written)
             number = 4 if width == 3 else 5
-            check("5 before 8", file.write(RAM_END, width, value), Result(number))
+            check("5 before 8", file.write(RAM_BYTES, width, value), Result(number))
         for text in ("4294967296", "00000000000", "10000000000", ""):
             check("malformed", file.event("W", 32, width, text), Result(11))
         yield file
@@ -103,10 +102,11 @@ TEXTS: tuple[tuple[str, int | None], ...] = (
     *(("1" * count, int("1" * count)) for count in range(1, 11)),
     *((str(10**count), 10**count) for count in range(10)),
     *((str(10**count - 1), 10**count - 1) for count in range(1, 10)),
-    *((str(value), value) for value in (65_535, 65_536, 2**31 - 1, 2**31, 4_294_967_290, MOST - 1)),
-    (str(MOST), MOST),
-    (str(MOST + 1), None),
-    (str(MOST + 5), None),
+    *((str(value), value) for value in (65_535, 65_536, 2**31 - 1, 2**31)),
+    *((str(value), value) for value in (4_294_967_290, NUMBER_LIMIT - 1)),
+    (str(NUMBER_LIMIT), NUMBER_LIMIT),
+    (str(NUMBER_LIMIT + 1), None),
+    (str(NUMBER_LIMIT + 5), None),
     *((text, None) for text in ("4294967300", "4294968000", "4300000000", "5000000000")),
     *(("9" * count, None) for count in range(10, 13)),
     *(("0" * count, None) for count in (11, 12, 20)),
@@ -115,7 +115,7 @@ TEXTS: tuple[tuple[str, int | None], ...] = (
 )
 
 
-def digit_files() -> Iterator[EventFile]:
+def number_length_files() -> Iterator[EventFile]:
     for name, (letter, place) in NUMBERS.items():
         file = boundary_file(f"digits-{name}")
         for text, value in TEXTS:
@@ -127,13 +127,13 @@ def digit_files() -> Iterator[EventFile]:
 
 
 def _number_of(name: str, value: int) -> int:
-    """The answer to the event of `FIELDS` with this number in the place named."""
+    """The answer to the event of `FIELDS` with this number in the field named."""
     if name.endswith("width"):
         return 0 if value in WIDTHS else 4
     if name in ("R-address", "W-address"):
-        return 0 if value + 4 <= RAM_END else 5
+        return 0 if value + 4 <= RAM_BYTES else 5
     if name == "X-address":
-        return 0 if value < RAM_END else 10
+        return 0 if value < RAM_BYTES else 10
     return 0
 
 
@@ -144,11 +144,11 @@ def doubleword_files() -> Iterator[EventFile]:
     """Each width at each byte of a line, on a line of its own, missed and then held."""
     for kind in ("read", "PCD", "write"):
         file = boundary_file(f"doubleword-{kind}")
-        places = product(WIDTHS, range(LINE_BYTES))
-        inside = [(width, place) for width, place in places if place + width <= LINE_BYTES]
-        for index, (width, place) in enumerate(inside):
-            address = LINE_BYTES * (3 * index + 1) + place
-            two = place % 4 + width > 4
+        starts = product(WIDTHS, range(LINE_BYTES))
+        inside = [(width, byte) for width, byte in starts if byte + width <= LINE_BYTES]
+        for index, (width, byte) in enumerate(inside):
+            address = LINE_BYTES * (3 * index + 1) + byte
+            two = byte % 4 + width > 4
             _missed_and_held(file, kind, address, width, 2 if two else 1)
         yield file
 
@@ -213,7 +213,7 @@ def boundary_files() -> list[EventFile]:
         [last_line_file(), table_file()],
         width_files(),
         value_files(),
-        digit_files(),
+        number_length_files(),
         doubleword_files(),
         crossing_files(),
     )

@@ -4,11 +4,11 @@ from collections.abc import Iterator
 
 from unit486_model.events import HEADER, lines_of
 
-from checks.bench import check
+from checks.unit_calls import check
 from checks.vectors import PROGRAM_INPUT, PROGRAM_OUTPUT
 
 from .malformed import GOOD
-from .writer import EventFile, line_of
+from .writer import EventFile, event_line
 
 
 def file_of(name: str, text: bytes) -> EventFile:
@@ -49,7 +49,7 @@ def last_line_files() -> Iterator[EventFile]:
         ("long", b"Z" * 300),
     ):
         yield ending_file(f"malformed-{name}", start + last, 0, 0, 11)
-    longest = line_of("X", 0, "AB" * 38)
+    longest = event_line("X", 0, "AB" * 38)
     yield ending_file("80-bytes", start + longest, 0, 0, 10)
     yield ending_file("81-bytes", start + longest + b"A", 0, 0, 11)
     yield ending_file("empty-bytes", start + b"X\t0\t", 0, 0, 10)

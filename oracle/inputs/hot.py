@@ -4,14 +4,13 @@ from collections.abc import Iterator, Sequence
 from itertools import permutations
 
 from unit486_model.access import Result
-from unit486_model.directory import LINE_BYTES, SETS, WAYS
+from unit486_model.directory import LINE_BYTES, SETS, WAY_BYTES, WAYS
 
-from checks.bench import check
+from checks.unit_calls import check
 from checks.vectors import LRU_TABLE
 
-from .writer import EventFile
+from .writer import DONE, EventFile
 
-WAY_BYTES = SETS * LINE_BYTES
 HIT = Result(0)
 FILL = Result(0, 0, 4)
 
@@ -152,8 +151,8 @@ def no_use_file() -> EventFile:
     other = address_of(9, 9)
     check("PCD", file.read(other, 4, pcd=True), Result(0, 0, 1))
     check("write miss", file.write(other, 4, 0), Result(0, 0, 1))
-    check("snoop of no line", file.snoop(other), HIT)
-    check("external of no line", file.external(other, b"\0"), HIT)
+    check("snoop of no line", file.snoop(other), DONE)
+    check("external of no line", file.external(other, b"\0"), DONE)
     check("width 3", file.read(address_of(2, 9), 3), Result(4))
     check("value 256", file.write(address_of(3, 9), 1, 256), Result(8))
     check("malformed", file.line(b"R\t%d\t4\t2" % address_of(0, 9)), Result(11))

@@ -6,9 +6,9 @@ from itertools import product
 from unit486_model.access import Result
 from unit486_model.events import MALFORMED
 
-from checks.bench import check
+from checks.unit_calls import check
 
-from .writer import EventFile, line_of
+from .writer import EventFile, event_line
 
 # Events of each letter. Any of them would show in the reads of a probed file.
 FIELDS: dict[str, tuple[str, ...]] = {
@@ -20,7 +20,7 @@ FIELDS: dict[str, tuple[str, ...]] = {
     "C": ("1", "1"),
     "Z": (),
 }
-GOOD = {letter: line_of(letter, *fields) for letter, fields in FIELDS.items()}
+GOOD = {letter: event_line(letter, *fields) for letter, fields in FIELDS.items()}
 # The fields that are numbers, and those that are one digit, by letter and place.
 NUMBERS = {
     "R-address": ("R", 0),
@@ -55,7 +55,7 @@ def probed(name: str, lines: Sequence[bytes]) -> EventFile:
 def with_field(letter: str, place: int, text: str) -> bytes:
     fields = list(FIELDS[letter])
     fields[place] = text
-    return line_of(letter, *fields)
+    return event_line(letter, *fields)
 
 
 # --- letters
@@ -63,8 +63,8 @@ def with_field(letter: str, place: int, text: str) -> bytes:
 
 def letter_files() -> Iterator[EventFile]:
     unknown = [chr(code) for code in range(ord("A"), ord("Z") + 1) if chr(code) not in FIELDS]
-    lines = [line_of(letter) for letter in [*unknown, "@", "[", "0", "1"]]
-    lines += [line_of(letter, *FIELDS["R"]) for letter in unknown]
+    lines = [event_line(letter) for letter in [*unknown, "@", "[", "0", "1"]]
+    lines += [event_line(letter, *FIELDS["R"]) for letter in unknown]
     yield probed("letters-unknown", lines)
     yield probed("letters-lower", [good[:1].lower() + good[1:] for good in GOOD.values()])
     lines = [good[:1] + good for good in GOOD.values()]
@@ -80,16 +80,16 @@ def letter_files() -> Iterator[EventFile]:
 
 def field_files() -> Iterator[EventFile]:
     for letter, fields in FIELDS.items():
-        missing = [line_of(letter, *fields[:count]) for count in range(len(fields))]
-        missing += [line_of(letter, *fields[1:])] if len(fields) > 1 else []
-        surplus = [line_of(letter, *fields, more) for more in ("0", "1", "AB", "0\t0")]
+        missing = [event_line(letter, *fields[:count]) for count in range(len(fields))]
+        missing += [event_line(letter, *fields[1:])] if len(fields) > 1 else []
+        surplus = [event_line(letter, *fields, more) for more in ("0", "1", "AB", "0\t0")]
         yield probed(f"fields-{letter}", missing + surplus)
 
 
 def empty_field_files() -> Iterator[EventFile]:
     for letter, fields in FIELDS.items():
         lines = [with_field(letter, place, "") for place in range(len(fields))]
-        lines.append(line_of(letter, *[""] * len(fields)))
+        lines.append(event_line(letter, *[""] * len(fields)))
         # An external write's empty bytes are well formed.
         kept = [line for line in lines if line != b"X\t0\t"]
         if fields:
@@ -220,12 +220,12 @@ def length_files() -> Iterator[EventFile]:
     lines = [b"Q" * count + good for count in (80, 81, 160) for good in GOOD.values()]
     yield probed("length-rest", lines)
     # Who drops what follows 80 bytes, or goes by the last ones, finds an external write.
-    longest = line_of("X", 0, "AB" * 38)
+    longest = event_line("X", 0, "AB" * 38)
     lines = [longest + more for more in (b"A", b"AB", b"\t", b"\r", b" ", b"\0", b"AB" * 100)]
     yield probed("length-start", [*lines, b"AB" + longest, b"Z\t" + longest, longest + longest])
     # Leading zeros make a good line too long, or no longer a number.
-    lines = [line_of("X", "0" * count + "0", "AB" * 38) for count in (1, 2, 9, 10, 70)]
-    yield probed("length-zeros", [*lines, line_of("S", "0" * 78), line_of("S", "0" * 79)])
+    lines = [event_line("X", "0" * count + "0", "AB" * 38) for count in (1, 2, 9, 10, 70)]
+    yield probed("length-zeros", [*lines, event_line("S", "0" * 78), event_line("S", "0" * 79)])
 
 
 def _longest_lines() -> EventFile:
@@ -235,7 +235,7 @@ def _longest_lines() -> EventFile:
     for zeros in range(9):
         address = "0" * zeros + "0"
         for count in range(30, 42):
-            line = line_of("X", address, "AB" * count)
+            line = event_line("X", address, "AB" * count)
             answer = 10 if len(line) <= 80 else 11
             check(f"{len(line)} bytes", file.line(line).number, answer)
     check("RAM as it was", file.read(0, 4), Result(0, 0, 4))

@@ -3,16 +3,14 @@
 from collections.abc import Iterator
 
 from unit486_model.access import Result
-from unit486_model.directory import LINE_BYTES, SETS
+from unit486_model.directory import LINE_BYTES, WAY_BYTES
+from unit486_model.events import RAM_BYTES
 
-from checks.bench import check
+from checks.unit_calls import check
 
-from .writer import EventFile
+from .writer import DONE, EventFile
 
-DONE = Result(0)
 REFUSED = Result(10)
-WAY_BYTES = SETS * LINE_BYTES
-RAM_END = 65_536
 LINE = 0x1230
 
 
@@ -23,11 +21,11 @@ def master_file(name: str) -> EventFile:
 
 
 def pattern(start: int, count: int) -> bytes:
-    """Bytes that differ from line to line and from place to place."""
+    """Bytes that differ from line to line and from byte to byte."""
     return bytes((37 * (start + index) + 11) % 256 for index in range(count))
 
 
-def see(file: EventFile, line: int, expected: bytes, held: bool) -> None:
+def check_line(file: EventFile, line: int, expected: bytes, held: bool) -> None:
     """The sixteen bytes of a line by reads, of which the first fills it where it is not held."""
     for at in range(0, LINE_BYTES, 4):
         value = int.from_bytes(expected[at : at + 4], "little")
@@ -36,23 +34,23 @@ def see(file: EventFile, line: int, expected: bytes, held: bool) -> None:
 
 
 def count_files() -> Iterator[EventFile]:
-    """1 to 16 bytes at every place of a held line, and one place on: across lines."""
+    """1 to 16 bytes at every byte of a held line, and one byte further: across lines."""
     for count in range(1, LINE_BYTES + 1):
         file = master_file(f"bytes-{count:02}")
         held = bytearray(LINE_BYTES)
-        see(file, LINE, held, held=False)
-        for place in range(LINE_BYTES - count + 1):
-            data = pattern(place, count)
-            check("external", file.external(LINE + place, data), DONE)
-            held[place : place + count] = data
-            word = place // 4 * 4
+        check_line(file, LINE, held, held=False)
+        for byte in range(LINE_BYTES - count + 1):
+            written = pattern(byte, count)
+            check("external", file.external(LINE + byte, written), DONE)
+            held[byte : byte + count] = written
+            word = byte // 4 * 4
             value = int.from_bytes(held[word : word + 4], "little")
             check("no stale hit", file.read(LINE + word, 4), Result(0, value, 4))
         across = LINE_BYTES - count + 1
         if count > 1:
             check("across", file.external(LINE + across, bytes(count)), REFUSED)
-        see(file, LINE, held, held=True)
-        see(file, LINE + LINE_BYTES, bytes(LINE_BYTES), held=False)
+        check_line(file, LINE, held, held=True)
+        check_line(file, LINE + LINE_BYTES, bytes(LINE_BYTES), held=False)
         yield file
 
 
@@ -60,9 +58,9 @@ def pair_value_file() -> EventFile:
     """Every pair of digits, sixteen to a line."""
     file = master_file("every-pair")
     for upper in range(16):
-        data = bytes(range(16 * upper, 16 * upper + 16))
-        check("external", file.external(LINE, data), DONE)
-        see(file, LINE, data, held=False)
+        written = bytes(range(16 * upper, 16 * upper + 16))
+        check("external", file.external(LINE, written), DONE)
+        check_line(file, LINE, written, held=False)
     return file
 
 
@@ -70,9 +68,9 @@ def refused_files() -> Iterator[EventFile]:
     """Empty fields, more than sixteen bytes, bytes beyond RAM: the held line stays."""
     file = master_file("empty")
     _hold(file)
-    for address in (LINE, LINE + 15, 0, RAM_END - 1, RAM_END, 4_294_967_295):
+    for address in (LINE, LINE + 15, 0, RAM_BYTES - 1, RAM_BYTES, 4_294_967_295):
         check("empty", file.event("X", address, ""), REFUSED)
-        see(file, LINE, pattern(0, LINE_BYTES), held=True)
+        check_line(file, LINE, pattern(0, LINE_BYTES), held=True)
     yield file
     file = master_file("many")
     _hold(file)
@@ -80,7 +78,7 @@ def refused_files() -> Iterator[EventFile]:
         number = 0 if count <= LINE_BYTES else 10
         check(f"{count} bytes", file.external(LINE + 0x100, bytes(count)).number, number)
         check(f"{count} at the line", file.external(LINE, b"\xee" * max(count, 17)), REFUSED)
-    see(file, LINE, pattern(0, LINE_BYTES), held=True)
+    check_line(file, LINE, pattern(0, LINE_BYTES), held=True)
     yield file
     yield _across_file()
     yield _beyond_file()
@@ -88,18 +86,18 @@ def refused_files() -> Iterator[EventFile]:
 
 def _hold(file: EventFile) -> None:
     check("external", file.external(LINE, pattern(0, LINE_BYTES)), DONE)
-    see(file, LINE, pattern(0, LINE_BYTES), held=False)
+    check_line(file, LINE, pattern(0, LINE_BYTES), held=False)
 
 
 def _across_file() -> EventFile:
-    """Every place and count that leave the line."""
+    """Every first byte and count that leave the line."""
     file = master_file("across")
     _hold(file)
-    for place in range(1, LINE_BYTES):
-        for count in (LINE_BYTES - place + 1, LINE_BYTES):
-            check("across", file.external(LINE + place, b"\xee" * count), REFUSED)
-    see(file, LINE, pattern(0, LINE_BYTES), held=True)
-    see(file, LINE + LINE_BYTES, bytes(LINE_BYTES), held=False)
+    for byte in range(1, LINE_BYTES):
+        for count in (LINE_BYTES - byte + 1, LINE_BYTES):
+            check("across", file.external(LINE + byte, b"\xee" * count), REFUSED)
+    check_line(file, LINE, pattern(0, LINE_BYTES), held=True)
+    check_line(file, LINE + LINE_BYTES, bytes(LINE_BYTES), held=False)
     return file
 
 
@@ -107,16 +105,17 @@ def _beyond_file() -> EventFile:
     """The end of RAM, and addresses whose lower sixteen bits are a held line's."""
     file = master_file("beyond")
     _hold(file)
-    last = RAM_END - LINE_BYTES
-    see(file, last, bytes(LINE_BYTES), held=False)
-    for address in (RAM_END, RAM_END + LINE, 0x8000_0000 + LINE, 0xFFFF_0000 + LINE, 0xFFFF_FFFF):
+    last = RAM_BYTES - LINE_BYTES
+    check_line(file, last, bytes(LINE_BYTES), held=False)
+    beyond = [RAM_BYTES, RAM_BYTES + LINE, 0x8000_0000 + LINE, 0xFFFF_0000 + LINE, 0xFFFF_FFFF]
+    for address in beyond:
         check("beyond", file.external(address, b"\xee"), REFUSED)
-    see(file, LINE, pattern(0, LINE_BYTES), held=True)
+    check_line(file, LINE, pattern(0, LINE_BYTES), held=True)
     for count in range(1, LINE_BYTES + 1):
-        check("past the end", file.external(RAM_END - count + 1, bytes(count)), REFUSED)
-        check("up to the end", file.external(RAM_END - count, pattern(9, count)), DONE)
+        check("past the end", file.external(RAM_BYTES - count + 1, bytes(count)), REFUSED)
+        check("up to the end", file.external(RAM_BYTES - count, pattern(9, count)), DONE)
         value = int.from_bytes(pattern(9, count)[-1:], "little")
-        check("last byte", file.read(RAM_END - 1, 1), Result(0, value, 4))
+        check("last byte", file.read(RAM_BYTES - 1, 1), Result(0, value, 4))
     return file
 
 
@@ -124,18 +123,18 @@ def snoop_files() -> Iterator[EventFile]:
     """A snoop drops the line of its address, that line alone, and no bytes."""
     file = master_file("snoop-bytes")
     _hold(file)
-    for place in range(LINE_BYTES):
-        check("snoop", file.snoop(LINE + place), DONE)
+    for byte in range(LINE_BYTES):
+        check("snoop", file.snoop(LINE + byte), DONE)
         check("dropped", file.held(LINE), None)
-        see(file, LINE, pattern(0, LINE_BYTES), held=False)
+        check_line(file, LINE, pattern(0, LINE_BYTES), held=False)
     yield file
     file = master_file("snoop-others")
     _hold(file)
-    others = [LINE - 1, LINE + LINE_BYTES, LINE + WAY_BYTES, LINE - WAY_BYTES, RAM_END + LINE]
-    others += [0x8000_0000 + LINE, 0xFFFF_0000 + LINE, 0, RAM_END - 1, RAM_END, 0xFFFF_FFFF]
+    others = [LINE - 1, LINE + LINE_BYTES, LINE + WAY_BYTES, LINE - WAY_BYTES, RAM_BYTES + LINE]
+    others += [0x8000_0000 + LINE, 0xFFFF_0000 + LINE, 0, RAM_BYTES - 1, RAM_BYTES, 0xFFFF_FFFF]
     for address in others:
         check("snoop", file.snoop(address), DONE)
-        see(file, LINE, pattern(0, LINE_BYTES), held=True)
+        check_line(file, LINE, pattern(0, LINE_BYTES), held=True)
     yield file
     yield _one_of_four()
 
@@ -146,7 +145,7 @@ def _one_of_four() -> EventFile:
     lines = [LINE % WAY_BYTES + WAY_BYTES * tag for tag in (0, 3, 17, 31)]
     for line in lines:
         file.external(line, pattern(line // WAY_BYTES, LINE_BYTES))
-        see(file, line, pattern(line // WAY_BYTES, LINE_BYTES), held=False)
+        check_line(file, line, pattern(line // WAY_BYTES, LINE_BYTES), held=False)
     for turn, line in enumerate(lines):
         check("master", file.snoop(line) if turn % 2 else file.external(line + 5, b"\x77"), DONE)
         for other in lines:
@@ -161,16 +160,16 @@ def written_line_file() -> EventFile:
     file = master_file("in-turn")
     held = bytearray(LINE_BYTES)
     for turn in range(24):
-        place = 5 * turn % LINE_BYTES
+        byte = 5 * turn % LINE_BYTES
         if turn % 3 == 2:
-            check("snoop", file.snoop(LINE + place), DONE)
+            check("snoop", file.snoop(LINE + byte), DONE)
         elif turn % 2:
-            held[place : place + 1] = b"%c" % (200 + turn)
-            check("write", file.write(LINE + place, 1, 200 + turn), Result(0, 0, 1))
+            held[byte : byte + 1] = b"%c" % (200 + turn)
+            check("write", file.write(LINE + byte, 1, 200 + turn), Result(0, 0, 1))
         else:
-            held[place : place + 1] = b"%c" % (100 + turn)
-            check("external", file.external(LINE + place, b"%c" % (100 + turn)), DONE)
-        see(file, LINE, bytes(held), held=file.held(LINE) is not None)
+            held[byte : byte + 1] = b"%c" % (100 + turn)
+            check("external", file.external(LINE + byte, b"%c" % (100 + turn)), DONE)
+        check_line(file, LINE, bytes(held), held=file.held(LINE) is not None)
     return file
 
 

@@ -4,14 +4,13 @@ from collections.abc import Iterator
 
 from unit486_model.access import Result
 
-from checks.bench import check
+from checks.unit_calls import check
 from checks.vectors import MODES
 
-from .writer import EventFile
+from .writer import DONE, EventFile
 
 HELD, OTHER, MISSED = 0x40, 0x840, 0x1040
 VALUE = 0x55AA_33CC
-DONE = Result(0)
 
 Pair = tuple[int, int]
 
@@ -31,7 +30,7 @@ def two_lines(file: EventFile) -> None:
         check("fill", file.read(address, 4), Result(0, address, 4))
 
 
-def pair_files() -> Iterator[EventFile]:
+def control_pair_files() -> Iterator[EventFile]:
     """Each pair asked for after each that a call can set."""
     for given in ((0, 0), (1, 0), (1, 1)):
         for asked in MODES:
@@ -120,22 +119,22 @@ def inside_file() -> EventFile:
     two_lines(file)
     control(file, (1, 1))
     held = bytearray(file.unit.ram[HELD : HELD + 16])
-    for place in range(16):
-        width = (1, 2, 4)[place % 3]
-        if place + width > 16:
+    for byte in range(16):
+        width = (1, 2, 4)[byte % 3]
+        if byte + width > 16:
             continue
-        value = (0x0101_0101 * (place + 1)) % 256**width
-        held[place : place + width] = value.to_bytes(width, "little")
-        check("inside", file.write(HELD + place, width, value), DONE)
-        check("seen", file.read(HELD + place, width), Result(0, value, 0))
-    for place in range(0, 16, 4):
-        value = int.from_bytes(held[place : place + 4], "little")
-        check("the line", file.read(HELD + place, 4), Result(0, value, 0))
+        value = (0x0101_0101 * (byte + 1)) % 256**width
+        held[byte : byte + width] = value.to_bytes(width, "little")
+        check("inside", file.write(HELD + byte, width, value), DONE)
+        check("seen", file.read(HELD + byte, width), Result(0, value, 0))
+    for byte in range(0, 16, 4):
+        value = int.from_bytes(held[byte : byte + 4], "little")
+        check("the line", file.read(HELD + byte, 4), Result(0, value, 0))
     control(file, (1, 0))
     check("write through", file.write(HELD + 12, 4, 0), Result(0, 0, 1))
     check("snoop", file.snoop(HELD), DONE)
-    for place in range(0, 16, 4):
-        check("RAM's", file.read(HELD + place, 4), Result(0, 0 if place else HELD, 1))
+    for byte in range(0, 16, 4):
+        check("RAM's", file.read(HELD + byte, 4), Result(0, 0 if byte else HELD, 1))
     return file
 
 
@@ -180,4 +179,4 @@ def flush_file() -> EventFile:
 
 def mode_files() -> list[EventFile]:
     singles = [first_event_file(), inside_file(), stale_file(), reset_file(), flush_file()]
-    return [*singles, *pair_files()]
+    return [*singles, *control_pair_files()]

@@ -4,18 +4,17 @@ from collections.abc import Callable
 from dataclasses import dataclass
 
 from unit486_model.bus import WIDTHS
-from unit486_model.directory import LINE_BYTES, SETS
+from unit486_model.directory import LINE_BYTES, SETS, WAY_BYTES
 from unit486_model.events import RAM_BYTES
 
-from scripts.source import Source
+from checks.unit_calls import BAD_WIDTHS
+from scripts.random_source import RandomSource
 
-from .writer import EventFile, line_of
+from .writer import EventFile, event_line
 
-BAD_WIDTHS = (0, 3, 5, 8, 4_294_967_295)
 FAR = (RAM_BYTES, RAM_BYTES + 1, RAM_BYTES + 2048, 2**31, 4_294_967_294, 4_294_967_295)
 # Those of a control call, the mode that fills as often as it is to be drawn.
 PAIRS = (*[(False, False)] * 3, (True, False), (True, True), (True, True), (False, True))
-WAY_BYTES = SETS * LINE_BYTES
 
 
 @dataclass(frozen=True)
@@ -30,7 +29,7 @@ class Kind:
     # How many lines of a set are used.
     tags: int = 6
     # The share of arguments that are refused or far off, and that of lines that are changed.
-    hostile: float = 0.0
+    wrong: float = 0.0
     changed: float = 0.0
     # The share of accesses outside the hot sets.
     elsewhere: float = 0.2
@@ -39,11 +38,11 @@ class Kind:
 
 
 KINDS = (
-    Kind("mixed", 40, 40, "RRRRRRRRWWWWXXSSFCZ", hostile=0.06, changed=0.08),
+    Kind("mixed", 40, 40, "RRRRRRRRWWWWXXSSFCZ", wrong=0.06, changed=0.08),
     Kind("hot-random", 10, 70, "RRRRRRRRRRRRRWWWS", tags=7, changed=0.02, elsewhere=0.03),
-    Kind("modes-random", 10, 60, "RRRRRRRRWWWWWWXSFCCCCZ", tags=2, hostile=0.02, elsewhere=0.1),
-    Kind("masters-random", 10, 50, "RRRRRRRXXXXSSSW", tags=3, hostile=0.03),
-    Kind("malformed-random", 8, 45, "RRRWWWXXXSSFCCZ", hostile=0.05, changed=0.8),
+    Kind("modes-random", 10, 60, "RRRRRRRRWWWWWWXSFCCCCZ", tags=2, wrong=0.02, elsewhere=0.1),
+    Kind("masters-random", 10, 50, "RRRRRRRXXXXSSSW", tags=3, wrong=0.03),
+    Kind("malformed-random", 8, 45, "RRRWWWXXXSSFCCZ", wrong=0.05, changed=0.8),
 )
 
 
@@ -53,7 +52,7 @@ class RandomEvents:
     def __init__(self, kind: Kind, name: str) -> None:
         self.kind = kind
         self.file = EventFile(name)
-        self.source = Source(self.file.name)
+        self.source = RandomSource(self.file.name)
         self.hot = self.source.choice((0, 1, 64, SETS - 1, self.source.below(SETS)))
         self.tags = self.source.sample(range(RAM_BYTES // WAY_BYTES), kind.tags)
         self.lines: dict[str, Callable[[], bytes]] = {
@@ -82,8 +81,8 @@ class RandomEvents:
         if line == b"Z" and self.source.chance(0.7):
             self.file.control(False, False)
 
-    def _odd(self) -> bool:
-        return self.source.chance(self.kind.hostile)
+    def _wrong(self) -> bool:
+        return self.source.chance(self.kind.wrong)
 
     # --- fields
 
@@ -95,7 +94,7 @@ class RandomEvents:
 
     def _address(self) -> int:
         """Mostly in a few lines of one set and the next, often at the end of a line."""
-        if self._odd():
+        if self._wrong():
             return self.source.choice((*FAR, RAM_BYTES - 1, RAM_BYTES - 3))
         if self.source.chance(self.kind.elsewhere):
             return self.source.below(RAM_BYTES)
@@ -103,7 +102,7 @@ class RandomEvents:
         return (line + self.source.between(-3, LINE_BYTES + 1)) % RAM_BYTES
 
     def _width(self) -> int:
-        return self.source.choice(BAD_WIDTHS if self._odd() else WIDTHS)
+        return self.source.choice(BAD_WIDTHS if self._wrong() else WIDTHS)
 
     # --- lines
 
@@ -113,20 +112,20 @@ class RandomEvents:
 
     def _write(self) -> bytes:
         width = self._width()
-        bits = self.source.choice((8, 9, 16, 17, 32)) if self._odd() else 8 * min(width, 4)
+        bits = self.source.choice((8, 9, 16, 17, 32)) if self._wrong() else 8 * min(width, 4)
         return self._line("W", self._address(), width, self.source.below(2**bits))
 
     def _external(self) -> bytes:
         address = self._address()
         room = LINE_BYTES - address % LINE_BYTES
         count = self.source.between(1, self.source.choice((room, min(room, 3))))
-        if self._odd():
+        if self._wrong():
             count = self.source.choice((0, room + 1, LINE_BYTES, LINE_BYTES + 1, 32))
         return self._line("X", address, self.source.bytes_of(count).hex().upper())
 
     def _control(self) -> bytes:
         cd, nw = self.source.choice(PAIRS)
-        return line_of("C", int(cd), int(nw))
+        return event_line("C", int(cd), int(nw))
 
     def _changed(self, line: bytes) -> bytes:
         """A line that is malformed, or by chance another event."""

@@ -2,7 +2,7 @@
 
 from unit486_model.events import HEADER, INPUT_LIMIT
 
-from checks.bench import check
+from checks.unit_calls import check
 
 from .endings import file_of
 from .random_events import Kind, RandomEvents
@@ -11,7 +11,7 @@ from .writer import EventFile
 TOO_LONG = HEADER + b"0\t12\t0\t0\n"
 
 # Leading zeros make for fewer rows.
-MIXED = Kind("size", 1, 0, "RRRRRRRRRRWWWWWWWWXXXXXXXXSSFCZ", hostile=0.02, zeros=0.9)
+MIXED = Kind("size", 1, 0, "RRRRRRRRRRWWWWWWWWXXXXXXXXSSFCZ", wrong=0.02, zeros=0.9)
 # More than a line takes, or a reset and the control call after it.
 MARGIN = 100
 

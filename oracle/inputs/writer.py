@@ -9,6 +9,9 @@ from unit486_model import events
 from unit486_model.access import Result
 from unit486_model.events import MALFORMED, program_unit
 
+# The result of an event that is done with no value and no cycle.
+DONE = Result(0)
+
 
 class EventFile:
     """Lines, the rows that they give, and a count of what the events met."""
@@ -29,7 +32,7 @@ class EventFile:
         return _printed(self.text())
 
     def held(self, address: int) -> int | None:
-        return steps.find(self.unit.directory, address)
+        return steps.lookup(self.unit.directory, address)
 
     def line(self, line: bytes) -> Result:
         """Any bytes but a newline. The result is what the row shows, without records."""
@@ -47,7 +50,7 @@ class EventFile:
         return result
 
     def event(self, letter: str, *fields: str | int) -> Result:
-        return self.line(line_of(letter, *fields))
+        return self.line(event_line(letter, *fields))
 
     def read(self, address: int, width: int, pcd: bool = False) -> Result:
         return self.event("R", address, width, int(pcd))
@@ -55,8 +58,8 @@ class EventFile:
     def write(self, address: int, width: int, value: int) -> Result:
         return self.event("W", address, width, value)
 
-    def external(self, address: int, data: bytes) -> Result:
-        return self.event("X", address, data.hex().upper())
+    def external(self, address: int, written: bytes) -> Result:
+        return self.event("X", address, written.hex().upper())
 
     def snoop(self, address: int) -> Result:
         return self.event("S", address)
@@ -91,7 +94,7 @@ class EventFile:
         met["lines snooped"] += letter in "SX" and after[0] < before[0]
 
 
-def line_of(letter: str, *fields: str | int) -> bytes:
+def event_line(letter: str, *fields: str | int) -> bytes:
     """A letter and its fields, parted by tabs."""
     return "\t".join([letter, *(str(field) for field in fields)]).encode()
 

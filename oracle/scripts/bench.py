@@ -3,7 +3,7 @@
 from unit486_model.access import Result
 from unit486_model.bus import ANSWERS, BS16
 
-from checks.bench import KEPT, NO_KEN, answers_of, check, flags, marks
+from checks.unit_calls import ALL_KEN, NO_KEN, address_flags, answers_of, check, flags
 
 from .writer import Script
 
@@ -23,7 +23,7 @@ def _records(script: Script) -> None:
     check("32-bit write at 0", flags(written), [95])
     script.new(cd=False)
     filled = script.read(4, 4)
-    check("fill from 4", marks(filled), [(4, 47), (0, 47), (12, 47), (8, 111)])
+    check("fill from 4", address_flags(filled), [(4, 47), (0, 47), (12, 47), (8, 111)])
     script.new(cd=False)
     check("two bytes at 3", flags(script.read(3, 2, NO_KEN)), [72, 65])
     check("two at 1, BS16#", flags(script.read(1, 2, [BS16] * ANSWERS)), [2, 68])
@@ -60,5 +60,5 @@ def _numbers(script: Script) -> None:
         check(f"RAM {length} external", script.external(0, b"\x07").number, number)
     for length, number in ((96, 0), (95, 7)):
         script.new(log=length, cd=False)
-        check(f"log {length}", script.read(0, 4, KEPT).number, number)
-        check(f"log {length} written", script.write(0, 4, 7, KEPT).number, number)
+        check(f"log {length}", script.read(0, 4, ALL_KEN).number, number)
+        check(f"log {length} written", script.write(0, 4, 7, ALL_KEN).number, number)

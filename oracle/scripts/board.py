@@ -3,7 +3,7 @@
 from unit486_model.access import Result
 from unit486_model.bus import GROUP
 
-from checks.bench import check, flags
+from checks.unit_calls import check, flags
 
 from .writer import Script
 

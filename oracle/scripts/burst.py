@@ -3,11 +3,11 @@
 from unit486_model import directory as steps
 from unit486_model.bus import BS8, BS16, GROUP, KEN
 
-from checks.bench import answers_of, check, marks
+from checks.unit_calls import address_flags, answers_of, check
 from checks.vectors import BURST_TABLE, FILL_VECTORS
 
-from .printed import fill_marks
-from .source import Source
+from .random_source import RandomSource
+from .source_tables import fill_records
 from .writer import Script
 
 
@@ -23,10 +23,11 @@ def burst() -> Script:
 def _filled(script: Script, address: int, width: int, group: list[int]) -> None:
     """A kept fill of a line that is not held, its records as the printed tables have them."""
     result = script.read(address, width, answers_of(group))
-    check(f"fill from {address:x} {group}", marks(result), fill_marks(address, answers_of(group)))
-    line, way = steps.line_of(address), script.held(address)
+    expected = fill_records(address, answers_of(group))
+    check(f"fill from {address:x} {group}", address_flags(result), expected)
+    line, way = steps.line_address(address), script.held(address)
     check("held", way is not None, True)
-    start = steps.data_start(steps.set_of(address), way or 0)
+    start = steps.data_offset(steps.set_of(address), way or 0)
     check("line", script.unit.data[start : start + 16], script.unit.ram[line : line + 16])
     held = script.unit.ram[address : address + width]
     check("value", result.value, int.from_bytes(held, "little"))
@@ -42,8 +43,8 @@ def _table(script: Script) -> None:
             result = script.read(line + order[0], 4, [KEN + size] * (2 * GROUP))
             moved = [record.address - line for record in result.records]
             check(f"order from {order[0]}", list(dict.fromkeys(moved)), order)
-            expected = fill_marks(line + order[0], [KEN + size] * GROUP)
-            check(f"records from {order[0]}", marks(result), expected)
+            expected = fill_records(line + order[0], [KEN + size] * GROUP)
+            check(f"records from {order[0]}", address_flags(result), expected)
             line += 16
 
 
@@ -51,12 +52,12 @@ def _vectors(script: Script) -> None:
     for address, group, expected in FILL_VECTORS:
         script.new(cd=False)
         _filled(script, address, 4, group)
-        check("printed", fill_marks(address, answers_of(group)), expected)
+        check("printed", fill_records(address, answers_of(group)), expected)
 
 
 def _mixed_sizes(script: Script) -> None:
     """Sizes that change within the fill, KEN# active all the time: from 4 to 16 cycles."""
-    source = Source("replay burst")
+    source = RandomSource("replay burst")
     script.new(ram=2048, cd=False)
     for line in range(0, 2048, 16):
         group = [KEN + source.choice((0, BS16, BS8, BS8 + BS16)) for _ in range(GROUP)]

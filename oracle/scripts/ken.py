@@ -4,9 +4,9 @@ from itertools import product
 
 from unit486_model.bus import ANSWERS, BS8, BS16, FILL, GROUP, KEN, WRITE
 
-from checks.bench import KEPT, answers_of, check, flags, marks
+from checks.unit_calls import ALL_KEN, address_flags, answers_of, check, flags
 
-from .printed import fill_marks, plain_marks
+from .source_tables import AddressFlags, fill_records, plain_records
 from .writer import Script
 
 BITS = (False, True)
@@ -55,9 +55,10 @@ def _first_and_last(script: Script) -> None:
 def _read_line(script: Script, address: int, group: list[int], fills: bool, kept: bool) -> None:
     before = script.held(address)
     check("not held", before, None)
-    result = script.read(address, 4, answers_of(group))
-    printed = fill_marks(address, group) if fills else plain_marks(address, 4, answers_of(group))
-    check(f"records of {group}", marks(result), printed)
+    answers = answers_of(group)
+    result = script.read(address, 4, answers)
+    printed = fill_records(address, group) if fills else plain_records(address, 4, answers)
+    check(f"records of {group}", address_flags(result), printed)
     check(f"kept with {group}", script.held(address) is not None, kept)
 
 
@@ -67,12 +68,12 @@ def _pcd_and_cd(script: Script) -> None:
         script.new(cd=False)
         script.read(0x40, 4)
         script.mode(cd, nw)
-        check("hit", script.read(0x44, 4, KEPT, pcd).cycles, 0)
-        missed = script.read(0x82, 4, KEPT, pcd)
+        check("hit", script.read(0x44, 4, ALL_KEN, pcd).cycles, 0)
+        missed = script.read(0x82, 4, ALL_KEN, pcd)
         fills = not cd and not pcd
         check(f"fill with CD {cd}, PCD {pcd}", bool(flags(missed)[0] & FILL), fills)
         check("held", script.held(0x82) is not None, fills)
-        check("again", script.read(0x82, 4, KEPT, pcd).cycles, 0 if fills else 2)
+        check("again", script.read(0x82, 4, ALL_KEN, pcd).cycles, 0 if fills else 2)
 
 
 def _crossing(script: Script) -> None:
@@ -83,20 +84,20 @@ def _crossing(script: Script) -> None:
             lower = group_of([0] * GROUP, 3, lower_first, lower_last, 0)
             upper = group_of([0] * GROUP, 3, upper_first, upper_last, 0)
             result = script.read(address, 4, lower + upper)
-            printed = _crossing_marks(address, lower, upper)
-            check(f"crossing at {address:x} {lower} {upper}", marks(result), printed)
+            printed = _crossing_records(address, lower, upper)
+            check(f"crossing at {address:x} {lower} {upper}", address_flags(result), printed)
             held = int.from_bytes(script.unit.ram[address : address + 4], "little")
             check("value", result.value, held)
 
 
-def _crossing_marks(address: int, lower: list[int], upper: list[int]) -> list[tuple[int, int]]:
+def _crossing_records(address: int, lower: list[int], upper: list[int]) -> AddressFlags:
     """A line that the lower doubleword's fill kept serves the upper one without a cycle."""
     start = address - address % 4
-    made = fill_marks(start, lower) if lower[0] else [(start, 76)]
+    made = fill_records(start, lower) if lower[0] else [(start, 76)]
     one_line = start // 16 == (start + 4) // 16
     if one_line and lower[0] and lower[3]:
         return made
-    return made + (fill_marks(start + 4, upper) if upper[0] else [(start + 4, 67)])
+    return made + (fill_records(start + 4, upper) if upper[0] else [(start + 4, 67)])
 
 
 def _writes(script: Script) -> None:
@@ -106,5 +107,5 @@ def _writes(script: Script) -> None:
     for address in (0x200, 0x300):
         for answer in (0, KEN):
             result = script.write(address, 4, 0xA1B2C3D4 + answer, [answer] * ANSWERS)
-            check("write", marks(result), [(address, 79 + WRITE)])
+            check("write", address_flags(result), [(address, 79 + WRITE)])
     check("no fill", script.held(0x300), None)

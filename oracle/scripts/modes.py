@@ -5,7 +5,7 @@ from itertools import product
 from unit486_model.access import Result
 from unit486_model.bus import BS8, BS16
 
-from checks.bench import KEPT, NO_KEN, answers_of, check, flags
+from checks.unit_calls import ALL_KEN, NO_KEN, answers_of, check, flags
 from checks.vectors import MODES
 
 from .writer import Script
@@ -36,7 +36,7 @@ def _calls_of_a_mode(script: Script, cd: bool, nw: bool) -> None:
     fills, through, _, _ = MODES[int(cd), int(nw)]
     _two_lines(script, cd, nw)
     for pcd in (False, True):
-        check("read hit", script.read(HELD + 5, 2, KEPT, pcd).cycles, 0)
+        check("read hit", script.read(HELD + 5, 2, ALL_KEN, pcd).cycles, 0)
     before = bytes(script.unit.ram)
     hit = script.write(HELD, 4, 0x55AA33CC, NO_KEN)
     check("write hit", flags(hit), [95] if through else [])

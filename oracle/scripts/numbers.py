@@ -4,14 +4,13 @@ from itertools import combinations
 
 from unit486_model.access import Result
 from unit486_model.bus import KEN
+from unit486_model.events import NUMBER_LIMIT
 from unit486_model.refusal import DATA_BYTES
 
-from checks.bench import KEPT, check
+from checks.unit_calls import ALL_KEN, check
 
 from .states import FAULTS
 from .writer import Script
-
-TOP = 4294967295
 
 
 def numbers() -> Script:
@@ -48,16 +47,17 @@ def _lengths(script: Script) -> None:
 def _arguments(script: Script) -> None:
     """Width, address and value; the sum of address and width does not wrap."""
     script.new(ram=32, cd=False)
-    for width in (0, 1, 2, 3, 4, 5, 8, 256, TOP):
+    for width in (0, 1, 2, 3, 4, 5, 8, 256, NUMBER_LIMIT):
         number = 0 if width in (1, 2, 4) else 4
         check(f"width {width}", script.read(0, width).number, number)
         check(f"width {width}", script.write(0, width, 0).number, number)
     for width in (1, 2, 4):
-        for address in (31 - width, 32 - width, 33 - width, 31, 32, TOP - 3, TOP):
+        for address in (31 - width, 32 - width, 33 - width, 31, 32, NUMBER_LIMIT - 3, NUMBER_LIMIT):
             number = 0 if address + width <= 32 else 5
             check(f"{width} at {address}", script.read(address, width).number, number)
             check(f"{width} at {address}", script.write(address, width, 1).number, number)
-    limits = ((1, 255), (1, 256), (2, 65_535), (2, 65_536), (1, TOP), (2, TOP), (4, TOP))
+    limits = [(1, 255), (1, 256), (2, 65_535), (2, 65_536)]
+    limits += [(width, NUMBER_LIMIT) for width in (1, 2, 4)]
     for width, value in limits:
         number = 0 if value < 256**width else 8
         check(f"value {value}", script.write(3, width, value).number, number)
@@ -73,11 +73,11 @@ def _answers_and_logs(script: Script) -> None:
             check("answers", script.read(address, 1, answers), Result(6))
             check("answers", script.write(address, 1, 1, answers), Result(6))
     for answer in range(10):
-        one_odd = [KEN] * 20 + [answer] + [KEN] * 11
-        check("answer", script.read(0, 1, one_odd).number, 0 if answer < 8 else 6)
+        one_given = [KEN] * 20 + [answer] + [KEN] * 11
+        check("answer", script.read(0, 1, one_given).number, 0 if answer < 8 else 6)
     for length in (0, 3, 95, 96, 97, 128):
         script.new(log=length, cd=False)
-        script.plant(0, 2, 0)
+        script.store_line(0, 2, 0)
         number = 0 if length >= 96 else 7
         check("read hit", script.read(0, 4).number, number)
         check("write hit", script.write(0, 4, 1).number, number)
@@ -90,11 +90,11 @@ def _external_writes(script: Script) -> None:
     """Empty, over 16 bytes, across lines or beyond RAM, whatever the address is."""
     for ram in (16, 48):
         script.new(ram=ram, cd=False)
-        for address in (0, 1, 15, 16, 31, 32, 40, 47, 48, TOP - 15, TOP):
+        for address in (0, 1, 15, 16, 31, 32, 40, 47, 48, NUMBER_LIMIT - 15, NUMBER_LIMIT):
             for count in (0, 1, 2, 8, 15, 16, 17, 40):
                 good = 1 <= count <= 16 and address % 16 + count <= 16 and address + count <= ram
-                data = bytes((7 * count + place) % 256 for place in range(count))
-                number = script.external(address, data).number
+                written = bytes((7 * count + index) % 256 for index in range(count))
+                number = script.external(address, written).number
                 check(f"{count} bytes at {address}", number, 0 if good else 10)
 
 
@@ -121,8 +121,8 @@ def _order_of_accesses(script: Script) -> None:
         ram = _faulty_unit(script, present)
         address = ram - 1 if 5 in present else 0
         width = 3 if 4 in present else 2
-        answers = KEPT[1:] if 6 in present else KEPT
-        value = TOP if 8 in present else 65_535
+        answers = ALL_KEN[1:] if 6 in present else ALL_KEN
+        value = NUMBER_LIMIT if 8 in present else 65_535
         check(f"write {present}", script.write(address, width, value, answers), Result(present[0]))
         for_read = [number for number in present if number != 8]
         check(f"read {present}", script.read(address, width, answers), Result(for_read[0]))
@@ -131,5 +131,5 @@ def _order_of_accesses(script: Script) -> None:
 def _order_of_external_writes(script: Script) -> None:
     for present in combinations((1, 2, 10, 21, 22, 23), 2):
         _faulty_unit(script, present)
-        data = b"" if 10 in present else b"\x01\x02"
-        check(f"external {present}", script.external(4, data), Result(present[0]))
+        written = b"" if 10 in present else b"\x01\x02"
+        check(f"external {present}", script.external(4, written), Result(present[0]))

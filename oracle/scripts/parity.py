@@ -5,14 +5,14 @@ from itertools import product
 from unit486_model import memory
 from unit486_model.bus import ANSWERS, BS8, BS16, KEN, WIDTHS, WRONG
 
-from checks.bench import NO_KEN, check, flags, marks
+from checks.unit_calls import NO_KEN, address_flags, check, flags
 
-from .printed import fill_marks, plain_marks
+from .source_tables import AddressFlags, fill_records, plain_records
 from .writer import Script
 
-# The doubleword with the faults, and its parity byte.
+# The doubleword with the faults, and the index of its parity byte.
 BASE = 0x124
-PLACE = BASE // 4
+PARITY_INDEX = BASE // 4
 
 UPPER = 0xF0
 
@@ -28,11 +28,11 @@ def parity() -> Script:
     return script
 
 
-def _with_wrong(made: list[tuple[int, int]], wrong: dict[int, int]) -> list[tuple[int, int]]:
-    """Marks with 128 where a moved lane is wrong; `wrong` has lanes by doubleword."""
+def _with_wrong(records: AddressFlags, wrong: dict[int, int]) -> AddressFlags:
+    """Flags with 128 where a moved lane is wrong; `wrong` has lanes by doubleword."""
     return [
         (address, flags + (WRONG if flags & wrong.get(address, 0) else 0))
-        for address, flags in made
+        for address, flags in records
     ]
 
 
@@ -40,21 +40,21 @@ def _faults_by_lane(script: Script) -> None:
     """Each set of wrong lanes, read in each width and size: only moved lanes count."""
     script.new(cd=False)
     for faults in (1, 2, 4, 8, 5, 10, 15):
-        script.flip(PLACE, faults)
+        script.flip(PARITY_INDEX, faults)
         for width, offset in product(WIDTHS, range(4)):
             for size in (0, BS16, BS8):
                 result = script.read(BASE + offset, width, [size] * ANSWERS)
-                plain = plain_marks(BASE + offset, width, [size] * ANSWERS)
-                check("wrong lanes", marks(result), _with_wrong(plain, {BASE: faults}))
-        script.flip(PLACE, faults)
+                right = plain_records(BASE + offset, width, [size] * ANSWERS)
+                check("wrong lanes", address_flags(result), _with_wrong(right, {BASE: faults}))
+        script.flip(PARITY_INDEX, faults)
     check("mended", memory.parity_agrees(script.unit.ram, script.unit.parity), True)
 
 
 def _upper_bits_ignored(script: Script) -> None:
     script.new(cd=False)
-    script.flip(PLACE, UPPER)
+    script.flip(PARITY_INDEX, UPPER)
     check("no fault", flags(script.read(BASE, 4, NO_KEN)), [79])
-    script.flip(PLACE, 4)
+    script.flip(PARITY_INDEX, 4)
     check("a fault below them", flags(script.read(BASE, 4, NO_KEN)), [79 + WRONG])
     check("in another lane", flags(script.read(BASE, 2, NO_KEN)), [67])
 
@@ -67,8 +67,8 @@ def _faults_in_fills(script: Script) -> None:
         for doubleword, lanes in wrong.items():
             script.flip(doubleword // 4, lanes)
         result = script.read(16 + start, 1, [size + KEN] * ANSWERS)
-        printed = fill_marks(16 + start, [size + KEN] * ANSWERS)
-        check("faults in a fill", marks(result), _with_wrong(printed, wrong))
+        printed = fill_records(16 + start, [size + KEN] * ANSWERS)
+        check("faults in a fill", address_flags(result), _with_wrong(printed, wrong))
         check("kept", script.held(16), 0)
         check("hit", script.read(16, 4).records, ())
         dropped = script.read(32 + start, 4, [size + KEN] + [size] * (ANSWERS - 1))
@@ -79,17 +79,17 @@ def _writes(script: Script) -> None:
     """A moved lane gets its bit and the upper four become 0; other lanes' bits stay."""
     for width, offset, size in product(WIDTHS, range(4), (0, BS8)):
         script.new(ram=32, cd=False)
-        for place in (1, 2):
-            script.flip(place, 0xFF)
+        for index in (1, 2):
+            script.flip(index, 0xFF)
         before = bytes(script.unit.parity)
         value = 0x80C0F1E2 % 256**width
         script.write(4 + offset, width, value, [size] * ANSWERS)
         good = memory.parity_for(script.unit.ram)
         lanes = ((1 << width) - 1) << offset
-        for place, moved in ((1, lanes & 15), (2, lanes >> 4)):
-            kept = before[place] & 15 & ~moved if moved else before[place]
-            bits = script.unit.parity[place]
-            check("parity byte", bits, good[place] & moved | kept)
+        for index, moved in ((1, lanes & 15), (2, lanes >> 4)):
+            kept = before[index] & 15 & ~moved if moved else before[index]
+            bits = script.unit.parity[index]
+            check("parity byte", bits, good[index] & moved | kept)
     script.new(ram=16, cd=False)
     script.flip(0, 0xFF ^ script.unit.parity[0])
     script.write(0, 1, 0)
@@ -98,14 +98,14 @@ def _writes(script: Script) -> None:
 
 def _external_writes(script: Script) -> None:
     script.new(ram=32, cd=False)
-    for place in range(8):
-        script.flip(place, 0xFF)
+    for index in range(8):
+        script.flip(index, 0xFF)
     before = bytes(script.unit.parity)
     script.external(22, bytes((1, 2, 3, 7, 15)))
     good = memory.parity_for(script.unit.ram)
     check("first byte", script.unit.parity[5], good[5] & 12 | before[5] & 3)
     check("second byte", script.unit.parity[6], good[6] & 7 | before[6] & 8)
-    others = [place for place in range(8) if place not in (5, 6)]
+    others = [index for index in range(8) if index not in (5, 6)]
     check("others", all(script.unit.parity[p] == before[p] for p in others), True)
 
 
@@ -114,8 +114,8 @@ def _writes_inside(script: Script) -> None:
     script.new(ram=32, cd=False)
     script.read(0, 4)
     script.control(True, True)
-    for place in (3, 4):
-        script.flip(place, 0xF5)
+    for index in (3, 4):
+        script.flip(index, 0xF5)
     before = bytes(script.unit.parity)
     check("inside", script.write(12, 4, 0xFFFF_FFFE).cycles, 0)
     check("untouched", bytes(script.unit.parity), before)

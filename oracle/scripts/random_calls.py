@@ -4,16 +4,16 @@ from collections.abc import Callable, Sequence
 from dataclasses import dataclass
 
 from unit486_model.bus import ANSWERS, KEN, LOG_WORDS, WIDTHS
-from unit486_model.directory import LINE_BYTES, LRU_LIMIT, SETS, TAG_LIMIT, WAYS
+from unit486_model.directory import LINE_BYTES, LRU_LIMIT, SETS, TAG_LIMIT, WAY_BYTES, WAYS
 from unit486_model.memory import parity_length
 from unit486_model.refusal import DATA_BYTES
 
-from .source import Source
+from checks.unit_calls import BAD_WIDTHS
+
+from .random_source import RandomSource
 from .writer import Script
 
-BAD_WIDTHS = (0, 3, 5, 8, 4294967295)
 PAIRS = ((False, False), (True, False), (True, True))
-WAY_BYTES = SETS * LINE_BYTES
 
 
 @dataclass(frozen=True)
@@ -27,30 +27,30 @@ class Kind:
     # Letters, each as often as it is to be drawn.
     letters: str
     # The share of arguments that are wrong, or anything.
-    hostile: float = 0.0
+    wrong: float = 0.0
     # The share of parity bytes that are changed at the start.
     faults: float = 0.0
-    # Whether lines are planted at the start, and whether they may break a set's state.
-    planted: bool = False
+    # Whether lines are stored at the start, and whether they may break a set's state.
+    stored: bool = False
     ill_formed: bool = False
     # Whether lengths may be wrong.
     wrong_lengths: bool = False
 
 
 KINDS = (
-    Kind("tiny", 16, 64, (16, 32), "RRRRRRWWWXSFCMV", hostile=0.06, faults=0.3, planted=True),
-    Kind("hot", 14, 80, (12_304, 16_400), "RRRRRRRRRRRRRRWWWWWWXSV", hostile=0.01),
+    Kind("tiny", 16, 64, (16, 32), "RRRRRRWWWXSFCMV", wrong=0.06, faults=0.3, stored=True),
+    Kind("hot", 14, 80, (12_304, 16_400), "RRRRRRRRRRRRRRWWWWWWXSV", wrong=0.01),
     Kind("masters", 14, 80, (2064, 4128), "RRRRRRRWWWWXXXXSSSFCCMMZVV", faults=0.05),
-    Kind("large", 10, 64, (65_536, 20_496), "RRRRRRWWWrrwXXSFCV", hostile=0.04, faults=0.002),
-    Kind("long", 2, 560, (2064, 16_400), "RRRRRRRRWWWWrwXXSV", hostile=0.02, planted=True),
+    Kind("large", 10, 64, (65_536, 20_496), "RRRRRRWWWrrwXXSFCV", wrong=0.04, faults=0.002),
+    Kind("long", 2, 560, (2064, 16_400), "RRRRRRRRWWWWrwXXSV", wrong=0.02, stored=True),
     Kind(
         "refused",
         110,
         11,
         (16, 32, 2064),
         "RRRRRWWWWWXXXSSSCFrVV",
-        hostile=0.08,
-        planted=True,
+        wrong=0.08,
+        stored=True,
         ill_formed=True,
         wrong_lengths=True,
     ),
@@ -62,7 +62,7 @@ class RandomCalls:
 
     def __init__(self, kind: Kind) -> None:
         self.kind = kind
-        self.source = Source(f"replay {kind.name}")
+        self.source = RandomSource(f"replay {kind.name}")
         self.script = Script(f"{kind.name}.txt")
         # The set that most accesses of the unit go to, with its neighbour.
         self.hot = 0
@@ -87,8 +87,8 @@ class RandomCalls:
                 self.calls[self.source.choice(self.kind.letters)]()
         return self.script
 
-    def _odd(self) -> bool:
-        return self.source.chance(self.kind.hostile)
+    def _wrong(self) -> bool:
+        return self.source.chance(self.kind.wrong)
 
     # --- units
 
@@ -103,11 +103,11 @@ class RandomCalls:
         if self.source.chance(0.3):
             cd, nw = self.source.chance(0.5), self.source.chance(0.5)
         self.script.new(*lengths, cd=cd, nw=nw)
-        self._spread_faults()
+        self._add_faults()
         self.hot = 0 if ram < WAY_BYTES else self.source.choice((0, 0, SETS - 1, 77))
-        if self.kind.planted:
+        if self.kind.stored:
             for set_index in (self.hot, (self.hot + 1) % SETS):
-                self._plant(set_index)
+                self._store_lines(set_index)
 
     def _wrong_lengths(self, lengths: Sequence[int]) -> list[int]:
         ram, parity, data, log = lengths
@@ -123,13 +123,13 @@ class RandomCalls:
             chosen[2], chosen[3] = data - 1, LOG_WORDS - 1
         return chosen
 
-    def _spread_faults(self) -> None:
+    def _add_faults(self) -> None:
         """Wrong DP bits, and ones in the upper four."""
-        for place in range(len(self.script.unit.parity)):
+        for index in range(len(self.script.unit.parity)):
             if self.source.chance(self.kind.faults):
-                self.script.flip(place, self.source.choice((0xF0, 0x10, 1, 2, 4, 8, 0xFF)))
+                self.script.flip(index, self.source.choice((0xF0, 0x10, 1, 2, 4, 8, 0xFF)))
 
-    def _plant(self, set_index: int) -> None:
+    def _store_lines(self, set_index: int) -> None:
         """Lines that fills did not bring in, and an LRU number; at times a broken state."""
         broken = self.kind.ill_formed and self.source.chance(0.5)
         tags = self.source.sample((0, 1, 2, 5, 1000, TAG_LIMIT - 1, TAG_LIMIT), WAYS)
@@ -138,7 +138,7 @@ class RandomCalls:
             tags = [self.source.choice(choices) for _ in range(WAYS)]
         for way, tag in enumerate(tags):
             if self.source.chance(0.6):
-                self.script.plant(set_index, way, tag)
+                self.script.store_line(set_index, way, tag)
             elif self.source.chance(0.3):
                 self.script.tag(set_index, way, tag)
         if broken and self.source.chance(0.6):
@@ -151,7 +151,7 @@ class RandomCalls:
     def _address(self) -> int:
         """Mostly in the hot sets, often at the end of a line, sometimes anywhere."""
         length = max(len(self.script.unit.ram), LINE_BYTES)
-        if self._odd():
+        if self._wrong():
             choices = (length - 1, length - 3, length, 4294967295, self.source.below(2**32))
             return self.source.choice(choices)
         if self.source.chance(0.25):
@@ -160,11 +160,11 @@ class RandomCalls:
         return (line + self.source.between(-4, 2 * LINE_BYTES - 1)) % length
 
     def _width(self) -> int:
-        return self.source.choice(BAD_WIDTHS if self._odd() else WIDTHS)
+        return self.source.choice(BAD_WIDTHS if self._wrong() else WIDTHS)
 
     def _answers(self) -> list[int]:
         """Often such that fills are kept, else anything."""
-        if self._odd():
+        if self._wrong():
             count = self.source.choice((0, 1, ANSWERS - 1, ANSWERS, ANSWERS + 1, 64))
             return [self.source.choice((0, 1, 7, 8, 9)) for _ in range(count)]
         chance = self.source.below(100)
@@ -176,7 +176,7 @@ class RandomCalls:
         return [self.source.below(8) | ken for _ in range(ANSWERS)]
 
     def _value(self, width: int) -> int:
-        bits = self.source.choice((8, 9, 16, 17, 32)) if self._odd() else min(8 * width, 32)
+        bits = self.source.choice((8, 9, 16, 17, 32)) if self._wrong() else min(8 * width, 32)
         return self.source.below(2**bits)
 
     # --- calls
@@ -200,7 +200,7 @@ class RandomCalls:
         address = self._address()
         room = LINE_BYTES - address % LINE_BYTES
         count = self.source.between(1, self.source.choice((room, min(room, 3))))
-        if self._odd():
+        if self._wrong():
             count = self.source.choice((0, room, room + 1, LINE_BYTES, LINE_BYTES + 1, 30))
         self.script.external(address, self.source.bytes_of(count))
 

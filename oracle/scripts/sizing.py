@@ -5,10 +5,10 @@ from itertools import product
 
 from unit486_model.bus import ANSWER_LIMIT, ANSWERS, BS8, BS16, GROUP, KEN, WIDTHS, WRITE
 
-from checks.bench import answers_of, check, flags, marks
+from checks.unit_calls import address_flags, answers_of, check, flags
 from checks.vectors import FLAG_TABLE
 
-from .printed import plain_marks
+from .source_tables import plain_records
 from .writer import Script
 
 # Every set of neighbouring bytes is wanted somewhere among these: the lower doubleword of a
@@ -36,12 +36,12 @@ def _both(script: Script, offset: int, width: int, answers: Sequence[int]) -> No
     address = BASE + offset
     result = script.read(address, width, answers, pcd=True)
     what = f"{width} at {offset} answers {answers}"
-    check(f"read {what}", marks(result), plain_marks(address, width, answers))
+    check(f"read {what}", address_flags(result), plain_records(address, width, answers))
     held = int.from_bytes(script.unit.ram[address : address + width], "little")
     check(f"value {what}", result.value, held)
     value = (0x9D6B35C7 * (len(script.lines) + 1)) % 256**width
     result = script.write(address, width, value, answers)
-    check(f"write {what}", marks(result), plain_marks(address, width, answers, WRITE))
+    check(f"write {what}", address_flags(result), plain_records(address, width, answers, WRITE))
     written = script.unit.ram[address : address + width]
     check(f"bytes {what}", int.from_bytes(written, "little"), value)
 
@@ -54,7 +54,7 @@ def _constant_answers(script: Script) -> None:
             _both(script, offset, width, [answer] * ANSWERS)
             column = FLAG_TABLE[width, offset][COLUMNS[answer & ~KEN]]
             row = [int(flag) for flag in column.replace("|", ",").split(",")]
-            printed = [flag for _, flag in plain_marks(offset, width, [answer] * ANSWERS)]
+            printed = [flag for _, flag in plain_records(offset, width, [answer] * ANSWERS)]
             check(f"{width} at {offset} answer {answer}", printed, row)
 
 

@@ -5,11 +5,11 @@ from itertools import combinations, product
 
 from unit486_model.access import Result
 from unit486_model.bus import ANSWERS, KEN
-from unit486_model.directory import LRU_LIMIT, TAG_LIMIT, WAYS, place_of
+from unit486_model.directory import LRU_LIMIT, TAG_LIMIT, WAYS, line_index
 
-from checks.bench import check
+from checks.unit_calls import check
 
-from .player import directory_bytes
+from .script_unit import directory_bytes
 from .writer import Script
 
 RAM_BYTES = 2064
@@ -30,12 +30,12 @@ def states() -> Script:
 
 
 def fault_21(script: Script, set_index: int) -> None:
-    script.plant(set_index, 1, 0x1234)
-    script.plant(set_index, 3, 0x1234)
+    script.store_line(set_index, 1, 0x1234)
+    script.store_line(set_index, 3, 0x1234)
 
 
 def fault_22(script: Script, set_index: int) -> None:
-    script.plant(set_index, 2, TAG_LIMIT + 1)
+    script.store_line(set_index, 2, TAG_LIMIT + 1)
 
 
 def fault_23(script: Script, set_index: int) -> None:
@@ -54,7 +54,7 @@ def _every_call(script: Script) -> None:
     """Reads, writes, external writes and snoops, in each mode; not flushes, control or reset."""
     for number, (cd, nw) in product(FAULTS, product((False, True), repeat=2)):
         script.new(ram=RAM_BYTES, cd=cd, nw=nw)
-        script.plant(5, 0, 0)
+        script.store_line(5, 0, 0)
         FAULTS[number](script, 5)
         before = directory_bytes(script.directory)
         for address in (0x50, 0x58):
@@ -75,13 +75,13 @@ def _pairs_and_ways(script: Script) -> None:
     script.new(ram=RAM_BYTES, cd=False)
     for lower, upper in combinations(range(WAYS), 2):
         for way in (lower, upper):
-            script.plant(9, way, 0x77)
+            script.store_line(9, way, 0x77)
         check("21", script.read(0x94, 2), Result(21))
         script.mark(9, upper, False)
         check("stale", script.snoop(0x94), Result(0))
         script.mark(9, lower, False)
     for way in range(WAYS):
-        script.plant(9, way, TAG_LIMIT)
+        script.store_line(9, way, TAG_LIMIT)
         check("the largest tag", script.snoop(0x94), Result(0))
         script.tag(9, way, 0xFFFFFFFF)
         check("22", script.write(0x94, 2, 5), Result(22))
@@ -122,7 +122,7 @@ def _order_in_a_set(script: Script) -> None:
         check("for a snoop too", script.snoop(0x3F), Result(min(present)))
     script.new(ram=RAM_BYTES, cd=False)
     for way in (0, 2):
-        script.plant(3, way, TAG_LIMIT + 1)
+        script.store_line(3, way, TAG_LIMIT + 1)
     check("equal tags above the limit", script.read(0x30, 1), Result(21))
 
 
@@ -142,11 +142,11 @@ def _lines_beyond_ram(script: Script) -> None:
     for lru in range(LRU_LIMIT + 1):
         script.new(ram=32, cd=False)
         for way in range(WAYS):
-            script.plant(0, way, TAG_LIMIT - way)
+            script.store_line(0, way, TAG_LIMIT - way)
         script.lru(0, lru)
         for address in (0, 4):
             script.read(address, 4)
         check("snoop", script.snoop(TAG_LIMIT * 2048 + 3), Result(0))
         check("gone", script.held(TAG_LIMIT * 2048), None)
         check("another set's", script.snoop(TAG_LIMIT * 2048 + 16), Result(0))
-        check("RAM's line", script.directory.valid[place_of(1, 0)], False)
+        check("RAM's line", script.directory.valid[line_index(1, 0)], False)

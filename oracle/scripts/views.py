@@ -5,15 +5,14 @@ from itertools import combinations, product
 
 from unit486_model.access import Result
 from unit486_model.directory import LRU_LIMIT, TAG_LIMIT, WAYS, set_of, tag_of
+from unit486_model.events import NUMBER_LIMIT
 from unit486_model.refusal import DATA_BYTES
 
-from checks.bench import check, snapshot
+from checks.unit_calls import check, snapshot
 from checks.vectors import MODES
 
 from .states import FAULTS
 from .writer import Script
-
-TOP = 4294967295
 
 # Lines of set 4, and a RAM that has one more of them.
 HELD, OTHER, THIRD = 0x40, 0x840, 0x1040
@@ -99,7 +98,7 @@ def _every_byte(script: Script) -> None:
     """Whichever byte of its line the address names: the sixteen of a held line, of one that is
     not held, and of neighbours."""
     script.new(ram=RAM_BYTES)
-    script.plant(4, 2, tag_of(HELD))
+    script.store_line(4, 2, tag_of(HELD))
     check("other bytes", _of_array(script, 4, 2) != _of_ram(script, HELD), True)
     for byte in range(16):
         _shows_array(script, HELD + byte, 2)
@@ -114,16 +113,16 @@ def _every_way(script: Script) -> None:
     sets beside them hold nothing."""
     script.new(ram=0x2800)
     for set_index, way in product((0, 127), range(WAYS)):
-        script.plant(set_index, way, 3 - way)
+        script.store_line(set_index, way, 3 - way)
     for set_index in (0, 127):
         for way in range(WAYS):
             _shows_array(script, 2048 * (3 - way) + 16 * set_index + 5 * way, way)
         _shows_ram(script, 2048 * 4 + 16 * set_index)
     for set_index in (1, 126):
         _shows_ram(script, 2048 + 16 * set_index + 15)
-    # The last line of the largest RAM that the program has room for, in the last place.
+    # The last line of the largest RAM that the program has room for, in the last way.
     script.new(ram=65_536)
-    script.plant(127, 3, 31)
+    script.store_line(127, 3, 31)
     _shows_array(script, 65_535, 3)
     _shows_ram(script, 65_519)
 
@@ -166,7 +165,7 @@ def _writes_of_a_mode(script: Script, cd: bool, nw: bool) -> None:
     through = MODES[int(cd), int(nw)][1]
     _two_lines(script, cd, nw)
     _, before = _of_ram(script, HELD)
-    value = int.from_bytes(before[6:10], "little") ^ TOP
+    value = int.from_bytes(before[6:10], "little") ^ NUMBER_LIMIT
     written = before[:6] + value.to_bytes(4, "little") + before[10:]
     check("write hit", script.write(HELD + 6, 4, value).number, 0)
     _shows(script, HELD + 9, (0, written))
@@ -176,10 +175,10 @@ def _writes_of_a_mode(script: Script, cd: bool, nw: bool) -> None:
     check("write miss", script.write(THIRD + 15, 1, before[15] ^ 255).number, 0)
     _shows(script, THIRD, (0, before[:15] + bytes((before[15] ^ 255,))))
     script.new(ram=RAM_BYTES, cd=cd, nw=nw)
-    script.plant(4, 3, tag_of(OTHER))
-    _, planted = _of_array(script, 4, 3)
+    script.store_line(4, 3, tag_of(OTHER))
+    _, stored = _of_array(script, 4, 3)
     script.write(OTHER, 2, 0xBEEF)
-    _shows(script, OTHER + 1, (0, b"\xef\xbe" + planted[2:]))
+    _shows(script, OTHER + 1, (0, b"\xef\xbe" + stored[2:]))
 
 
 def _masters_of_a_mode(script: Script, cd: bool, nw: bool) -> None:
@@ -187,7 +186,7 @@ def _masters_of_a_mode(script: Script, cd: bool, nw: bool) -> None:
     drops = MODES[int(cd), int(nw)][2]
     script.new(ram=RAM_BYTES, cd=cd, nw=nw)
     for way, address in enumerate((HELD, OTHER, THIRD)):
-        script.plant(4, way, tag_of(address))
+        script.store_line(4, way, tag_of(address))
     check("snoop", script.snoop(HELD + 8), Result(0))
     _shows(script, HELD, _of_ram(script, HELD) if drops else _of_array(script, 4, 0))
     check("external", script.external(OTHER + 6, b"\x01\x02\x03"), Result(0))
@@ -199,7 +198,7 @@ def _masters_of_a_mode(script: Script, cd: bool, nw: bool) -> None:
     check("flush", script.flush(), Result(0))
     for address in (HELD, OTHER, THIRD):
         _shows_ram(script, address)
-    script.plant(4, 1, tag_of(HELD))
+    script.store_line(4, 1, tag_of(HELD))
     _shows_array(script, HELD, 1)
     check("reset", script.reset(), Result(0))
     _shows_ram(script, HELD)
@@ -241,7 +240,7 @@ def _no_uses(script: Script) -> None:
     for lru, victim in ((0, 0), (2, 1), (1, 2), (5, 3)):
         script.new(ram=0x2810, cd=False)
         for way in range(WAYS):
-            script.plant(0, way, way)
+            script.store_line(0, way, way)
         script.lru(0, lru)
         for way in (3, 0, 2, 1):
             _shows_array(script, 2048 * way, way)
@@ -264,11 +263,11 @@ def _lengths(script: Script) -> None:
         script.new(ram=32, data=length)
         number = 0 if length == DATA_BYTES else 3
         _numbered(script, 16, number)
-        script.plant(0, 0, 0)
+        script.store_line(0, 0, 0)
         _numbered(script, 0, number)
     for parity, log in ((0, 96), (7, 96), (9, 96), (32, 96), (8, 0), (8, 95), (9, 95)):
         script.new(ram=32, parity=parity, log=log)
-        script.plant(0, 3, 0)
+        script.store_line(0, 3, 0)
         _shows_array(script, 15, 3)
         _shows_ram(script, 16)
 
@@ -279,7 +278,7 @@ def _addresses(script: Script) -> None:
         script.new(ram=ram)
         for address in (0, 15, ram - 16, ram - 1):
             _shows_ram(script, address)
-        for address in (ram, ram + 1, ram + 15, 65_536, 2**31, TOP - 15, TOP):
+        for address in (ram, ram + 1, ram + 15, 65_536, 2**31, NUMBER_LIMIT - 15, NUMBER_LIMIT):
             _refused(script, address, 5)
 
 
@@ -288,7 +287,7 @@ def _states(script: Script) -> None:
     for number in FAULTS:
         script.new(ram=2064)
         for set_index in (4, 5, 6):
-            script.plant(set_index, 0, 0)
+            script.store_line(set_index, 0, 0)
         FAULTS[number](script, 5)
         for cd, nw in MODES:
             script.mode(bool(cd), bool(nw))
@@ -304,16 +303,16 @@ def _pairs_and_ways(script: Script) -> None:
     script.new(ram=2064)
     for lower, upper in combinations(range(WAYS), 2):
         for way in (lower, upper):
-            script.plant(9, way, 0)
+            script.store_line(9, way, 0)
         _refused(script, 0x94, 21)
         script.mark(9, upper, False)
         _shows_array(script, 0x94, lower)
         script.mark(9, lower, False)
         _shows_ram(script, 0x94)
     for way in range(WAYS):
-        script.plant(9, way, TAG_LIMIT)
+        script.store_line(9, way, TAG_LIMIT)
         _shows_ram(script, 0x94)
-        script.tag(9, way, TAG_LIMIT + 1 if way % 2 else TOP)
+        script.tag(9, way, TAG_LIMIT + 1 if way % 2 else NUMBER_LIMIT)
         _refused(script, 0x94, 22)
         script.mark(9, way, False)
         _shows_ram(script, 0x94)
@@ -331,14 +330,14 @@ def _order(script: Script) -> None:
         data = DATA_BYTES - (3 in present)
         script.new(ram=ram, parity=ram // 4 + 1, data=data, log=95)
         address = ram + 9 if 5 in present else 3
-        script.plant(set_of(address), 0, tag_of(address))
+        script.store_line(set_of(address), 0, tag_of(address))
         for number in FAULTS:
             if number in present:
                 FAULTS[number](script, set_of(address))
         _refused(script, address, present[0])
     script.new(ram=32)
     for way in (0, 2):
-        script.plant(0, way, TAG_LIMIT + 1)
+        script.store_line(0, way, TAG_LIMIT + 1)
     _refused(script, 0, 21)
 
 
@@ -347,10 +346,10 @@ def _lines_beyond_ram(script: Script) -> None:
     script.new(ram=32)
     for way, tag in enumerate((1, TAG_LIMIT)):
         for set_index in (0, 127):
-            script.plant(set_index, way, tag)
-    for address in (2048, TAG_LIMIT * 2048, 4095, TOP):
+            script.store_line(set_index, way, tag)
+    for address in (2048, TAG_LIMIT * 2048, 4095, NUMBER_LIMIT):
         check("held", script.held(address) is not None, True)
         _refused(script, address, 5)
     _shows_ram(script, 0)
-    script.plant(0, 2, 0)
+    script.store_line(0, 2, 0)
     _shows_array(script, 15, 2)

@@ -6,14 +6,22 @@ from collections.abc import Sequence
 from unit486_model import directory as steps
 from unit486_model.access import Result
 from unit486_model.bus import FILL, LAST, LOG_WORDS, WRONG
-from unit486_model.directory import Directory, place_of
+from unit486_model.directory import Directory, line_index
 from unit486_model.events import Unit
 from unit486_model.memory import parity_length
 from unit486_model.refusal import DATA_BYTES
 
-from checks.bench import KEPT
+from checks.unit_calls import ALL_KEN, valid_and_tags
 
-from .player import DATA_ROOM, FIELD_ROOM, LOG_ROOM, PARITY_ROOM, RAM_ROOM, Player, new_player
+from .script_unit import (
+    DATA_ROOM,
+    FIELD_ROOM,
+    LOG_ROOM,
+    PARITY_ROOM,
+    RAM_ROOM,
+    ScriptUnit,
+    new_script_unit,
+)
 
 RAM_BYTES = 4096
 
@@ -26,23 +34,23 @@ class Script:
         self.lines: list[str] = []
         self.rows: list[str] = []
         self.met: Counter[str] = Counter()
-        self._player: Player | None = None
+        self._script_unit: ScriptUnit | None = None
 
     @property
-    def player(self) -> Player:
-        assert self._player is not None, "a script begins with a new unit"
-        return self._player
+    def script_unit(self) -> ScriptUnit:
+        assert self._script_unit is not None, "a script begins with a new unit"
+        return self._script_unit
 
     @property
     def unit(self) -> Unit:
-        return self.player.unit
+        return self.script_unit.unit
 
     @property
     def directory(self) -> Directory:
-        return self.player.unit.directory
+        return self.script_unit.unit.directory
 
     def held(self, address: int) -> int | None:
-        return steps.find(self.directory, address)
+        return steps.lookup(self.directory, address)
 
     def text(self) -> str:
         return "".join(line + "\n" for line in self.lines)
@@ -67,24 +75,24 @@ class Script:
         assert all(length <= room for length, room in zip((ram, parity, data, log), rooms))
         seed = 2 * len(self.lines) + 1
         line = f"N {ram} {parity} {data} {log} {seed} {seed + 1}"
-        self._player, row = new_player(line)
+        self._script_unit, row = new_script_unit(line)
         self.lines.append(line)
         self.rows.append(row)
         if cd is not None:
             self.mode(cd, nw)
 
-    def store(self, letter: str, place: int, value: int) -> None:
-        line = f"{letter} {place} {value}"
-        self.player.play(line)
+    def store(self, letter: str, index: int, value: int) -> None:
+        line = f"{letter} {index} {value}"
+        self.script_unit.run_line(line)
         self.lines.append(line)
 
     def tag(self, set_index: int, way: int, tag: int) -> None:
-        self.store("T", place_of(set_index, way), tag)
+        self.store("T", line_index(set_index, way), tag)
 
     def mark(self, set_index: int, way: int, valid: bool) -> None:
-        self.store("K", place_of(set_index, way), int(valid))
+        self.store("K", line_index(set_index, way), int(valid))
 
-    def plant(self, set_index: int, way: int, tag: int) -> None:
+    def store_line(self, set_index: int, way: int, tag: int) -> None:
         """Make one line valid; its bytes in the data array stay what they are."""
         self.tag(set_index, way, tag)
         self.mark(set_index, way, True)
@@ -96,19 +104,19 @@ class Script:
         """CD and NW, the pair that a control call refuses among them."""
         self.store("M", int(cd), int(nw))
 
-    def flip(self, place: int, mask: int) -> None:
+    def flip(self, index: int, mask: int) -> None:
         """Turn bits of a parity byte over: wrong DP bits, or ones in its upper four."""
-        self.store("P", place, mask)
+        self.store("P", index, mask)
 
     # --- calls
 
     def read(
-        self, address: int, width: int, answers: Sequence[int] = KEPT, pcd: bool = False
+        self, address: int, width: int, answers: Sequence[int] = ALL_KEN, pcd: bool = False
     ) -> Result:
         return self._call(_fields("R", address, width, int(pcd), _digits(answers)))
 
     def write(
-        self, address: int, width: int, value: int, answers: Sequence[int] = KEPT
+        self, address: int, width: int, value: int, answers: Sequence[int] = ALL_KEN
     ) -> Result:
         return self._call(_fields("W", address, width, value, _digits(answers)))
 
@@ -118,9 +126,9 @@ class Script:
     def board_write(self, address: int, width: int, value: int) -> Result:
         return self._call(_fields("w", address, width, value))
 
-    def external(self, address: int, data: bytes) -> Result:
-        assert len(data) <= FIELD_ROOM
-        return self._call(_fields("X", address, *data))
+    def external(self, address: int, written: bytes) -> Result:
+        assert len(written) <= FIELD_ROOM
+        return self._call(_fields("X", address, *written))
 
     def snoop(self, address: int) -> Result:
         return self._call(_fields("S", address))
@@ -146,18 +154,18 @@ class Script:
     def board(self, address: int, width: int) -> str:
         """Ask for the board's answers; the field that is printed."""
         line = _fields("B", address, width)
-        _, row = self.player.play(line)
+        _, row = self.script_unit.run_line(line)
         self.lines.append(line)
         self.rows.append(row)
         return row.rstrip("\n").split("\t")[1]
 
     def _call(self, line: str) -> Result:
-        before = _lines_of(self.directory)
-        result, row = self.player.play(line)
+        before = valid_and_tags(self.directory)
+        result, row = self.script_unit.run_line(line)
         assert result is not None, line
         self.lines.append(line)
         self.rows.append(row)
-        self._count(line[0], result, before, _lines_of(self.directory))
+        self._count(line[0], result, before, valid_and_tags(self.directory))
         return result
 
     def _count(
@@ -190,7 +198,3 @@ def _fields(letter: str, *fields: str | int) -> str:
 def _digits(answers: Sequence[int]) -> str:
     assert len(answers) <= FIELD_ROOM and all(0 <= answer <= 9 for answer in answers)
     return "".join(str(answer) for answer in answers)
-
-
-def _lines_of(directory: Directory) -> list[tuple[bool, int]]:
-    return list(zip(directory.valid, directory.tags))

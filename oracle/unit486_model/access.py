@@ -49,11 +49,11 @@ def read(
 ) -> Result:
     """A CPU read: its doublewords in ascending order, each with its own group of answers."""
     number = (
-        refusal.ram_length(len(ram))
-        or refusal.parity_array(len(ram), len(parity))
-        or refusal.data_array(len(data))
-        or refusal.access(len(ram), address, width, answers, len(log))
-        or refusal.state(directory, steps.sets_of(address, width))
+        refusal.ram_number(len(ram))
+        or refusal.parity_number(len(ram), len(parity))
+        or refusal.data_number(len(data))
+        or refusal.argument_number(len(ram), address, width, answers, len(log))
+        or refusal.states_number(directory, steps.sets_of(address, width))
     )
     if number:
         return Result(number)
@@ -78,12 +78,12 @@ def _read_doubleword(
     group: Sequence[int],
 ) -> tuple[int, list[Record]]:
     """The wanted bytes of one doubleword in their lanes, and the records of its cycles."""
-    way = steps.find(directory, doubleword.address)
+    way = steps.lookup(directory, doubleword.address)
     if way is not None:
         # "Read hit: from the data array, no cycle, whatever CD and PCD are."
         steps.use(directory, steps.set_of(doubleword.address), way)
-        place = _data_place(doubleword.address, way)
-        return memory.read_lanes(data, place, doubleword.wanted), []
+        offset = _byte_offset(doubleword.address, way)
+        return memory.read_lanes(data, offset, doubleword.wanted), []
     # "Read miss: a fill when CD = 0, PCD = 0 and the first cycle has KEN#."
     if not directory.cd and not pcd and group[0] & bus.KEN:
         return _fill(directory, ram, parity, data, doubleword, group)
@@ -104,10 +104,10 @@ def _fill(
     matter. ... A dropped one changes neither directory nor data array"."""
     cycles = bus.fill_cycles(doubleword, group)
     records = _read_cycles(ram, parity, cycles, bus.FILL)
-    line = _line_of_records(records)
+    line = _filled_line(records)
     if cycles[-1].answer & bus.KEN:
         way = steps.fill(directory, doubleword.address)
-        start = steps.data_start(steps.set_of(doubleword.address), way)
+        start = steps.data_offset(steps.set_of(doubleword.address), way)
         data[start : start + LINE_BYTES] = line
     # The read takes what came in, also where the fill is dropped.
     return memory.read_lanes(line, doubleword.address % LINE_BYTES, doubleword.wanted), records
@@ -126,7 +126,7 @@ def _read_cycles(
     return records
 
 
-def _line_of_records(records: list[Record]) -> bytearray:
+def _filled_line(records: list[Record]) -> bytearray:
     """The sixteen bytes that a fill's cycles brought in, "Bytes keep their own lanes"."""
     line = 0
     for record in records:
@@ -134,9 +134,9 @@ def _line_of_records(records: list[Record]) -> bytearray:
     return bytearray(line.to_bytes(LINE_BYTES, "little"))
 
 
-def _data_place(address: int, way: int) -> int:
+def _byte_offset(address: int, way: int) -> int:
     """Where the data array holds the byte of this address, its line being held in `way`."""
-    return steps.data_start(steps.set_of(address), way) + address % LINE_BYTES
+    return steps.data_offset(steps.set_of(address), way) + address % LINE_BYTES
 
 
 def write(
@@ -152,11 +152,11 @@ def write(
 ) -> Result:
     """A CPU write: its doublewords in ascending order, each with its own group of answers."""
     number = (
-        refusal.ram_length(len(ram))
-        or refusal.parity_array(len(ram), len(parity))
-        or refusal.data_array(len(data))
-        or refusal.access(len(ram), address, width, answers, len(log), value)
-        or refusal.state(directory, steps.sets_of(address, width))
+        refusal.ram_number(len(ram))
+        or refusal.parity_number(len(ram), len(parity))
+        or refusal.data_number(len(data))
+        or refusal.argument_number(len(ram), address, width, answers, len(log), value)
+        or refusal.states_number(directory, steps.sets_of(address, width))
     )
     if number:
         return Result(number)
@@ -180,10 +180,10 @@ def _write_doubleword(
 ) -> list[Record]:
     """Rule: "to RAM and the moved lanes' parity; on a hit also to the data array. A miss never
     fills"."""
-    way = steps.find(directory, doubleword.address)
+    way = steps.lookup(directory, doubleword.address)
     if way is not None:
         steps.use(directory, steps.set_of(doubleword.address), way)
-        _write_line(data, _data_place(doubleword.address, way), doubleword.wanted, word)
+        _store_lanes(data, _byte_offset(doubleword.address, way), doubleword.wanted, word)
         # "With CD = NW = 1 a hit changes the data array and, as a use, the LRU number; RAM
         # and parity stay, with no cycle."
         if directory.cd and directory.nw:
@@ -197,48 +197,48 @@ def _write_doubleword(
     return records
 
 
-def _write_line(data: bytearray, place: int, lanes: int, word: int) -> None:
+def _store_lanes(data: bytearray, offset: int, lanes: int, word: int) -> None:
     """Put the written lanes of a doubleword into the held line."""
     for lane in range(DOUBLEWORD_BYTES):
         if lanes >> lane & 1:
-            data[place + lane] = word >> 8 * lane & 255
+            data[offset + lane] = word >> 8 * lane & 255
 
 
 def external_write(
-    directory: Directory, ram: bytearray, parity: bytearray, address: int, data: bytes
+    directory: Directory, ram: bytearray, parity: bytearray, address: int, written: bytes
 ) -> Result:
     """Rule: "An external write puts 1 to 16 bytes of one line into RAM, sets their parity, then
     snoops. It leaves no record"."""
     number = (
-        refusal.ram_length(len(ram))
-        or refusal.parity_array(len(ram), len(parity))
-        or refusal.external(len(ram), address, len(data))
-        or refusal.state(directory, steps.sets_of(address, len(data)))
+        refusal.ram_number(len(ram))
+        or refusal.parity_number(len(ram), len(parity))
+        or refusal.external_number(len(ram), address, len(written))
+        or refusal.states_number(directory, steps.sets_of(address, len(written)))
     )
     if number:
         return Result(number)
-    memory.write_bytes(ram, parity, address, data)
-    steps.snoop(directory, address)
+    memory.write_bytes(ram, parity, address, written)
+    steps.invalidate(directory, address)
     return Result(0)
 
 
 def snoop(directory: Directory, address: int) -> Result:
     """A snoop (EADS#) of any 32-bit address; RAM's length has no part in it."""
-    number = refusal.state(directory, [steps.set_of(address)])
+    number = refusal.states_number(directory, [steps.set_of(address)])
     if not number:
-        steps.snoop(directory, address)
+        steps.invalidate(directory, address)
     return Result(number)
 
 
 def flush(directory: Directory) -> Result:
-    """A flush, which no number turns away."""
+    """A flush, which is never refused."""
     steps.flush(directory)
     return Result(0)
 
 
 def control(directory: Directory, cd: bool, nw: bool) -> Result:
     """A control call, with number 9 for the pair CD = 0 and NW = 1."""
-    number = refusal.control(cd, nw)
+    number = refusal.control_number(cd, nw)
     if not number:
         steps.control(directory, cd, nw)
     return Result(number)
@@ -253,10 +253,10 @@ def reset() -> tuple[Result, Directory]:
 def view_number(directory: Directory, ram: bytearray, data: bytearray, address: int) -> int:
     """Rule: "a companion question on the same inputs gives the view's number"."""
     return (
-        refusal.ram_length(len(ram))
-        or refusal.data_array(len(data))
-        or refusal.view(len(ram), address)
-        or refusal.state(directory, [steps.set_of(address)])
+        refusal.ram_number(len(ram))
+        or refusal.data_number(len(data))
+        or refusal.view_address_number(len(ram), address)
+        or refusal.states_number(directory, [steps.set_of(address)])
     )
 
 
@@ -266,10 +266,10 @@ def line_view(directory: Directory, ram: bytearray, data: bytearray, address: in
     RAM's start". A view is no use."""
     if view_number(directory, ram, data, address):
         return Part("ram", 0, 0)
-    way = steps.find(directory, address)
+    way = steps.lookup(directory, address)
     if way is None:
-        return Part("ram", steps.line_of(address), LINE_BYTES)
-    return Part("data", steps.data_start(steps.set_of(address), way), LINE_BYTES)
+        return Part("ram", steps.line_address(address), LINE_BYTES)
+    return Part("data", steps.data_offset(steps.set_of(address), way), LINE_BYTES)
 
 
 def part_bytes(part: Part, ram: bytearray, data: bytearray) -> bytes:

@@ -3,7 +3,7 @@
 from collections.abc import Iterator, Sequence
 from typing import NamedTuple
 
-from .directory import line_of
+from .directory import line_address
 from .memory import DOUBLEWORD_BYTES
 
 # "An access of 1, 2 or 4 bytes" and how many doublewords such an access can touch.
@@ -110,7 +110,7 @@ def plain_cycles(doubleword: Doubleword, group: Sequence[int]) -> list[Cycle]:
 def fill_cycles(doubleword: Doubleword, group: Sequence[int]) -> list[Cycle]:
     """Rule: "Fill: all four bytes of each doubleword of the line (H for the first under BS8# or
     BS16#)", in burst order from the doubleword that missed."""
-    line = line_of(doubleword.address)
+    line = line_address(doubleword.address)
     answers = iter(group)
     made = []
     for offset in BURST_ORDER[doubleword.address - line]:

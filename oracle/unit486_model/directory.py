@@ -10,6 +10,8 @@ WAYS = 4
 SETS = 128
 LINES = SETS * WAYS
 LINE_BYTES = 16
+# The bytes that the sets of one way hold: lines so far apart are of one set.
+WAY_BYTES = SETS * LINE_BYTES
 TAG_LIMIT = 2_097_151
 LRU_LIMIT = 7
 
@@ -30,7 +32,7 @@ class Directory:
 
 def tag_of(address: int) -> int:
     """Rule: "tag = address / 2048"."""
-    return address // (SETS * LINE_BYTES)
+    return address // WAY_BYTES
 
 
 def set_of(address: int) -> int:
@@ -38,32 +40,32 @@ def set_of(address: int) -> int:
     return address // LINE_BYTES % SETS
 
 
-def line_of(address: int) -> int:
-    """The address of the line's byte 0, where "byte = address mod 16"."""
+def line_address(address: int) -> int:
+    """The address of a line's byte 0, where "byte = address mod 16"."""
     return address - address % LINE_BYTES
 
 
 def sets_of(address: int, length: int) -> list[int]:
     """The sets that `length` bytes from `address` touch, the lower address's set first."""
-    return [set_of(line) for line in range(line_of(address), address + length, LINE_BYTES)]
+    return [set_of(line) for line in range(line_address(address), address + length, LINE_BYTES)]
 
 
-def place_of(set_index: int, way: int) -> int:
-    """Rule: "A line is named by set and way 0 to 3": its place among tags and valid marks."""
+def line_index(set_index: int, way: int) -> int:
+    """Rule: "A line is named by set and way 0 to 3": its index among tags and valid marks."""
     return set_index * WAYS + way
 
 
-def data_start(set_index: int, way: int) -> int:
+def data_offset(set_index: int, way: int) -> int:
     """Rule: "Its bytes stand in the lent data array from (set x 4 + way) x 16 (H)"."""
-    return place_of(set_index, way) * LINE_BYTES
+    return line_index(set_index, way) * LINE_BYTES
 
 
-def find(directory: Directory, address: int) -> int | None:
+def lookup(directory: Directory, address: int) -> int | None:
     """The way that holds the address's line, the lowest if several do; None for a miss."""
     tag = tag_of(address)
     for way in range(WAYS):
-        place = place_of(set_of(address), way)
-        if directory.valid[place] and directory.tags[place] == tag:
+        index = line_index(set_of(address), way)
+        if directory.valid[index] and directory.tags[index] == tag:
             return way
     return None
 
@@ -97,7 +99,7 @@ def victim(directory: Directory, set_index: int) -> int:
     """Rule: "The victim is the lowest invalid way (H). If all are valid: B0 = 0 takes way B1;
     B0 = 1 takes way 2 + B2"."""
     for way in range(WAYS):
-        if not directory.valid[place_of(set_index, way)]:
+        if not directory.valid[line_index(set_index, way)]:
             return way
     b0, b1, b2 = lru_bits(directory.lru[set_index])
     return b1 if b0 == 0 else 2 + b2
@@ -110,8 +112,8 @@ def fill(directory: Directory, address: int) -> int:
     """
     set_index = set_of(address)
     way = victim(directory, set_index)
-    directory.tags[place_of(set_index, way)] = tag_of(address)
-    directory.valid[place_of(set_index, way)] = True
+    directory.tags[line_index(set_index, way)] = tag_of(address)
+    directory.valid[line_index(set_index, way)] = True
     use(directory, set_index, way)
     return way
 
@@ -133,18 +135,18 @@ def flush(directory: Directory) -> None:
     directory.valid[:] = [False] * LINES
 
 
-def snoop(directory: Directory, address: int) -> None:
+def invalidate(directory: Directory, address: int) -> None:
     """Rule: "A snoop invalidates the line holding its address. With NW = 1 it changes nothing"."""
-    way = find(directory, address)
+    way = lookup(directory, address)
     if way is not None and not directory.nw:
-        directory.valid[place_of(set_of(address), way)] = False
+        directory.valid[line_index(set_of(address), way)] = False
 
 
-def set_state(directory: Directory, set_index: int) -> int:
+def state_number(directory: Directory, set_index: int) -> int:
     """Rule: "21. Two valid lines with one tag. 22. A valid tag above 2,097,151. 23. LRU number
     above 7." 0 for a set with nothing wrong."""
-    places = [place_of(set_index, way) for way in range(WAYS)]
-    tags = [directory.tags[place] for place in places if directory.valid[place]]
+    indexes = [line_index(set_index, way) for way in range(WAYS)]
+    tags = [directory.tags[index] for index in indexes if directory.valid[index]]
     if len(set(tags)) < len(tags):
         return 21
     if any(tag > TAG_LIMIT for tag in tags):

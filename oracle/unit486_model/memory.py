@@ -15,7 +15,7 @@ def parity_length(ram_length: int) -> int:
     return ram_length // DOUBLEWORD_BYTES
 
 
-def dp_of(byte: int) -> int:
+def dp_bit(byte: int) -> int:
     """Rule: "Even parity: a byte and its DP bit together have an even number of ones"."""
     return byte.bit_count() % 2
 
@@ -23,7 +23,7 @@ def dp_of(byte: int) -> int:
 def parity_wrong(ram: bytearray, parity: bytearray, address: int) -> bool:
     """Whether the byte at the address and its DP bit have an odd number of ones."""
     dp = parity[address // DOUBLEWORD_BYTES] >> address % DOUBLEWORD_BYTES & 1
-    return dp != dp_of(ram[address])
+    return dp != dp_bit(ram[address])
 
 
 def parity_agrees(ram: bytearray, parity: bytearray) -> bool:
@@ -35,7 +35,7 @@ def parity_for(ram: bytearray) -> bytearray:
     """The parity array that agrees with RAM, its upper four bits 0."""
     parity = bytearray(parity_length(len(ram)))
     for address, byte in enumerate(ram):
-        parity[address // DOUBLEWORD_BYTES] |= dp_of(byte) << address % DOUBLEWORD_BYTES
+        parity[address // DOUBLEWORD_BYTES] |= dp_bit(byte) << address % DOUBLEWORD_BYTES
     return parity
 
 
@@ -45,14 +45,14 @@ def write_byte(ram: bytearray, parity: bytearray, address: int, byte: int) -> No
     "bits 0 to 3 are DP0 to DP3, the upper four are ignored and become 0 when that byte is
     written."
     """
-    place, lane = divmod(address, DOUBLEWORD_BYTES)
+    index, lane = divmod(address, DOUBLEWORD_BYTES)
     ram[address] = byte
-    parity[place] = parity[place] & DP_BITS & ~(1 << lane) | dp_of(byte) << lane
+    parity[index] = parity[index] & DP_BITS & ~(1 << lane) | dp_bit(byte) << lane
 
 
-def write_bytes(ram: bytearray, parity: bytearray, address: int, data: bytes) -> None:
+def write_bytes(ram: bytearray, parity: bytearray, address: int, written: bytes) -> None:
     """Put bytes into RAM from the address on and set their parity."""
-    for offset, byte in enumerate(data):
+    for offset, byte in enumerate(written):
         write_byte(ram, parity, address + offset, byte)
 
 

@@ -9,7 +9,7 @@ from collections.abc import Sequence
 from dataclasses import dataclass
 
 from . import refusal
-from .directory import LINE_BYTES, line_of
+from .directory import LINE_BYTES, line_address
 
 
 @dataclass
@@ -22,7 +22,7 @@ class PlainMemory:
         self, address: int, width: int, pcd: bool, answers: Sequence[int], log: int
     ) -> tuple[int, int]:
         """Rule: "a read gives its bytes", taken little-endian; number and value."""
-        number = refusal.access(len(self.bytes_held), address, width, answers, log)
+        number = refusal.argument_number(len(self.bytes_held), address, width, answers, log)
         if number:
             return number, 0
         return 0, int.from_bytes(self.bytes_held[address : address + width], "little")
@@ -31,29 +31,29 @@ class PlainMemory:
         self, address: int, width: int, value: int, answers: Sequence[int], log: int
     ) -> int:
         """Rule: "A write ... replaces its bytes"."""
-        number = refusal.access(len(self.bytes_held), address, width, answers, log, value)
+        number = refusal.argument_number(len(self.bytes_held), address, width, answers, log, value)
         if not number:
             self.bytes_held[address : address + width] = value.to_bytes(width, "little")
         return number
 
-    def external_write(self, address: int, data: bytes) -> int:
+    def external_write(self, address: int, written: bytes) -> int:
         """Rule: "A write or external write replaces its bytes"."""
-        number = refusal.external(len(self.bytes_held), address, len(data))
+        number = refusal.external_number(len(self.bytes_held), address, len(written))
         if not number:
-            self.bytes_held[address : address + len(data)] = data
+            self.bytes_held[address : address + len(written)] = written
         return number
 
     def view(self, address: int) -> tuple[int, bytes]:
         """Rule: "a view gives its sixteen"."""
-        number = refusal.view(len(self.bytes_held), address)
+        number = refusal.view_address_number(len(self.bytes_held), address)
         if number:
             return number, b""
-        start = line_of(address)
+        start = line_address(address)
         return 0, bytes(self.bytes_held[start : start + LINE_BYTES])
 
     def control(self, cd: bool, nw: bool) -> int:
         """Rule: "snoop, flush, control and reset do nothing"."""
-        return refusal.control(cd, nw)
+        return refusal.control_number(cd, nw)
 
     def snoop(self, address: int) -> int:
         """Rule: "snoop, flush, control and reset do nothing"."""

@@ -1,4 +1,4 @@
-"""Turned away: the numbers of the input, then those of the state.
+"""Refused calls: the numbers of the input, then those of the state.
 
 Each function gives the lowest number met, or 0. A call joins those for the things it
 receives with `or`, which keeps "Lowest number first, this list before the next".
@@ -7,28 +7,28 @@ receives with `or`, which keeps "Lowest number first, this list before the next"
 from collections.abc import Sequence
 
 from .bus import ANSWER_LIMIT, ANSWERS, LOG_WORDS, WIDTHS
-from .directory import LINE_BYTES, LINES, Directory, set_state
+from .directory import LINE_BYTES, LINES, Directory, state_number
 from .memory import RAM_LEAST, RAM_MOST, RAM_STEP, parity_length
 
 DATA_BYTES = LINES * LINE_BYTES
 
 
-def ram_length(ram: int) -> int:
+def ram_number(ram: int) -> int:
     """Rule: "1. RAM length": "16 to 16,777,216 bytes, a multiple of 16"."""
     return 0 if RAM_LEAST <= ram <= RAM_MOST and ram % RAM_STEP == 0 else 1
 
 
-def parity_array(ram: int, parity: int) -> int:
+def parity_number(ram: int, parity: int) -> int:
     """Rule: "2. Parity length is not RAM / 4"."""
     return 0 if parity == parity_length(ram) else 2
 
 
-def data_array(data: int) -> int:
+def data_number(data: int) -> int:
     """Rule: "3. Data array is not 8,192 bytes"."""
     return 0 if data == DATA_BYTES else 3
 
 
-def access(
+def argument_number(
     ram: int,
     address: int,
     width: int,
@@ -50,17 +50,17 @@ def access(
     return 0
 
 
-def view(ram: int, address: int) -> int:
+def view_address_number(ram: int, address: int) -> int:
     """Rule: "5. ... (view: address not in RAM)"."""
     return 0 if address < ram else 5
 
 
-def control(cd: bool, nw: bool) -> int:
+def control_number(cd: bool, nw: bool) -> int:
     """Rule: "9. A control call with CD = 0 and NW = 1"."""
     return 9 if nw and not cd else 0
 
 
-def external(ram: int, address: int, count: int) -> int:
+def external_number(ram: int, address: int, count: int) -> int:
     """Rule: "10. External write empty, over 16 bytes, across lines or beyond RAM"."""
     if count == 0 or count > LINE_BYTES:
         return 10
@@ -69,11 +69,11 @@ def external(ram: int, address: int, count: int) -> int:
     return 10 if address + count > ram else 0
 
 
-def state(directory: Directory, sets: list[int]) -> int:
+def states_number(directory: Directory, sets: list[int]) -> int:
     """Rule: "Checked in every touched set, the lower address's set first ... All of one set comes
     before the next set"."""
     for set_index in sets:
-        number = set_state(directory, set_index)
+        number = state_number(directory, set_index)
         if number:
             return number
     return 0

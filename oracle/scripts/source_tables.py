@@ -10,7 +10,7 @@ from unit486_model.bus import BS8, BS16, FILL, GROUP, LAST
 
 from checks.vectors import BURST_TABLE, SIZING
 
-Marks = list[tuple[int, int]]
+AddressFlags = list[tuple[int, int]]
 
 BURST_ORDERS = {
     order[0]: order
@@ -18,7 +18,7 @@ BURST_ORDERS = {
 }
 
 
-def masks(wanted: int, answers: Iterator[int]) -> list[int]:
+def moved_lanes(wanted: int, answers: Iterator[int]) -> list[int]:
     """The lanes that each cycle moves, by tables 3-10/7-1 (BS16#) and 3-11/7-2 (BS8#)."""
     made = []
     while wanted:
@@ -29,33 +29,33 @@ def masks(wanted: int, answers: Iterator[int]) -> list[int]:
     return made
 
 
-def plain_marks(address: int, width: int, answers: Sequence[int], kind: int = 0) -> Marks:
+def plain_records(address: int, width: int, answers: Sequence[int], kind: int = 0) -> AddressFlags:
     """Address and flags of each record of an access that is no fill."""
-    made: Marks = []
+    made: AddressFlags = []
     lane, start = address % 4, address - address % 4
     wanted = (2**width - 1) << lane
     for index, lanes in enumerate((wanted & 15, wanted >> 4)):
-        flags = [mask + kind for mask in masks(lanes, iter(answers[GROUP * index :]))]
-        made += last_marked([(start + 4 * index, flag) for flag in flags])
+        flags = [moved + kind for moved in moved_lanes(lanes, iter(answers[GROUP * index :]))]
+        made += with_last([(start + 4 * index, flag) for flag in flags])
     return made
 
 
-def fill_marks(address: int, group: Sequence[int]) -> Marks:
+def fill_records(address: int, group: Sequence[int]) -> AddressFlags:
     """Address and flags of each record of a fill, by tables 3-9, 3-10/7-1 and 3-11/7-2."""
     line, answers = address - address % 16, iter(group)
     start = address % 16 - address % 4
-    return last_marked(
+    return with_last(
         [
-            (line + offset, mask + FILL)
+            (line + offset, moved + FILL)
             for offset in BURST_ORDERS[start]
-            for mask in masks(15, answers)
+            for moved in moved_lanes(15, answers)
         ]
     )
 
 
-def last_marked(marks: Marks) -> Marks:
+def with_last(records: AddressFlags) -> AddressFlags:
     """The last of them with 64."""
     return [
-        (address, flags + (LAST if index == len(marks) - 1 else 0))
-        for index, (address, flags) in enumerate(marks)
+        (address, flags + (LAST if index == len(records) - 1 else 0))
+        for index, (address, flags) in enumerate(records)
     ]

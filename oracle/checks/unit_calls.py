@@ -1,4 +1,4 @@
-"""A unit on the bench: its calls with the usual arguments, and how a result is checked."""
+"""What the checks share: a unit, its calls with the usual arguments, how a result is checked."""
 
 from collections import Counter
 from collections.abc import Sequence
@@ -8,13 +8,14 @@ from unit486_model import access, memory
 from unit486_model import directory as steps
 from unit486_model.access import Part, Result
 from unit486_model.bus import ANSWERS, DOUBLEWORDS, GROUP, KEN, LOG_WORDS
-from unit486_model.directory import place_of
+from unit486_model.directory import Directory, line_index
 from unit486_model.events import Unit
 from unit486_model.refusal import DATA_BYTES
 
 RAM_BYTES = 0x4000
-KEPT = [KEN] * ANSWERS
+ALL_KEN = [KEN] * ANSWERS
 NO_KEN = [0] * ANSWERS
+BAD_WIDTHS = (0, 3, 5, 8, 4_294_967_295)
 
 
 class Mismatch(Exception):
@@ -42,7 +43,7 @@ def read(
     unit: Unit,
     address: int,
     width: int,
-    answers: Sequence[int] = tuple(KEPT),
+    answers: Sequence[int] = tuple(ALL_KEN),
     pcd: bool = False,
     log: list[int] | None = None,
 ) -> Result:
@@ -56,7 +57,7 @@ def write(
     address: int,
     width: int,
     value: int,
-    answers: Sequence[int] = tuple(KEPT),
+    answers: Sequence[int] = tuple(ALL_KEN),
     log: list[int] | None = None,
 ) -> Result:
     log = [0] * LOG_WORDS if log is None else log
@@ -64,8 +65,8 @@ def write(
     return access.write(*lent, address, width, value, answers, log)
 
 
-def external(unit: Unit, address: int, data: bytes) -> Result:
-    return access.external_write(unit.directory, unit.ram, unit.parity, address, data)
+def external(unit: Unit, address: int, written: bytes) -> Result:
+    return access.external_write(unit.directory, unit.ram, unit.parity, address, written)
 
 
 def view(unit: Unit, address: int) -> tuple[int, Part]:
@@ -73,9 +74,13 @@ def view(unit: Unit, address: int) -> tuple[int, Part]:
     return access.view_number(*lent, address), access.line_view(*lent, address)
 
 
-def plant(unit: Unit, set_index: int, way: int, tag: int) -> None:
-    unit.directory.tags[place_of(set_index, way)] = tag
-    unit.directory.valid[place_of(set_index, way)] = True
+def store_line(unit: Unit, set_index: int, way: int, tag: int) -> None:
+    unit.directory.tags[line_index(set_index, way)] = tag
+    unit.directory.valid[line_index(set_index, way)] = True
+
+
+def valid_and_tags(directory: Directory) -> list[tuple[bool, int]]:
+    return list(zip(directory.valid, directory.tags))
 
 
 def snapshot(unit: Unit) -> tuple[Any, ...]:
@@ -85,7 +90,7 @@ def snapshot(unit: Unit) -> tuple[Any, ...]:
     return (*kept, bytes(unit.ram), bytes(unit.parity), bytes(unit.data))
 
 
-def ram_number(length: int) -> int:
+def number_with_ram(length: int) -> int:
     """The number of a read where RAM has this length, all else being right."""
     unit = Unit(steps.reset(), bytearray(length), bytearray(length // 4), bytearray(DATA_BYTES))
     return read(unit, 0, 4).number
@@ -95,12 +100,12 @@ def flags(result: Result) -> list[int]:
     return [record.flags for record in result.records]
 
 
-def marks(result: Result) -> list[tuple[int, int]]:
+def address_flags(result: Result) -> list[tuple[int, int]]:
     return [(record.address, record.flags) for record in result.records]
 
 
 def held(unit: Unit, address: int) -> int | None:
-    return steps.find(unit.directory, address)
+    return steps.lookup(unit.directory, address)
 
 
 def answers_of(*given: Sequence[int]) -> list[int]:

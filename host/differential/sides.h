@@ -1,7 +1,6 @@
 // All that calls are lent, twice: once for the library, once for the baseline.
 #pragma once
 
-#include <cstdio>
 #include <cstring>
 #include <string>
 #include <vector>
@@ -79,7 +78,7 @@ inline std::string directory_difference(const unit486_directory &library, const 
     return "CD or NW";
 }
 
-struct World {
+struct Sides {
     Side library, baseline;
 
     // The same change on both sides, outside of any call.

@@ -1,13 +1,14 @@
 """What the program `replay` does with a script line and prints for it, done on the model.
 
-A line is a letter and its fields, a blank before each. Numbers are decimal.
+A line is a letter and its fields, a blank before each. Numbers are decimal. The index of T and K
+is that of a line, set x 4 + way; the index of P is that of a parity byte.
 
     N ram parity data log seed seed   a new unit: four lengths, the seeds of RAM and data array
-    T place tag                       the directory's fields, stored without a call
-    K place mark
+    T index tag                       the directory's fields, stored without a call
+    K index mark
     L set number
     M cd nw
-    P place mask                      the parity byte, exclusive-or the mask
+    P index mask                      the parity byte, exclusive-or the mask
     R address width pcd answers       calls; answers are digits, one for each answer
     W address width value answers
     r address width pcd               a read and a write with the board's answers
@@ -62,23 +63,23 @@ def agreeing_parity(ram: bytearray, length: int) -> bytearray:
     """Parity that agrees with RAM, as far as either goes: the lengths need not match."""
     parity = bytearray(length)
     for address, byte in enumerate(ram[: 4 * length]):
-        parity[address // 4] |= memory.dp_of(byte) << address % 4
+        parity[address // 4] |= memory.dp_bit(byte) << address % 4
     return parity
 
 
 def fresh_log(words: int) -> list[int]:
-    return [LOG_PATTERN + place for place in range(words)]
+    return [LOG_PATTERN + index for index in range(words)]
 
 
 def directory_bytes(directory: Directory) -> bytes:
     """Tags as four bytes each, valid marks, LRU numbers, CD and NW as one each."""
     tags = struct.pack(f"<{len(directory.tags)}I", *directory.tags)
-    marks = bytes((directory.cd, directory.nw))
-    return tags + bytes(directory.valid) + bytes(directory.lru) + marks
+    control_bits = bytes((directory.cd, directory.nw))
+    return tags + bytes(directory.valid) + bytes(directory.lru) + control_bits
 
 
 @dataclass
-class Player:
+class ScriptUnit:
     """A unit with its log, on which lines are run."""
 
     unit: Unit
@@ -91,7 +92,7 @@ class Player:
         seen = (directory_bytes(self.unit.directory), *parts)
         return [f"{zlib.adler32(part):08x}" for part in seen]
 
-    def play(self, line: str) -> tuple[Result | None, str]:
+    def run_line(self, line: str) -> tuple[Result | None, str]:
         """Run one line: a call's result, and the row that it prints."""
         letter, *fields = line.split(" ")
         if letter == "B":
@@ -108,18 +109,18 @@ class Player:
         row = _row(letter, result.number, result.value, result.cycles, *words, *self.digests())
         return result, row
 
-    def _store(self, letter: str, place: int, value: int) -> None:
+    def _store(self, letter: str, index: int, value: int) -> None:
         directory = self.unit.directory
         if letter == "T":
-            directory.tags[place] = value
+            directory.tags[index] = value
         elif letter == "K":
-            directory.valid[place] = bool(value)
+            directory.valid[index] = bool(value)
         elif letter == "L":
-            directory.lru[place] = value
+            directory.lru[index] = value
         elif letter == "M":
-            directory.cd, directory.nw = bool(place), bool(value)
+            directory.cd, directory.nw = bool(index), bool(value)
         else:
-            self.unit.parity[place] ^= value
+            self.unit.parity[index] ^= value
 
     def _call(self, letter: str, fields: list[str]) -> Result:
         if letter in "RrWw":
@@ -159,15 +160,15 @@ class Player:
         return access.write(*lent, third, answers, self.log)
 
 
-def new_player(line: str) -> tuple[Player, str]:
+def new_script_unit(line: str) -> tuple[ScriptUnit, str]:
     """A new unit after reset, by its line, and the row that it prints."""
     letter, *fields = line.split(" ")
     ram_length, parity_length, data_length, log_length, *seeds = (int(field) for field in fields)
     ram = contents(seeds[0], ram_length)
     parity = agreeing_parity(ram, parity_length)
     unit = Unit(steps.reset(), ram, parity, contents(seeds[1], data_length))
-    player = Player(unit, fresh_log(log_length))
-    return player, _row(letter, *player.digests())
+    script_unit = ScriptUnit(unit, fresh_log(log_length))
+    return script_unit, _row(letter, *script_unit.digests())
 
 
 def _row(*fields: str | int) -> str:

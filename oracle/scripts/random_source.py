@@ -7,7 +7,7 @@ from typing import TypeVar
 T = TypeVar("T")
 
 
-class Source:
+class RandomSource:
     """Choices built on `random()` alone, the only method whose sequence Python promises to keep
     from version to version for one seed."""
 
