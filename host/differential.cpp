@@ -3,15 +3,32 @@
 //
 //     differential [CALLS [SEED]]     at least so many calls; 2000000 and 1 if not given
 //
-// It ends with 1 at the first difference, and also where a number or a condition was never met.
+// It ends with 1 at the first difference, and also where a number or a condition was never met; with 2
+// where an argument is no number.
 #include <cinttypes>
 #include <cstdio>
 #include <cstdlib>
+#include <cstring>
 
 #include "differential/series.h"
 
+namespace {
+
+// At most ten digits, so that no number is too large.
+bool is_number(const char *word)
+{
+    const size_t digits = std::strspn(word, "0123456789");
+    return digits > 0 && digits <= 10 && word[digits] == 0;
+}
+
+} // namespace
+
 int main(int count, char **words)
 {
+    if (count > 3 || (count > 1 && !is_number(words[1])) || (count > 2 && !is_number(words[2]))) {
+        std::fprintf(stderr, "usage: differential [CALLS [SEED]]\n");
+        return 2;
+    }
     const uint64_t calls = count > 1 ? std::strtoull(words[1], nullptr, 10) : 2000000;
     const uint64_t seed = count > 2 ? std::strtoull(words[2], nullptr, 10) : 1;
     Coverage coverage;

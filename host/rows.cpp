@@ -213,11 +213,15 @@ void print_calls(const std::string &name)
 int main(int count, char **words)
 {
     if (count < 2 || (std::strcmp(words[1], "events") && std::strcmp(words[1], "calls"))) {
-        std::fprintf(stderr, "rows events FILE.. | rows calls FILE..\n");
+        std::fprintf(stderr, "usage: rows events FILE.. | rows calls FILE..\n");
         return 2;
     }
     for (int k = 2; k < count; ++k) {
         const std::string name = words[k];
+        if (!std::ifstream(name)) {
+            std::fprintf(stderr, "rows: cannot read %s\n", name.c_str());
+            return 2;
+        }
         std::printf("%s\n", name.substr(name.rfind('/') + 1).c_str());
         std::strcmp(words[1], "events") == 0 ? print_events(name) : print_calls(name);
     }

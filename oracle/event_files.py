@@ -7,6 +7,7 @@ import sys
 from collections.abc import Callable
 from functools import cache
 
+from checks.unit_calls import run_script
 from inputs.boundaries import boundary_files
 from inputs.endings import ending_files, example_file
 from inputs.hot import hot_files
@@ -52,4 +53,4 @@ def main(words: list[str]) -> int:
 
 
 if __name__ == "__main__":
-    sys.exit(main(sys.argv[1:]))
+    sys.exit(run_script(main))

@@ -11,15 +11,24 @@ from pathlib import Path
 import event_files
 import replay
 import tables
+from checks.unit_calls import run_script
+from unit486_model import events
+
+ROOT = Path(__file__).resolve().parent.parent
+
+
+def sample_rows() -> bytes:
+    """What the program prints for README's sample."""
+    return events.run((ROOT / "samples/batch.events").read_bytes())
+
 
 # An event file may have any bytes; the others are text.
 EXPECTATIONS: list[tuple[str, Callable[[], str | bytes]]] = [
     ("crates/directory_tables/stdout", tables.directory_tables),
     *replay.expectations(),
     *event_files.expectations(),
+    ("samples/batch.rows", sample_rows),
 ]
-
-ROOT = Path(__file__).resolve().parent.parent
 
 
 def bytes_of(generated: str | bytes) -> bytes:
@@ -66,4 +75,4 @@ def main(words: list[str]) -> int:
 
 
 if __name__ == "__main__":
-    sys.exit(main(sys.argv[1:]))
+    sys.exit(run_script(main))

@@ -7,6 +7,7 @@ import sys
 from collections.abc import Callable
 from functools import cache
 
+from checks.unit_calls import run_script
 from scripts.bench import bench
 from scripts.board import board
 from scripts.burst import burst
@@ -56,4 +57,4 @@ def main(words: list[str]) -> int:
 
 
 if __name__ == "__main__":
-    sys.exit(main(sys.argv[1:]))
+    sys.exit(run_script(main))

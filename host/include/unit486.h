@@ -1,21 +1,25 @@
-/* The 486 cache and bus unit, for a host in C (C11) or C++ (C++17).
+/* The 486 cache and bus unit, for a host in C (C11) or C++ (C++17). The rules are document 01's.
 
    Link with target/staticlib/libhost.a, which `rt staticlib host` writes for x86-64. The unit keeps
-   nothing between calls: each works on what the caller lends it for the time of that call.
+   nothing between calls: each works on what the caller lends it for the time of that call, so that calls
+   on different directories and buffers may run at the same time.
 
    WHO OWNS WHAT. All of it is the caller's:
 
      directory   unit486_directory; a new one comes from unit486_reset (CD = NW = 1, nothing held)
      RAM         16 to 16,777,216 bytes, a multiple of 16
-     parity      one byte for each four bytes of RAM; bits 0 to 3 are DP0 to DP3, even parity
+     parity      one byte for each four bytes of RAM; bits 0 to 3 are DP0 to DP3, even parity. Zero bytes
+                 agree with zero parity; a host that loads RAM itself sets the parity too, or loads by
+                 external writes. Wrong parity sets flag 128 and never alters data
      data array  8,192 bytes: the line of a set and a way stands from (set * 4 + way) * 16
      answers     32 bytes, one for each cycle: 1 for KEN# + 2 for BS8# + 4 for BS16#; 0 to 15 serve the
                  lower doubleword of an access, 16 to 31 the upper one
-     log         96 words or more; each cycle leaves three: doubleword address, flags, data
+     log         96 words or more; each cycle leaves three: doubleword address, flags, and data, where byte
+                 k of the doubleword stands in bits 8k to 8k + 7 and unmoved bytes are 0
 
-   Lengths are in elements; a call with a wrong one is refused by its number. What is lent must be
-   there for its whole length, no pointer may be null even where its length is 0, and no two things lent
-   to one call may overlap. After the call all of it is the caller's again.
+   Lengths are in elements; a call with a wrong one is refused by its number. Each pointer is aligned as
+   its type asks, not null even where its length is 0, and there for its whole length; nothing that a call
+   may change overlaps anything else lent to it. After the call all of it is the caller's again.
 
    NUMBERS. 0: done. Else nothing lent has changed, the directory is as it was given, and value and
    count are 0. Lowest first, 1 to 10 before 21 to 23; where two sets are touched, all of the lower
@@ -121,14 +125,16 @@ static_assert(sizeof(unit486_result) == 12, "layout of a result");
 /* All 512 lines invalid, tags and LRU numbers 0, CD = NW = 1. Never refused. */
 unit486_outcome unit486_reset(void);
 
-/* CD and NW as given, or 9. */
+/* CD and NW as given, or 9. With NW = 1 a snoop drops nothing, so that held lines may go stale: that reads
+   agree with memory is not claimed then. */
 unit486_outcome unit486_control(unit486_directory given, bool cd, bool nw);
 
 /* A snoop on the whole directory in the caller's hands: the line that holds the address becomes invalid
    unless NW = 1. Any address is taken. 0, or 21 to 23. */
 uint32_t unit486_drop_line(unit486_directory *directory, uint32_t address);
 
-/* A read of 1, 2 or 4 bytes, little-endian; they may lie in two doublewords or two lines. */
+/* A read of 1, 2 or 4 bytes, little-endian; they may lie in two doublewords or two lines. A miss fills its
+   line where cd = 0, pcd = 0 and the first cycle has KEN#; the fill is kept where the last has it too. */
 unit486_result unit486_read_in_place(
     uint32_t *tags, bool *valid, uint8_t *lru, bool cd,
     const uint8_t *ram, size_t ram_length, const uint8_t *parity, size_t parity_length,
@@ -163,14 +169,14 @@ uint32_t unit486_view_number(
 
 /* A line view: the sixteen bytes around the address, of the data array where the line is held,
    otherwise of RAM, copied into shown. The copy is of this moment: later calls do not change it, and
-   storing into it changes neither the data array nor RAM. A view is no use of the line. Answers the
-   view's number; where it is not 0, shown is unchanged. */
+   storing into it changes neither the data array nor RAM. A view is no use of the line. shown has room for
+   sixteen bytes. Answers the view's number; where it is not 0, shown is unchanged. */
 uint32_t unit486_view(
     const uint32_t *tags, const bool *valid, const uint8_t *lru,
     const uint8_t *ram, size_t ram_length, const uint8_t *data, size_t data_length, uint32_t address,
     uint8_t *shown);
 
-/* The board table's 32 answers for an access. */
+/* The board table's 32 answers for an access, into answers. */
 void unit486_board_answers(uint32_t address, uint32_t width, uint8_t *answers);
 
 /* The event program on lines in memory: puts as much of the output as fits, answers its whole length

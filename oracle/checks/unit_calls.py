@@ -1,7 +1,9 @@
 """What the checks share: a unit, its calls with the usual arguments, how a result is checked."""
 
+import sys
 from collections import Counter
-from collections.abc import Sequence
+from collections.abc import Callable, Sequence
+from pathlib import Path
 from typing import Any
 
 from unit486_model import access, memory
@@ -28,7 +30,18 @@ done = Counter[str]()
 def check(what: str, got: Any, expected: Any) -> None:
     done["checks"] += 1
     if got != expected:
-        raise Mismatch(f"{what}: got {got!r}, expected {expected!r}")
+        caller = sys._getframe(1)
+        place = f"{Path(caller.f_code.co_filename).name}:{caller.f_lineno}"
+        raise Mismatch(f"{place}: {what}: got {got!r}, expected {expected!r}")
+
+
+def run_script(main: Callable[[list[str]], int]) -> int:
+    """A mismatch ends a script with one line and 1."""
+    try:
+        return main(sys.argv[1:])
+    except Mismatch as mismatch:
+        print(mismatch, file=sys.stderr)
+        return 1
 
 
 def unit_of(ram_bytes: int = RAM_BYTES, cd: bool = False, nw: bool = False) -> Unit:
