@@ -2,5 +2,4 @@
 -- `AccessLoop` alone is no rule: it says what the code's own state between doublewords stands for.
 pub mod Access
 pub mod Masters
-pub mod Board
 pub mod AccessLoop

@@ -1,13 +1,11 @@
-// The calls by value: reads, writes, other masters, control, flush and reset; and the board's answers.
+// The calls by value: reads, writes, other masters, control, flush and reset.
 // RAM, parity array, data array, answers and log are lent by the caller.
-mod board;
 mod cursor;
 mod master;
 mod outcome;
 mod reading;
 mod writing;
 
-pub use board::board_answers;
 pub use cursor::AccessCursor;
 pub use cursor::StepResult;
 pub use master::control;

@@ -9,7 +9,7 @@ use Rattle.laws.proofs.Below.{four}
 use Rattle.memory.proofs.Places.{zeros-at}
 use Rattle.memory.specs.Parity.{memory, Agrees, dpAt, laneBit, dpOf, onesOf}
 use Rattle.access.specs.Access.{State}
-use Rattle.access.specs.Board.{boardAnswers}
+use Rattle.board.specs.Board.{boardAnswers}
 use Rattle.refusal.specs.Refusal.{lentNumber, memoryNumber}
 use Rattle.lines.specs.declared.scanning.Event.{Event}
 use Rattle.lines.specs.declared.scanning.Event.the-variants.{Malformed, Read, Write, External, Snoop, Flush, Control, Reset}

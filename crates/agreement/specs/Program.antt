@@ -6,7 +6,7 @@ use mathlib.Core.List.{List, [], _∷_, _++_}
 use lib.Dec.{ltb}
 use lib.ListN.{length, getD, drop, replicate}
 use Rattle.access.specs.Access.{State}
-use Rattle.access.specs.Board.{boardAnswers}
+use Rattle.board.specs.Board.{boardAnswers}
 use Rattle.lines.specs.declared.scanning.Event.{Event}
 use Rattle.lines.specs.declared.scanning.Event.the-variants.{Malformed, Read, Write, External, Snoop, Flush, Control, Reset}
 use Rattle.lines.specs.Fields.{pairBytes, linesOf}

@@ -7,7 +7,7 @@ use Rattle.memory.specs.Parity.{Memory}
 use Rattle.access.specs.declared.outcome.Outcome.{Outcome}
 use Rattle.access.specs.Access.{State, After, outcome, readCall, writeCall}
 use Rattle.access.specs.Masters.{Written, externalCall, snoopOutcome, controlOutcome, flushOutcome, resetOutcome}
-use Rattle.access.specs.Board.{boardAnswers}
+use Rattle.board.specs.Board.{boardAnswers}
 use Rattle.lines.specs.declared.scanning.Event.{Event}
 use Rattle.lines.specs.declared.scanning.Event.the-variants.{Malformed, Read, Write, External, Snoop, Flush, Control, Reset}
 use Rattle.lines.specs.Fields.{pairBytes}

@@ -4,7 +4,7 @@ ghost use Prim.Native.Nat.{_≤_};
 ghost use lib.ListN.{length};
 ghost use Rattle.memory.specs.Parity.{memory};
 ghost use Rattle.access.specs.Access.{outcome, readCall, state, writeCall};
-ghost use Rattle.access.specs.Board.{boardAnswers};
+ghost use Rattle.board.specs.Board.{boardAnswers};
 ghost use Rattle.access.specs.Masters.{externalCall, written};
 ghost use Rattle.lines.specs.Fields.{pairBytes};
 ghost use Rattle.events.specs.Perform.{accessEvent, zeroLog, lineDone, performed};
@@ -68,7 +68,7 @@ fn perform_read(
     ensures { λ r. ⌜ performed r (memory (now (ram .entry)) (now (parity .entry))) (now («data» .exit))
         ≡ accessEvent (readCall (state given (memory (now (ram .entry)) (now (parity .entry))) (now («data» .entry))) address width pcd (boardAnswers address width) zeroLog) ⌝ }
 {
-    let answers = access::board_answers(address, width);
+    let answers = board::board_answers(address, width);
     let mut log = [0u32; 96];
     access::read(
         given,
@@ -96,7 +96,7 @@ fn perform_write(
     ensures { λ r. ⌜ performed r (memory (now (ram .exit)) (now (parity .exit))) (now («data» .exit))
         ≡ accessEvent (writeCall (state given (memory (now (ram .entry)) (now (parity .entry))) (now («data» .entry))) address width value (boardAnswers address width) zeroLog) ⌝ }
 {
-    let answers = access::board_answers(address, width);
+    let answers = board::board_answers(address, width);
     let mut log = [0u32; 96];
     access::write(
         given,

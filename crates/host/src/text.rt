@@ -3,14 +3,14 @@ ghost use mathlib.Core.Path.{_≡_};
 ghost use Prim.Native.Nat.{_≤_};
 ghost use lib.ListN.{length};
 ghost use lib.Seq.{sets};
-ghost use Rattle.access.specs.Board.{boardAnswers};
+ghost use Rattle.board.specs.Board.{boardAnswers};
 ghost use Rattle.events.specs.Output.{outputOf};
 
 #[no_mangle]
 pub extern "C" fn unit486_board_answers(address: u32, width: u32, answers: &mut [u8; 32])
     ensures { λ _. ⌜ now (answers .exit) ≡ boardAnswers address width ⌝ }
 {
-    *answers = access::board_answers(address, width);
+    *answers = board::board_answers(address, width);
 }
 
 // Answers the length of the whole output, of which as much is put at the start of output as it has room for.

@@ -1,8 +1,8 @@
-use Rattle.access.specs.Board.{answerAt}
+use Rattle.board.specs.Board.{answerAt}
 use mathlib.Core.Path.{refl}
 use borrow.Author.Needs.{needs}
-use Rattle.access.proofs.board.answer_at.Statement.{statement}
-use Rattle.access.proofs.board.answer_at.Tie as tie
+use Rattle.board.proofs.answer_at.Statement.{statement}
+use Rattle.board.proofs.answer_at.Tie as tie
 
 array-read-result : tie.Need-array-read-result
 array-read-result c = search needs

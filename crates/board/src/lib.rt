@@ -1,7 +1,7 @@
-// The board's answers for an access.
+// The board table: the board's answers for an access.
 ghost use mathlib.Core.Path.{_≡_};
 ghost use Prim.Native.Nat.{_+_};
-ghost use Rattle.access.specs.Board.{answerAt, boardAnswers, upperAddress};
+ghost use Rattle.board.specs.Board.{answerAt, boardAnswers, upperAddress};
 use refusal::bad_width;
 
 // The answer of each 1 MiB block.

@@ -1,9 +1,9 @@
-use Rattle.access.specs.Board.{upperAddress}
+use Rattle.board.specs.Board.{upperAddress}
 use mathlib.Core.Path.{sym, _∙_}
 use borrow.Author.Tests.{lt-ltb, le-ltb}
 use borrow.Author.Needs.{needs}
-use Rattle.access.proofs.board.upper_address.Statement.{statement}
-use Rattle.access.proofs.board.upper_address.Tie as tie
+use Rattle.board.proofs.upper_address.Statement.{statement}
+use Rattle.board.proofs.upper_address.Tie as tie
 
 bad-width-requires : tie.Need-bad-width-requires
 bad-width-requires c κs = search needs

@@ -1,13 +1,13 @@
-use Rattle.access.specs.Board.{boardAnswers}
+use Rattle.board.specs.Board.{boardAnswers}
 use mathlib.Core.Path.{_≡_, sym, _∙_}
 use Prim.Native.Nat.{_≤_, _-_}
 use native.Mathlib.Omega.{arith}
-use Rattle.access.proofs.Filling.{filledFrom, fill-all, fill-one, fill-none}
-use Rattle.access.proofs.board.board_answers.Statement.{statement}
-use Rattle.access.proofs.board.board_answers.Tie as tie
+use Rattle.board.proofs.Answers.{storedFrom, stored-all, stored-one, stored-none}
+use Rattle.board.proofs.board_answers.Statement.{statement}
+use Rattle.board.proofs.board_answers.Tie as tie
 
 abbrev Inv-loop : tie.InvT-loop
-Inv-loop address width lower upper answers₀ k₀ answers k = (k ≤ 32) × (filledFrom k upper answers ≡ boardAnswers address width)
+Inv-loop address width lower upper answers₀ k₀ answers k = (k ≤ 32) × (storedFrom k upper answers ≡ boardAnswers address width)
 
 abbrev μ-loop : tie.MeasureT-loop
 μ-loop address width lower upper answers₀ k₀ answers k = 32 - k
@@ -23,7 +23,7 @@ answer-at-requires-2 c κs = tt
 
 loop-holds : tie.Need-loop-holds Inv-loop μ-loop
 unfolding boardAnswers
-loop-holds c = (omega arith, fill-all (c .before .before .answer-at .result) (c .answer-at2 .result) ∙ rw (c .before .before .answer-at .ensures, c .answer-at2 .ensures, c .before .upper-address .ensures))
+loop-holds c = (omega arith, stored-all (c .before .before .answer-at .result) (c .answer-at2 .result) ∙ rw (c .before .before .answer-at .ensures, c .answer-at2 .ensures, c .before .upper-address .ensures))
 
 array-write-answers : tie.Need-array-write-answers Inv-loop μ-loop
 array-write-answers c = omega arith
@@ -35,10 +35,10 @@ loop-less : tie.Need-loop-less Inv-loop μ-loop
 loop-less c = omega arith
 
 loop-again : tie.Need-loop-again Inv-loop μ-loop
-loop-again c = (omega arith, fill-one (c .before .loop .k) (c .before .before .answer-at2 .result) (c .before .loop .answers) (omega arith) ∙ c .before .loop .inv .1)
+loop-again c = (omega arith, stored-one (c .before .loop .k) (c .before .before .answer-at2 .result) (c .before .loop .answers) (omega arith) ∙ c .before .loop .inv .1)
 
 returns : tie.Need-returns Inv-loop μ-loop
-returns c = sym (fill-none (c .before .loop .k) (c .before .before .answer-at2 .result) (c .before .loop .answers) (omega arith)) ∙ c .before .loop .inv .1
+returns c = sym (stored-none (c .before .loop .k) (c .before .before .answer-at2 .result) (c .before .loop .answers) (omega arith)) ∙ c .before .loop .inv .1
 
 pub board-answers-spec : {M : Type 1} → statement M
 board-answers-spec =
