@@ -2,5 +2,4 @@
 mod performing;
 mod running;
 
-pub use performing::perform;
 pub use running::run;

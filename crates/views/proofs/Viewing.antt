@@ -19,7 +19,7 @@ use Rattle.doubleword.specs.Doubleword.{dataOffset}
 use Rattle.refusal.specs.Refusal.{orElse, viewInputNumber}
 use Rattle.memory.proofs.Places.{bytes-length}
 use Rattle.refusal.proofs.Accepted.{or-zero, GoodView, view-accepted}
-use Rattle.views.specs.View.{viewNumberIn, shown, viewIn}
+use Rattle.views.specs.View.{viewNumberIn, shown, viewIn, shownAt, viewAt}
 
 -- a part that lies within a list
 part-bytes : (l : List ℕ) (i n : ℕ) → i + n ≤ length l → take n (drop i l) ≡ bytesAt l i n
@@ -32,6 +32,13 @@ pub sixteen-bytes : (l : List ℕ) (from to : ℕ) → to ≡ from + 16 → from
 sixteen-bytes l from to e h =
     let k : to - from ≡ 16 = omega arith in
     ap (λ (n : ℕ). take n (drop from l)) k ∙ part-bytes l from 16 h
+
+-- the place of a part, from where its slice begins
+pub part-at : (p : ℕ × ℕ) (from : ℕ) → _≡_ {A = ℕ × ℕ} (p .0, from + p .1) (p .0, p .1 + from)
+part-at p from = let e : from + p .1 ≡ p .1 + from = omega arith in ap (λ (o : ℕ). (p .0, o)) e
+
+pub empty-at : (p : ℕ × ℕ) → _≡_ {A = ℕ × ℕ} (p .0, 0 + p .1) p
+empty-at p = let e : 0 + p .1 ≡ p .1 = omega arith in ap (λ (o : ℕ). (p .0, o)) e
 
 -- what an accepted view knows of lengths and address
 module _ (tags : List ℕ) (valid : List Bool) (lru : List ℕ) (ram array address n : ℕ) (en : n ≡ viewNumberIn tags valid lru ram array address) (z : n ≡ 0) where
@@ -51,6 +58,10 @@ module _ (tags : List ℕ) (valid : List Bool) (lru ram array : List ℕ) (addre
   unfolding viewIn
   view-refused h = sym (cond-false _ _ _ (ne-eqb _ 0 (λ z. h (en ∙ z))))
 
+  pub refused-at : (ramAt arrayAt : ℕ × ℕ) → (n ≡ 0 → ⊥) → ramAt ≡ viewAt tags valid lru ram array ramAt arrayAt address
+  unfolding viewAt
+  refused-at ramAt arrayAt h = sym (cond-false _ _ _ (ne-eqb _ 0 (λ z. h (en ∙ z))))
+
   module _ (z : n ≡ 0) where
     pub view-done : viewIn tags valid lru ram array address ≡ shown (lookupIn tags valid address) ram array address
     unfolding viewIn
@@ -63,6 +74,16 @@ module _ (tags : List ℕ) (valid : List Bool) (lru ram array : List ℕ) (addre
     pub view-missed : lookupIn tags valid address ≡ Nothing → (r : List ℕ) → r ≡ bytesAt ram (address / 16 * 16) 16 → r ≡ viewIn tags valid lru ram array address
     unfolding shown
     view-missed e r k = k ∙ sym (view-done ∙ rw e)
+
+    pub held-at : (ramAt arrayAt : ℕ × ℕ) (way : ℕ) → lookupIn tags valid address ≡ At way → (offset : ℕ) → offset ≡ dataOffset address way →
+        (p : ℕ × ℕ) → p ≡ (arrayAt .0, arrayAt .1 + offset) → p ≡ viewAt tags valid lru ram array ramAt arrayAt address
+    unfolding viewAt shownAt
+    held-at ramAt arrayAt way e offset s p k = k ∙ rw s (sym (cond-true _ _ _ (eq-eqb _ 0 (sym en ∙ z)) ∙ rw e))
+
+    pub missed-at : (ramAt arrayAt : ℕ × ℕ) → lookupIn tags valid address ≡ Nothing →
+        (p : ℕ × ℕ) → p ≡ (ramAt .0, ramAt .1 + address / 16 * 16) → p ≡ viewAt tags valid lru ram array ramAt arrayAt address
+    unfolding viewAt shownAt
+    missed-at ramAt arrayAt e p k = k ∙ sym (cond-true _ _ _ (eq-eqb _ 0 (sym en ∙ z)) ∙ rw e)
 
 -- a view has at most sixteen bytes
 shown-length : (f : Found) (ram array : List ℕ) (address : ℕ) → length (shown f ram array address) ≡ 16

@@ -1,5 +1,5 @@
 -- Document 01, 'Other masters, views, and the plain memory': line views, asked of the arrays of a directory.
-use Prim.Native.Nat.{ℕ, _*_, _/_}
+use Prim.Native.Nat.{ℕ, _+_, _*_, _/_}
 use mathlib.Core.Bool.{Bool, cond}
 use mathlib.Core.List.{List, []}
 use lib.Dec.{eqb}
@@ -23,8 +23,20 @@ unfoldable pub shown : Found → List ℕ → List ℕ → ℕ → List ℕ
 shown (At way) ram array address = bytesAt array (dataOffset address way) 16
 shown Nothing ram array address = bytesAt ram (address / 16 * 16) 16
 
--- "a refused view is the empty part at RAM's start"
+-- The bytes of a view, none where it is refused.
 unfoldable pub viewIn : List ℕ → List Bool → List ℕ → List ℕ → List ℕ → ℕ → List ℕ
 viewIn tags valid lru ram array address =
     cond (eqb (viewNumberIn tags valid lru (length ram) (length array) address) 0)
     (shown (lookupIn tags valid address) ram array address) []
+
+-- Where the part begins, by where RAM and the data array begin: a block of the host's memory, and a byte of it.
+unfoldable pub shownAt : Found → ℕ × ℕ → ℕ × ℕ → ℕ → ℕ × ℕ
+shownAt (At way) ram array address = (array .0, array .1 + dataOffset address way)
+shownAt Nothing ram array address = (ram .0, ram .1 + address / 16 * 16)
+
+-- "a refused view is the empty part at RAM's start"
+unfoldable pub viewAt : List ℕ → List Bool → List ℕ → List ℕ → List ℕ → ℕ × ℕ → ℕ × ℕ → ℕ → ℕ × ℕ
+viewAt tags valid lru ram array ramAt arrayAt address =
+    cond (eqb (viewNumberIn tags valid lru (length ram) (length array) address) 0)
+    (shownAt (lookupIn tags valid address) ramAt arrayAt address)
+    ramAt

@@ -2,9 +2,10 @@
 // The arrays of the directory are lent, so a view copies nothing.
 ghost use mathlib.Core.Path.{_≡_};
 ghost use Prim.Native.Nat.{_+_, _≤_};
+ghost use denote.Ref.{ptr};
 ghost use lib.ListN.{length};
 ghost use Rattle.memory.specs.Bytes.{bytesAt};
-ghost use Rattle.views.specs.View.{viewIn, viewNumberIn};
+ghost use Rattle.views.specs.View.{viewAt, viewIn, viewNumberIn};
 use directory::Found;
 use directory::lookup;
 use directory::set_of;
@@ -39,7 +40,8 @@ pub fn view<'a>(
     data: &'a [u8],
     address: u32,
 ) -> &'a [u8]
-    ensures { λ r. ⌜ now r ≡ viewIn (now (tags .entry)) (now (valid .entry)) (now (lru .entry)) (now (ram .entry)) (now («data» .entry)) address ⌝ }
+    ensures { λ r. ⌜ (now r ≡ viewIn (now (tags .entry)) (now (valid .entry)) (now (lru .entry)) (now (ram .entry)) (now («data» .entry)) address)
+        × (ptr r ≡ viewAt (now (tags .entry)) (now (valid .entry)) (now (lru .entry)) (now (ram .entry)) (now («data» .entry)) (ptr (ram .entry)) (ptr («data» .entry)) address) ⌝ }
 {
     let number = view_number(tags, valid, lru, ram, data, address);
     if number != 0 {
@@ -54,7 +56,7 @@ pub fn view<'a>(
 // Sixteen bytes, from a place on.
 fn sixteen<'a>(bytes: &'a [u8], from: usize) -> &'a [u8]
     requires { ⌜ from + 16 ≤ length (now bytes) ⌝ }
-    ensures { λ r. ⌜ now r ≡ bytesAt (now (bytes .entry)) from 16 ⌝ }
+    ensures { λ r. ⌜ (now r ≡ bytesAt (now (bytes .entry)) from 16) × (ptr r ≡ (ptr (bytes .entry) .0, ptr (bytes .entry) .1 + from)) ⌝ }
 {
     let to = from + 16;
     &bytes[from..to]

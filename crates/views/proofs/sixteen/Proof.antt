@@ -1,5 +1,5 @@
 use mathlib.Core.Path.{refl}
-use Rattle.views.proofs.Viewing.{sixteen-bytes}
+use Rattle.views.proofs.Viewing.{part-at, sixteen-bytes}
 use borrow.Author.Needs.{needs}
 use Rattle.views.proofs.sixteen.Statement.{statement}
 use Rattle.views.proofs.sixteen.Tie as tie
@@ -17,7 +17,7 @@ part-result-end : tie.Need-part-result-end
 part-result-end c = search needs
 
 returns : tie.Need-returns
-returns c = sixteen-bytes _ (c .before .args .from) _ refl (c .before .pre)
+returns c = (sixteen-bytes _ (c .before .args .from) _ refl (c .before .pre), part-at _ (c .before .args .from))
 
 pub sixteen-spec : {M : Type 1} → statement M
 sixteen-spec = tie.close (tie.spec add-to sub-result part-result-start part-result-end returns)

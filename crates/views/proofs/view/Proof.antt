@@ -3,7 +3,7 @@ use mathlib.Core.Path.{_≡_, sym, _∙_}
 use Rattle.directory.specs.declared.ways.Found.the-variants.{At, Nothing}
 use Rattle.directory.specs.Ways.{lookupIn}
 use Rattle.directory.proofs.FourWays.{lookup-below}
-use Rattle.views.proofs.Viewing.{view-refused, data-inside, line-inside, view-held, view-missed}
+use Rattle.views.proofs.Viewing.{empty-at, view-refused, refused-at, data-inside, line-inside, view-held, held-at, view-missed, missed-at}
 use borrow.Author.Needs.{needs}
 use Rattle.views.proofs.view.Statement.{statement}
 use Rattle.views.proofs.view.Tie as tie
@@ -21,7 +21,12 @@ part-result-end : tie.Need-part-result-end
 part-result-end c = search needs
 
 returns : tie.Need-returns
-returns c = view-refused _ _ _ _ _ _ _ (c .before .before .view-number .ensures) (c .before .if1 .taken)
+returns c =
+    let en = c .before .before .view-number .ensures in
+    let met = c .before .if1 .taken in (
+      view-refused _ _ _ _ _ _ _ en met,
+      empty-at _ ∙ refused-at _ _ _ _ _ _ _ en _ _ met,
+    )
 
 -- what the lookup found
 found : (c : tie.After-way) → lookupIn (now (c .before .before .before .before .before .before .before .args .tags)) (now (c .before .before .before .before .before .before .before .args .valid)) (c .before .before .before .before .before .before .before .args .address) ≡ At (c .way .given .0 .0)
@@ -55,10 +60,22 @@ sixteen-requires-2 : tie.Need-sixteen-requires-2
 sixteen-requires-2 c κs = line-inside _ _ _ _ _ _ _ (c .before .before .before .before .view-number .ensures) (c .before .before .before .if1 .left)
 
 returns-2 : tie.Need-returns-2
-returns-2 c = view-held _ _ _ _ _ _ _ (c .before .before .before .before .before .before .before .view-number .ensures) (c .before .before .before .before .before .before .if1 .left) _ (found (c .before .before .before)) _ (c .before .data-offset .ensures .0) _ (c .sixteen .ensures)
+returns-2 c =
+    let en = c .before .before .before .before .before .before .before .view-number .ensures in
+    let z = c .before .before .before .before .before .before .if1 .left in
+    let at = found (c .before .before .before) in
+    let offset = c .before .data-offset .ensures .0 in (
+      view-held _ _ _ _ _ _ _ en z _ at _ offset _ (c .sixteen .ensures .0),
+      held-at _ _ _ _ _ _ _ en z _ _ _ at _ offset _ (c .sixteen .ensures .1),
+    )
 
 returns-3 : tie.Need-returns-3
-returns-3 c = view-missed _ _ _ _ _ _ _ (c .before .before .before .before .before .view-number .ensures) (c .before .before .before .before .if1 .left) (missing (c .before)) _ (c .sixteen2 .ensures)
+returns-3 c =
+    let en = c .before .before .before .before .before .view-number .ensures in
+    let z = c .before .before .before .before .if1 .left in (
+      view-missed _ _ _ _ _ _ _ en z (missing (c .before)) _ (c .sixteen2 .ensures .0),
+      missed-at _ _ _ _ _ _ _ en z _ _ (missing (c .before)) _ (c .sixteen2 .ensures .1),
+    )
 
 pub view-spec : {M : Type 1} → statement M
 view-spec =
