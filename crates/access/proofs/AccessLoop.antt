@@ -59,11 +59,11 @@ none-of (suc g) xs address place = refl
 abbrev pub groupAt : AccessCursor → List ℕ → List ℕ
 groupAt cursor xs = take groupSize (drop (cursor .group * groupSize) xs)
 
-module _ (cursor : AccessCursor) (xs : List ℕ) (records : ℕ) (some : 0 < cursor .left) (more : cursor .group < groupCount) where
+module _ (cursor : AccessCursor) (xs : List ℕ) (cycles : ℕ) (some : 0 < cursor .left) (more : cursor .group < groupCount) where
   abbrev count : ℕ
   count = min (cursor .left) (4 - cursor .address % 4)
 
-  pub rest-next : restOf cursor xs ≡ doublewordOf (wantedOf cursor) (groupAt cursor xs) ∷ restOf (accessNext cursor count records) xs
+  pub rest-next : restOf cursor xs ≡ doublewordOf (wantedOf cursor) (groupAt cursor xs) ∷ restOf (accessNext cursor count cycles) xs
   unfolding restOf
   rest-next =
       let g : groupCount - cursor .group ≡ suc (groupCount - (cursor .group + 1)) = omega arith in
@@ -83,10 +83,10 @@ rest-done cursor xs e =
 module _ (one : State → Doubleword → Done) (xs : List ℕ) where
   pub record AccessInvariant (p : Progress) (log₀ : List ℕ) (cursor : AccessCursor) (s : State) (log : List ℕ) : Type 0 where
     pub states : allOf one s (restOf cursor xs) .state ≡ p .state
-    pub logs : logged log (cursor .records) (allOf one s (restOf cursor xs) .records) ≡ logged log₀ 0 (p .records)
-    pub made : cursor .records + length (allOf one s (restOf cursor xs) .records) ≡ length (p .records)
+    pub logs : logged log (cursor .cycles) (allOf one s (restOf cursor xs) .records) ≡ logged log₀ 0 (p .records)
+    pub made : cursor .cycles + length (allOf one s (restOf cursor xs) .records) ≡ length (p .records)
 
-  pub access-invariant-begin : (cursor : AccessCursor) (s : State) (log₀ : List ℕ) → cursor .records ≡ 0 → AccessInvariant (allOf one s (restOf cursor xs)) log₀ cursor s log₀
+  pub access-invariant-begin : (cursor : AccessCursor) (s : State) (log₀ : List ℕ) → cursor .cycles ≡ 0 → AccessInvariant (allOf one s (restOf cursor xs)) log₀ cursor s log₀
   access-invariant-begin cursor s log₀ e =
       record {
         states = refl;
@@ -99,32 +99,32 @@ module _ (one : State → Doubleword → Done) (xs : List ℕ) where
     w = doublewordOf (wantedOf cursor) (groupAt cursor xs)
 
     -- all doublewords left are the next one and those after it
-    pub all-next : (records : ℕ) → allOf one s (restOf cursor xs)
+    pub all-next : (cycles : ℕ) → allOf one s (restOf cursor xs)
         ≡ record {
-          state = allOf one (next s w (one s w)) (restOf (accessNext cursor (min (cursor .left) (4 - cursor .address % 4)) records) xs) .state;
-          bytes = one s w .bytes ++ allOf one (next s w (one s w)) (restOf (accessNext cursor (min (cursor .left) (4 - cursor .address % 4)) records) xs) .bytes;
-          records = one s w .records ++ allOf one (next s w (one s w)) (restOf (accessNext cursor (min (cursor .left) (4 - cursor .address % 4)) records) xs) .records;
+          state = allOf one (next s w (one s w)) (restOf (accessNext cursor (min (cursor .left) (4 - cursor .address % 4)) cycles) xs) .state;
+          bytes = one s w .bytes ++ allOf one (next s w (one s w)) (restOf (accessNext cursor (min (cursor .left) (4 - cursor .address % 4)) cycles) xs) .bytes;
+          records = one s w .records ++ allOf one (next s w (one s w)) (restOf (accessNext cursor (min (cursor .left) (4 - cursor .address % 4)) cycles) xs) .records;
         }
     unfolding allOf
-    all-next records = rw (rest-next cursor xs records some more)
+    all-next cycles = rw (rest-next cursor xs cycles some more)
 
     pub access-invariant-next : {p : Progress} {log₀ : List ℕ} (s′ : State) (log′ : List ℕ) (n : ℕ) → AccessInvariant p log₀ cursor s log →
         s′ ≡ next s w (one s w) →
-        log′ ≡ logged log (cursor .records) (one s w .records) →
+        log′ ≡ logged log (cursor .cycles) (one s w .records) →
         n ≡ length (one s w .records) →
         AccessInvariant p log₀ (accessNext cursor (min (cursor .left) (4 - cursor .address % 4)) n) s′ log′
     access-invariant-next s′ log′ n g es el en =
         let a = all-next n in
         let rest = allOf one (next s w (one s w)) (restOf (accessNext cursor (min (cursor .left) (4 - cursor .address % 4)) n) xs) in
-        let k : cursor .records + n ≡ cursor .records + length (one s w .records) = omega arith in
-        let m : cursor .records + length (allOf one s (restOf cursor xs) .records) ≡ cursor .records + (length (one s w .records) + length (rest .records)) = ap (λ (q : Progress). cursor .records + length (q .records)) a ∙ ap (λ (i : ℕ). cursor .records + i) (length-append (one s w .records) (rest .records)) in
+        let k : cursor .cycles + n ≡ cursor .cycles + length (one s w .records) = omega arith in
+        let m : cursor .cycles + length (allOf one s (restOf cursor xs) .records) ≡ cursor .cycles + (length (one s w .records) + length (rest .records)) = ap (λ (q : Progress). cursor .cycles + length (q .records)) a ∙ ap (λ (i : ℕ). cursor .cycles + i) (length-append (one s w .records) (rest .records)) in
         record {
           states = rw es (sym (ap (λ (q : Progress). q .state) a) ∙ g .states);
           logs =
               rw (es, el)
-              (ap (λ (i : ℕ). logged (logged log (cursor .records) (one s w .records)) i (rest .records)) k
-              ∙ sym (logged-append log (cursor .records) (one s w .records) (rest .records))
-              ∙ sym (ap (λ (q : Progress). logged log (cursor .records) (q .records)) a)
+              (ap (λ (i : ℕ). logged (logged log (cursor .cycles) (one s w .records)) i (rest .records)) k
+              ∙ sym (logged-append log (cursor .cycles) (one s w .records) (rest .records))
+              ∙ sym (ap (λ (q : Progress). logged log (cursor .cycles) (q .records)) a)
               ∙ g .logs);
           made = rw es (omega (arith, g .made));
         }
@@ -146,7 +146,7 @@ module _ (one : State → Doubleword → Done) (xs : List ℕ) where
         ∙ g)
 
   pub access-invariant-end : {p : Progress} {log₀ : List ℕ} (cursor : AccessCursor) (s : State) (log : List ℕ) → cursor .left ≡ 0 → AccessInvariant p log₀ cursor s log →
-      (s ≡ p .state) × (log ≡ logged log₀ 0 (p .records)) × (cursor .records ≡ length (p .records))
+      (s ≡ p .state) × (log ≡ logged log₀ 0 (p .records)) × (cursor .cycles ≡ length (p .records))
   unfolding allOf wordsOf
   access-invariant-end cursor s log z g =
       let r = rest-done cursor xs z in
@@ -195,7 +195,7 @@ module _ (cursor : AccessCursor) (ram parity array answers log operand : ℕ) (z
   pub needs-more : cursor .group < groupCount
   needs-more = omega (arith, z .fits, z .last)
 
-  pub needs-doubleword : (given : ℕ) → given ≡ groupSize → DoublewordNeeds (wantedOf cursor) (cursor .records) ram parity given log
+  pub needs-doubleword : (given : ℕ) → given ≡ groupSize → DoublewordNeeds (wantedOf cursor) (cursor .cycles) ram parity given log
   needs-doubleword given e =
       record {
         aligned = omega arith;
@@ -247,7 +247,7 @@ module _ (pcd : Bool) (xs : List ℕ) where
     pub invariant : AccessInvariant (readOne pcd) xs p log₀ cursor s log
     pub bytes : sets operand (cursor .place) (allOf (readOne pcd) s (restOf cursor xs) .bytes) ≡ sets operand₀ 0 (p .bytes)
 
-  pub reading-begin : (cursor : AccessCursor) (s : State) (log₀ operand₀ : List ℕ) → cursor .records ≡ 0 → cursor .place ≡ 0 →
+  pub reading-begin : (cursor : AccessCursor) (s : State) (log₀ operand₀ : List ℕ) → cursor .cycles ≡ 0 → cursor .place ≡ 0 →
       ReadInvariant (allOf (readOne pcd) s (restOf cursor xs)) log₀ operand₀ cursor s log₀ operand₀
   reading-begin cursor s log₀ operand₀ e f =
       record {
@@ -261,7 +261,7 @@ module _ (pcd : Bool) (xs : List ℕ) where
       ReadInvariant p log₀ operand₀ cursor (state d m array) log operand →
       ReadStep (readOne pcd (state d m array) (nextDoubleword cursor xs)) cursor log operand r array′ log′ operand′ →
       d′ ≡ changed d (r .line) (r .change) →
-      u ≡ accessNext cursor (r .count) (r .records) →
+      u ≡ accessNext cursor (r .count) (r .cycles) →
       ReadInvariant p log₀ operand₀ u (state d′ m array′) log′ operand′
   reading-next {p} {log₀} {operand₀} cursor d m array log operand r d′ array′ log′ operand′ u some more g k ed eu =
       let here = nextDoubleword cursor xs in
@@ -284,7 +284,7 @@ pub writing-next : (operand xs : List ℕ) {p : Progress} {log₀ : List ℕ} (c
     AccessInvariant (writeOne operand) xs p log₀ cursor (state d m array) log →
     WriteStep (writeOne operand (state d m array) (nextDoubleword cursor xs)) cursor log r m′ array′ log′ →
     d′ ≡ changed d (r .line) (r .change) →
-    u ≡ accessNext cursor (r .count) (r .records) →
+    u ≡ accessNext cursor (r .count) (r .cycles) →
     AccessInvariant (writeOne operand) xs p log₀ u (state d′ m′ array′) log′
 writing-next operand xs cursor d m array log r d′ m′ array′ log′ u some more g k ed eu =
     let here = nextDoubleword cursor xs in
@@ -314,7 +314,7 @@ module _ (cursor u : AccessCursor) (count n : ℕ) (some : 0 < cursor .left) (ec
 -- what the code's next cursor needs
 pub cursor-steps : (cursor : AccessCursor) (count n ram parity array answers log operand : ℕ) → count ≡ min (cursor .left) (4 - cursor .address % 4) → n ≤ groupSize →
     AccessNeeds cursor ram parity array answers log operand →
-    (count ≤ cursor .left) × (cursor .address + cursor .left < 4294967296) × (cursor .group < 64) × (cursor .place < 64) × (cursor .left ≤ 64) × (cursor .records ≤ 64) × (n ≤ 64)
+    (count ≤ cursor .left) × (cursor .address + cursor .left < 4294967296) × (cursor .group < 64) × (cursor .place < 64) × (cursor .left ≤ 64) × (cursor .cycles ≤ 64) × (n ≤ 64)
 cursor-steps cursor count n ram parity array answers log operand ec l z = (
   rw ec (omega arith),
   omega (arith, z .inside, z .small),
@@ -328,7 +328,7 @@ cursor-steps cursor count n ram parity array answers log operand ec l z = (
 -- what the next doubleword's code needs
 pub cursor-doubleword : (cursor : AccessCursor) (w : Wanted) (ram parity array answers log₀ log operand₀ operand given : ℕ) → 0 < cursor .left → w ≡ wantedOf cursor →
     AccessNeeds cursor ram parity array answers log₀ operand₀ → log ≡ log₀ → operand ≡ operand₀ → given ≡ groupSize →
-    DoublewordNeeds w (cursor .records) ram parity given log × (w .place + w .count ≤ operand)
+    DoublewordNeeds w (cursor .cycles) ram parity given log × (w .place + w .count ≤ operand)
 cursor-doubleword cursor w ram parity array answers log₀ log operand₀ operand given some ew z el eo eg =
     rw (ew, el, eo) (needs-doubleword cursor ram parity array answers log₀ operand₀ z some given eg, room (cursor .place) (cursor .left) _ operand₀ (z .operands))
   where
@@ -338,13 +338,13 @@ cursor-doubleword cursor w ram parity array answers log₀ log operand₀ operan
 -- a step of the code, from what its parts leave
 module _ (cursor : AccessCursor) (xs : List ℕ) (w : Wanted) (given : List ℕ) (ew : w ≡ wantedOf cursor) (eg : given ≡ groupAt cursor xs) (moved : DoublewordResult) (b : BelowFour (moved .change)) where
   abbrev stepped : StepResult
-  stepped = record { line = w .line; change = moved .change; count = w .count; records = moved .records }
+  stepped = record { line = w .line; change = moved .change; count = w .count; cycles = moved .cycles }
 
   pub read-step-left : (one : Wanted → List ℕ → Done) (log₀ operand₀ array log operand : List ℕ) →
-      Reads (one w given) (w .place) (cursor .records) log₀ operand₀ moved array log operand →
+      Reads (one w given) (w .place) (cursor .cycles) log₀ operand₀ moved array log operand →
       ReadStep (one (wantedOf cursor) (groupAt cursor xs)) cursor log₀ operand₀ stepped array log operand
   read-step-left one log₀ operand₀ array log operand k =
-      let k′ : Reads (one (wantedOf cursor) (groupAt cursor xs)) (cursor .place) (cursor .records) log₀ operand₀ moved array log operand = rw (ew, eg) at k in
+      let k′ : Reads (one (wantedOf cursor) (groupAt cursor xs)) (cursor .place) (cursor .cycles) log₀ operand₀ moved array log operand = rw (ew, eg) at k in
       record {
         line = ap (λ (x : Wanted). x .line) ew;
         change = k′ .change;
@@ -358,10 +358,10 @@ module _ (cursor : AccessCursor) (xs : List ℕ) (w : Wanted) (given : List ℕ)
       }
 
   pub write-step-left : (one : Wanted → List ℕ → Done) (log₀ : List ℕ) (m : Memory) (array log : List ℕ) →
-      Writes (one w given) (cursor .records) log₀ moved m array log →
+      Writes (one w given) (cursor .cycles) log₀ moved m array log →
       WriteStep (one (wantedOf cursor) (groupAt cursor xs)) cursor log₀ stepped m array log
   write-step-left one log₀ m array log k =
-      let k′ : Writes (one (wantedOf cursor) (groupAt cursor xs)) (cursor .records) log₀ moved m array log = rw (ew, eg) at k in
+      let k′ : Writes (one (wantedOf cursor) (groupAt cursor xs)) (cursor .cycles) log₀ moved m array log = rw (ew, eg) at k in
       record {
         line = ap (λ (x : Wanted). x .line) ew;
         change = k′ .change;

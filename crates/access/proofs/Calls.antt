@@ -77,11 +77,11 @@ module _ (d : Directory) (m : Memory) (address : ℕ) (bytes : List ℕ) where
 -- what the loops leave is what an accepted call leaves
 whole : (one : State → Doubleword → Done) (xs : List ℕ) (p : Progress) (cursor : AccessCursor) (d : Directory) (m : Memory) (array log log₀ : List ℕ) (value v : ℕ) →
     cursor .left ≡ 0 → AccessInvariant one xs p log₀ cursor (state d m array) log → value ≡ v →
-    after (outcome d 0 value (cursor .records)) m array log ≡ accepted v p log₀
+    after (outcome d 0 value (cursor .cycles)) m array log ≡ accepted v p log₀
 whole one xs p cursor d m array log log₀ value v z g ev =
     let e = access-invariant-end one xs cursor (state d m array) log z g in
-    ap (λ (s : State). after (outcome (s .directory) 0 value (cursor .records)) (s .memory) (s .array) log) (e .0)
-    ∙ ap (λ (x : ℕ). after (outcome (p .state .directory) 0 x (cursor .records)) (p .state .memory) (p .state .array) log) ev
+    ap (λ (s : State). after (outcome (s .directory) 0 value (cursor .cycles)) (s .memory) (s .array) log) (e .0)
+    ∙ ap (λ (x : ℕ). after (outcome (p .state .directory) 0 x (cursor .cycles)) (p .state .memory) (p .state .array) log) ev
     ∙ ap (λ (n : ℕ). after (outcome (p .state .directory) 0 v n) (p .state .memory) (p .state .array) log) (e .2)
     ∙ ap (λ (l : List ℕ). after (outcome (p .state .directory) 0 v (length (p .records))) (p .state .memory) (p .state .array) l) (e .1)
 
@@ -135,7 +135,7 @@ module _ (d : Directory) (m : Memory) (array : List ℕ) (address width : ℕ) (
       pub read-done : bad ≡ 0 → (cursor : AccessCursor) (d′ : Directory) (array′ log′ operand : List ℕ) (value : ℕ) → cursor .left ≡ 0 →
           ReadInvariant pcd answers (allOf (readOne pcd) s (restOf (accessStart address width) answers)) log (replicate 4 0) cursor (state d′ m array′) log′ operand →
           value ≡ valueOf operand →
-          after (outcome d′ 0 value (cursor .records)) m array′ log′ ≡ readCall s address width pcd answers log
+          after (outcome d′ 0 value (cursor .cycles)) m array′ log′ ≡ readCall s address width pcd answers log
       unfolding readCall readAll restOf
       read-done b cursor d′ array′ log′ operand value e g ev =
           let p = allOf (readOne pcd) s (doublewordsOf groupCount answers address width 0) in
@@ -166,7 +166,7 @@ module _ (d : Directory) (m : Memory) (array : List ℕ) (address width : ℕ) (
 
       pub write-done : bad ≡ 0 → (cursor : AccessCursor) (d′ : Directory) (m′ : Memory) (array′ log′ : List ℕ) → cursor .left ≡ 0 →
           AccessInvariant (writeOne (operandOf value)) answers (allOf (writeOne (operandOf value)) s (restOf (accessStart address width) answers)) log cursor (state d′ m′ array′) log′ →
-          after (outcome d′ 0 0 (cursor .records)) m′ array′ log′ ≡ writeCall s address width value answers log
+          after (outcome d′ 0 0 (cursor .cycles)) m′ array′ log′ ≡ writeCall s address width value answers log
       unfolding writeCall writeAll restOf
       write-done b cursor d′ m′ array′ log′ e g =
           whole (writeOne (operandOf value)) answers (allOf (writeOne (operandOf value)) s (doublewordsOf groupCount answers address width 0)) cursor d′ m′ array′ log′ log 0 0 e g refl

@@ -15,7 +15,7 @@ use Rattle.access.specs.declared.cursor.StepResult.{StepResult}
 
 -- The start of an access, its next doubleword, and what is left after it.
 abbrev pub accessStart : ℕ → ℕ → AccessCursor
-accessStart address width = record { address = address; left = width; group = 0; place = 0; records = 0 }
+accessStart address width = record { address = address; left = width; group = 0; place = 0; cycles = 0 }
 
 abbrev pub wantedOf : AccessCursor → Wanted
 wantedOf cursor =
@@ -27,13 +27,13 @@ wantedOf cursor =
     }
 
 abbrev pub accessNext : AccessCursor → ℕ → ℕ → AccessCursor
-accessNext cursor count records =
+accessNext cursor count cycles =
     record {
       address = cursor .address + count;
       left = cursor .left - count;
       group = cursor .group + 1;
       place = cursor .place + count;
-      records = cursor .records + records;
+      cycles = cursor .cycles + cycles;
     }
 
 -- The doublewords left.
@@ -52,7 +52,7 @@ pub record AccessNeeds (cursor : AccessCursor) (ram parity array answers log ope
   pub room : 3 * (groupSize * groupCount) ≤ log
   pub fits : cursor .left ≤ 4 * (groupCount - cursor .group) - cursor .address % 4
   pub last : cursor .group ≤ groupCount
-  pub made : cursor .records ≤ cursor .group * groupSize
+  pub made : cursor .cycles ≤ cursor .group * groupSize
   pub operands : cursor .place + cursor .left ≤ operand
   pub four : operand ≡ 4
 
@@ -69,11 +69,11 @@ pub record ReadStep (done : Done) (cursor : AccessCursor) (log₀ operand₀ : L
   pub change : r .change ≡ done .change
   pub below : BelowFour (r .change)
   pub counts : r .count ≡ min (cursor .left) (4 - cursor .address % 4)
-  pub made : r .records ≡ length (done .records)
+  pub made : r .cycles ≡ length (done .records)
   pub arrays : array ≡ done .array
-  pub logs : log ≡ logged log₀ (cursor .records) (done .records)
+  pub logs : log ≡ logged log₀ (cursor .cycles) (done .records)
   pub bytes : operand ≡ sets operand₀ (cursor .place) (done .bytes)
-  pub most : r .records ≤ groupSize
+  pub most : r .cycles ≤ groupSize
 
 -- The same for a write.
 pub record WriteStep (done : Done) (cursor : AccessCursor) (log₀ : List ℕ) (r : StepResult) (m : Memory) (array log : List ℕ) : Type 0 where
@@ -81,8 +81,8 @@ pub record WriteStep (done : Done) (cursor : AccessCursor) (log₀ : List ℕ) (
   pub change : r .change ≡ done .change
   pub below : BelowFour (r .change)
   pub counts : r .count ≡ min (cursor .left) (4 - cursor .address % 4)
-  pub made : r .records ≡ length (done .records)
+  pub made : r .cycles ≡ length (done .records)
   pub memories : m ≡ done .memory
   pub arrays : array ≡ done .array
-  pub logs : log ≡ logged log₀ (cursor .records) (done .records)
-  pub most : r .records ≤ groupSize
+  pub logs : log ≡ logged log₀ (cursor .cycles) (done .records)
+  pub most : r .cycles ≤ groupSize

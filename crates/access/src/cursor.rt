@@ -6,22 +6,22 @@ use doubleword::Change;
 use doubleword::Wanted;
 
 // What is left between two doublewords: the address of the next wanted byte, the bytes left, their place in the operand, the
-// group of answers that serves them, and the records made.
+// group of answers that serves them, and the cycles made.
 pub struct AccessCursor {
     pub address: u32,
     pub left: usize,
     pub place: usize,
     pub group: usize,
-    pub records: usize,
+    pub cycles: usize,
 }
 
-// What a doubleword did: the directory's change with its line, the bytes moved and the records made. What is left after it
+// What a doubleword did: the directory's change with its line, the bytes moved and the cycles made. What is left after it
 // is worked out by the caller, in registers.
 pub struct StepResult {
     pub line: u32,
     pub change: Change,
     pub count: usize,
-    pub records: usize,
+    pub cycles: usize,
 }
 
 impl AccessCursor {
@@ -33,7 +33,7 @@ impl AccessCursor {
             left: width as usize,
             group: 0,
             place: 0,
-            records: 0,
+            cycles: 0,
         }
     }
 
@@ -51,17 +51,17 @@ impl AccessCursor {
         }
     }
 
-    // What is left after a doubleword: so many bytes, and so many records.
-    pub fn next(self, count: usize, records: usize) -> AccessCursor
-        requires { ⌜ (count ≤ self .left) × (self .address + self .left < 4294967296) × (self .group < 64) × (self .place < 64) × (self .left ≤ 64) × (self .records ≤ 64) × (records ≤ 64) ⌝ }
-        ensures { λ r. ⌜ r ≡ accessNext self count records ⌝ }
+    // What is left after a doubleword: so many bytes, and so many cycles.
+    pub fn next(self, count: usize, cycles: usize) -> AccessCursor
+        requires { ⌜ (count ≤ self .left) × (self .address + self .left < 4294967296) × (self .group < 64) × (self .place < 64) × (self .left ≤ 64) × (self .cycles ≤ 64) × (cycles ≤ 64) ⌝ }
+        ensures { λ r. ⌜ r ≡ accessNext self count cycles ⌝ }
     {
         AccessCursor {
             address: self.address + count as u32,
             left: self.left - count,
             group: self.group + 1,
             place: self.place + count,
-            records: self.records + records,
+            cycles: self.cycles + cycles,
         }
     }
 }

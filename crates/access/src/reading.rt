@@ -55,14 +55,14 @@ pub fn read_step<'a>(
         log,
         operand,
         w,
-        cursor.records,
+        cursor.cycles,
     );
     let change = moved.change;
     StepResult {
         line: w.line,
         change,
         count: w.count,
-        records: moved.records,
+        cycles: moved.cycles,
     }
 }
 
@@ -109,12 +109,12 @@ pub fn read(
             Change::Unchanged => {}
             _ => given = changed_by(given, step.line, change),
         }
-        cursor = cursor.next(step.count, step.records);
+        cursor = cursor.next(step.count, step.cycles);
     }
     Outcome {
         directory: given,
         number: 0,
         value: word_of(operand),
-        cycles: cursor.records as u32,
+        cycles: cursor.cycles as u32,
     }
 }

@@ -54,14 +54,14 @@ pub fn write_step<'a>(
         log,
         operand,
         w,
-        cursor.records,
+        cursor.cycles,
     );
     let change = moved.change;
     StepResult {
         line: w.line,
         change,
         count: w.count,
-        records: moved.records,
+        cycles: moved.cycles,
     }
 }
 
@@ -108,12 +108,12 @@ pub fn write(
             Change::Unchanged => {}
             _ => given = changed_by(given, step.line, change),
         }
-        cursor = cursor.next(step.count, step.records);
+        cursor = cursor.next(step.count, step.cycles);
     }
     Outcome {
         directory: given,
         number: 0,
         value: 0,
-        cycles: cursor.records as u32,
+        cycles: cursor.cycles as u32,
     }
 }

@@ -15,7 +15,7 @@ use Rattle.bus.specs.Bus.{Run, run, sizeOf, Cycle, cyclesOf, lastAnswer,
 use Rattle.bus.specs.Record.{Record, flagsOf, readRecord, writeRecord, wordsOf, logged}
 use Rattle.bus.specs.CycleLoop.{wantedAt, cycleNext, cycleAt, CycleNeeds, BufferNeeds, ReadCycle, ReadCycles, WriteCycle, WriteCycles}
 use Rattle.memory.proofs.Bits.{put-lengths}
-use Rattle.bus.proofs.Sizing.{size-most, wanted-some, wanted-none, wanted-next, last-next, next-used, next-ready}
+use Rattle.bus.proofs.Sizing.{size-most, wanted-some, wanted-none, wanted-next, last-next, next-cycles, next-ready}
 
 -- one record, then the others
 logged-cons : (log : List ℕ) (first : ℕ) (r : Record) (rs : List Record) → logged log first (r ∷ rs) ≡ logged (logged log first (r ∷ [])) (first + 1) rs
@@ -26,9 +26,9 @@ logged-cons log first r rs =
 
 -- the cycles from a cursor on
 unfoldable pub restAt : ℕ → List ℕ → CycleCursor → List Cycle
-restAt start xs t = cyclesOf (drop (t .used) xs) (wantedAt start t)
+restAt start xs t = cyclesOf (drop (t .cycles) xs) (wantedAt start t)
 
-rest-begin : (start : ℕ) (xs : List ℕ) (t : CycleCursor) → t .used ≡ 0 → restAt start xs t ≡ cyclesOf xs (wantedAt start t)
+rest-begin : (start : ℕ) (xs : List ℕ) (t : CycleCursor) → t .cycles ≡ 0 → restAt start xs t ≡ cyclesOf xs (wantedAt start t)
 unfolding restAt
 rest-begin start xs t e = rw e
 
@@ -39,37 +39,37 @@ none-made (x ∷ xs) = refl
 
 pub rest-done : (start : ℕ) (xs : List ℕ) (t : CycleCursor) → t .count ≡ 0 → restAt start xs t ≡ []
 unfolding restAt
-rest-done start xs t e = rw (wanted-none start t e, none-made (drop (t .used) xs))
+rest-done start xs t e = rw (wanted-none start t e, none-made (drop (t .cycles) xs))
 
-module _ (start : ℕ) (xs : List ℕ) (t : CycleCursor) (some : 0 < t .count) (more : t .used < length xs) where
+module _ (start : ℕ) (xs : List ℕ) (t : CycleCursor) (some : 0 < t .count) (more : t .cycles < length xs) where
   abbrev here : ℕ
-  here = getD xs (t .used) 0
+  here = getD xs (t .cycles) 0
 
   pub rest-next : restAt start xs t ≡ cycleAt start t here ∷ restAt start xs (cycleNext start t here)
   unfolding restAt cyclesOf
   rest-next =
       rw (
         wanted-some start t some,
-        drop-cons xs (t .used) 0 more,
+        drop-cons xs (t .cycles) 0 more,
         ← last-next start t here some,
         ← wanted-next start t here some,
-        next-used start t here .0,
-        add-one (t .used),
+        next-cycles start t here .0,
+        add-one (t .cycles),
       )
 
 -- what the loops keep, for any work that its cycles do to what they work on
 module _ {S : Type 0} (f : Run → S → S) (make : Cycle → Record) (start first : ℕ) (xs : List ℕ) where
   pub record CycleInvariant (begin : CycleCursor) (log₀ : List ℕ) (s₀ : S) (t : CycleCursor) (log : List ℕ) (s : S) : Type 0 where
-    pub logs : logged log (first + t .used) (map make (restAt start xs t)) ≡ logged log₀ first (map make (restAt start xs begin))
+    pub logs : logged log (first + t .cycles) (map make (restAt start xs t)) ≡ logged log₀ first (map make (restAt start xs begin))
     pub works : through f (restAt start xs t) s ≡ through f (restAt start xs begin) s₀
-    pub made : t .used + length (restAt start xs t) ≡ length (restAt start xs begin)
+    pub made : t .cycles + length (restAt start xs t) ≡ length (restAt start xs begin)
     pub ends : lastAnswer (t .answer) (restAt start xs t) ≡ lastAnswer 0 (restAt start xs begin)
     pub ready : CycleNeeds t (length xs)
     pub lengths : length log ≡ length log₀
 
-  pub cycle-invariant-begin : (begin : CycleCursor) (log₀ : List ℕ) (s₀ : S) → begin .used ≡ 0 → begin .answer ≡ 0 → CycleNeeds begin (length xs) → CycleInvariant begin log₀ s₀ begin log₀ s₀
+  pub cycle-invariant-begin : (begin : CycleCursor) (log₀ : List ℕ) (s₀ : S) → begin .cycles ≡ 0 → begin .answer ≡ 0 → CycleNeeds begin (length xs) → CycleInvariant begin log₀ s₀ begin log₀ s₀
   cycle-invariant-begin begin log₀ s₀ e a r =
-      let n : first + begin .used ≡ first = omega arith in
+      let n : first + begin .cycles ≡ first = omega arith in
       record {
         logs = rw n;
         works = refl;
@@ -79,37 +79,37 @@ module _ {S : Type 0} (f : Run → S → S) (make : Cycle → Record) (start fir
         lengths = refl;
       }
 
-  pub used-more : (t : CycleCursor) → CycleNeeds t (length xs) → 0 < t .count → t .used < length xs
-  used-more t r some = omega (arith, r .enough)
+  pub cycles-more : (t : CycleCursor) → CycleNeeds t (length xs) → 0 < t .count → t .cycles < length xs
+  cycles-more t r some = omega (arith, r .enough)
 
   pub cycle-invariant-next : {begin : CycleCursor} {log₀ : List ℕ} {s₀ : S} {t : CycleCursor} {log : List ℕ} {s : S} (u : CycleCursor) (log′ : List ℕ) (s′ : S) →
       start < 4 → 0 < t .count → CycleInvariant begin log₀ s₀ t log s →
-      u ≡ cycleNext start t (getD xs (t .used) 0) →
-      log′ ≡ logged log (first + t .used) (make (cycleAt start t (getD xs (t .used) 0)) ∷ []) →
-      s′ ≡ f (cycleAt start t (getD xs (t .used) 0) .moved) s →
+      u ≡ cycleNext start t (getD xs (t .cycles) 0) →
+      log′ ≡ logged log (first + t .cycles) (make (cycleAt start t (getD xs (t .cycles) 0)) ∷ []) →
+      s′ ≡ f (cycleAt start t (getD xs (t .cycles) 0) .moved) s →
       CycleInvariant begin log₀ s₀ u log′ s′
   unfolding through lastAnswer
   cycle-invariant-next {begin} {log₀} {s₀} {t} {log} {s} u log′ s′ sl some k eu el es =
-      let x = getD xs (t .used) 0 in
-      let more = used-more t (k .ready) some in
+      let x = getD xs (t .cycles) 0 in
+      let more = cycles-more t (k .ready) some in
       let r : restAt start xs t ≡ cycleAt start t x ∷ restAt start xs u = rest-next start xs t some more ∙ rw eu in
-      let n = next-used start t x in
-      let uu : u .used ≡ t .used + 1 = rw eu (n .0) in
+      let n = next-cycles start t x in
+      let uu : u .cycles ≡ t .cycles + 1 = rw eu (n .0) in
       let ua : u .answer ≡ x = rw eu (n .1) in
-      let at : first + u .used ≡ first + t .used + 1 = omega arith in
+      let at : first + u .cycles ≡ first + t .cycles + 1 = omega arith in
       record {
-        logs = rw (at, el, ← logged-cons log (first + t .used) (make (cycleAt start t x)) (map make (restAt start xs u))) (rw r at (k .logs));
+        logs = rw (at, el, ← logged-cons log (first + t .cycles) (make (cycleAt start t x)) (map make (restAt start xs u))) (rw r at (k .logs));
         works = rw es (rw r at (k .works));
         made = let m = rw r at (k .made) in omega arith;
         ends = ap (λ (y : ℕ). lastAnswer y (restAt start xs u)) ua ∙ (rw r at (k .ends));
         ready = rw eu (next-ready start t x (length xs) sl some (k .ready));
-        lengths = rw el (length-sets log (3 * (first + t .used)) (wordsOf (make (cycleAt start t x) ∷ [])) ∙ k .lengths);
+        lengths = rw el (length-sets log (3 * (first + t .cycles)) (wordsOf (make (cycleAt start t x) ∷ [])) ∙ k .lengths);
       }
 
   pub cycle-invariant-end : {begin : CycleCursor} {log₀ : List ℕ} {s₀ : S} {t : CycleCursor} {log : List ℕ} {s : S} → t .count ≡ 0 → CycleInvariant begin log₀ s₀ t log s →
       (log ≡ logged log₀ first (map make (restAt start xs begin)))
       × (s ≡ through f (restAt start xs begin) s₀)
-      × (t .used ≡ length (restAt start xs begin))
+      × (t .cycles ≡ length (restAt start xs begin))
       × (t .answer ≡ lastAnswer 0 (restAt start xs begin))
   unfolding through lastAnswer wordsOf
   cycle-invariant-end {t = t} z k =
@@ -125,7 +125,7 @@ module _ (kind : ℕ) (m : Memory) (start line first : ℕ) (t : CycleCursor) (x
       flags ≡ flagsOf (t .from % 4) size kind (eqb (next .count) 0) wrong →
       address ≡ line + t .from / 4 * 4 →
       word ≡ wordIn (t .from % 4) (bytesAt (m .ram) (line + t .from) size) →
-      log ≡ logged log₀ (first + t .used) (record { address = address; flags = flags; word = word } ∷ []) →
+      log ≡ logged log₀ (first + t .cycles) (record { address = address; flags = flags; word = word } ∷ []) →
       buffer ≡ sets buffer₀ (t .from) (bytesAt (m .ram) (line + t .from) size) →
       ReadCycle kind m start line first t x log₀ buffer₀ next log buffer
   unfolding readRecord
@@ -140,7 +140,7 @@ module _ (buffer : List ℕ) (line first : ℕ) (t : CycleCursor) (x : ℕ) (m�
       flags ≡ flagsOf (t .from % 4) size 16 (eqb (next .count) 0) false →
       address ≡ line + t .from / 4 * 4 →
       word ≡ wordIn (t .from % 4) (bytesAt buffer (t .from) size) →
-      log ≡ logged log₀ (first + t .used) (record { address = address; flags = flags; word = word } ∷ []) →
+      log ≡ logged log₀ (first + t .cycles) (record { address = address; flags = flags; word = word } ∷ []) →
       m ≡ stored m₀ (line + t .from) (bytesAt buffer (t .from) size) →
       WriteCycle buffer line first t x m₀ log₀ next m log
   unfolding writeRecord
@@ -154,7 +154,7 @@ pub record Fits (t : CycleCursor) (line first ram parity log size : ℕ) : Type 
   pub whole : t .from + size ≤ 16
   pub inside : line + t .from + size ≤ ram
   pub bits : line + t .from + size ≤ 4 * parity
-  pub place : 3 * (first + t .used) + 3 ≤ log
+  pub place : 3 * (first + t .cycles) + 3 ≤ log
 
 pub cycle-fits : (t : CycleCursor) (line first ram parity answers log buffer size x : ℕ) → 0 < t .count →
     CycleNeeds t answers → BufferNeeds line first ram parity answers log buffer → size ≡ sizeOf x (run (t .from) (t .count)) →
@@ -177,11 +177,11 @@ cycle-fits t line first ram parity answers log buffer size x some r z e =
     in-line from size h l = omega arith
 
 -- the loops' measure falls, and where nothing is wanted the loops have left what all cycles leave
-pub less-next : (start : ℕ) (t u : CycleCursor) (x n : ℕ) → u ≡ cycleNext start t x → t .used < n → n - u .used < n - t .used
-less-next start t u x n e h = let k : u .used ≡ t .used + 1 = rw e (next-used start t x .0) in omega arith
+pub less-next : (start : ℕ) (t u : CycleCursor) (x n : ℕ) → u ≡ cycleNext start t x → t .cycles < n → n - u .cycles < n - t .cycles
+less-next start t u x n e h = let k : u .cycles ≡ t .cycles + 1 = rw e (next-cycles start t x .0) in omega arith
 
 pub read-cycles-left : (kind : ℕ) (m : Memory) (xs : List ℕ) (start line first : ℕ) (begin t : CycleCursor) (log₀ buffer₀ log buffer : List ℕ) →
-    begin .used ≡ 0 → t .count ≡ 0 →
+    begin .cycles ≡ 0 → t .count ≡ 0 →
     CycleInvariant (bufferAfter (m .ram) line) (readRecord kind m line) start first xs begin log₀ buffer₀ t log buffer →
     ReadCycles kind m xs start line first begin log₀ buffer₀ t log buffer
 read-cycles-left kind m xs start line first begin t log₀ buffer₀ log buffer u z k =
@@ -196,7 +196,7 @@ read-cycles-left kind m xs start line first begin t log₀ buffer₀ log buffer 
     }
 
 pub write-cycles-left : (buffer xs : List ℕ) (line first : ℕ) (begin t : CycleCursor) (m₀ : Memory) (log₀ : List ℕ) (m : Memory) (log : List ℕ) →
-    begin .used ≡ 0 → t .count ≡ 0 →
+    begin .cycles ≡ 0 → t .count ≡ 0 →
     CycleInvariant (memoryAfter buffer line) (writeRecord buffer line) 0 first xs begin log₀ m₀ t log m →
     WriteCycles buffer xs line first begin m₀ log₀ t m log
 write-cycles-left buffer xs line first begin t m₀ log₀ m log u z k =

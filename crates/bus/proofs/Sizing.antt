@@ -66,7 +66,7 @@ module _ (start : ℕ) (t : CycleCursor) (x : ℕ) where
   size = sizeOf x (run (t .from) (t .count))
 
   abbrev pub doneNext : CycleCursor
-  doneNext = record { from = t .from; count = 0; turn = t .turn; left = 0; used = t .used + 1; answer = x }
+  doneNext = record { from = t .from; count = 0; turn = t .turn; left = 0; cycles = t .cycles + 1; answer = x }
 
   abbrev pub wholeNext : CycleCursor
   wholeNext =
@@ -75,7 +75,7 @@ module _ (start : ℕ) (t : CycleCursor) (x : ℕ) where
         count = 4;
         turn = t .turn + 1;
         left = t .left - 1;
-        used = t .used + 1;
+        cycles = t .cycles + 1;
         answer = x;
       }
 
@@ -86,7 +86,7 @@ module _ (start : ℕ) (t : CycleCursor) (x : ℕ) where
         count = t .count - size;
         turn = t .turn;
         left = t .left;
-        used = t .used + 1;
+        cycles = t .cycles + 1;
         answer = x;
       }
 
@@ -114,8 +114,8 @@ module _ (start : ℕ) (t : CycleCursor) (x : ℕ) where
       (λ e. same-or _ (t .left) 0 (λ k. rw (next-done e k) (f e k)) (λ n. rw (next-whole e n) (g e n)))
       (λ n. rw (next-part n) (h n))
 
-  pub next-used : (cycleNext start t x .used ≡ t .used + 1) × (cycleNext start t x .answer ≡ x)
-  next-used = next-cases (λ r. (r .used ≡ t .used + 1) × (r .answer ≡ x)) (λ _ _. (refl, refl)) (λ _ _. (refl, refl)) (λ _. (refl, refl))
+  pub next-cycles : (cycleNext start t x .cycles ≡ t .cycles + 1) × (cycleNext start t x .answer ≡ x)
+  next-cycles = next-cases (λ r. (r .cycles ≡ t .cycles + 1) × (r .answer ≡ x)) (λ _ _. (refl, refl)) (λ _ _. (refl, refl)) (λ _. (refl, refl))
 
   pub next-ready : (n : ℕ) → start < 4 → 0 < t .count → CycleNeeds t n → CycleNeeds (cycleNext start t x) n
   next-ready n sl some r =

@@ -21,7 +21,7 @@ later start turn (suc n) = run (burstAt start (turn + 1)) 4 ∷ later start (tur
 
 -- The cursor before the first cycle: so many bytes from an offset on, and so many doublewords after them.
 abbrev pub cycleBegin : ℕ → ℕ → ℕ → CycleCursor
-cycleBegin from count after = record { from = from; count = count; turn = 0; left = after; used = 0; answer = 0 }
+cycleBegin from count after = record { from = from; count = count; turn = 0; left = after; cycles = 0; answer = 0 }
 
 -- The wanted bytes at a cursor: none where the count is 0.
 unfoldable pub wantedAt : ℕ → CycleCursor → List Run
@@ -33,13 +33,13 @@ cycleNext start t x =
     let size = sizeOf x (run (t .from) (t .count)) in
     cond (eqb size (t .count))
     (cond (eqb (t .left) 0)
-    (record { from = t .from; count = 0; turn = t .turn; left = 0; used = t .used + 1; answer = x })
+    (record { from = t .from; count = 0; turn = t .turn; left = 0; cycles = t .cycles + 1; answer = x })
     (record {
       from = burstAt start (t .turn + 1);
       count = 4;
       turn = t .turn + 1;
       left = t .left - 1;
-      used = t .used + 1;
+      cycles = t .cycles + 1;
       answer = x;
     }))
     (record {
@@ -47,7 +47,7 @@ cycleNext start t x =
       count = t .count - size;
       turn = t .turn;
       left = t .left;
-      used = t .used + 1;
+      cycles = t .cycles + 1;
       answer = x;
     })
 
@@ -65,7 +65,7 @@ pub record CycleNeeds (t : CycleCursor) (answers : ℕ) : Type 0 where
   pub lanes : t .from % 4 + t .count ≤ 4
   pub line : t .from < 16
   pub turns : t .turn + t .left ≤ 3
-  pub enough : t .used + t .count + 4 * t .left ≤ answers
+  pub enough : t .cycles + t .count + 4 * t .left ≤ answers
 
 -- What the buffers of cycles need: the line in RAM with its parity, a record for each answer from the first record on, a whole line buffer.
 pub record BufferNeeds (line first ram parity answers log buffer : ℕ) : Type 0 where
@@ -80,26 +80,26 @@ pub record BufferNeeds (line first ram parity answers log buffer : ℕ) : Type 0
 -- What a read cycle leaves: the next cursor, its record, its bytes in the line buffer.
 pub record ReadCycle (kind : ℕ) (m : Memory) (start line first : ℕ) (t : CycleCursor) (x : ℕ) (log₀ buffer₀ : List ℕ) (r : CycleCursor) (log buffer : List ℕ) : Type 0 where
   pub turn : r ≡ cycleNext start t x
-  pub logs : log ≡ logged log₀ (first + t .used) (readRecord kind m line (cycleAt start t x) ∷ [])
+  pub logs : log ≡ logged log₀ (first + t .cycles) (readRecord kind m line (cycleAt start t x) ∷ [])
   pub brings : buffer ≡ bufferAfter (m .ram) line (cycleAt start t x .moved) buffer₀
 
 -- What all read cycles from a cursor on leave.
 pub record ReadCycles (kind : ℕ) (m : Memory) (answers : List ℕ) (start line first : ℕ) (t : CycleCursor) (log₀ buffer₀ : List ℕ) (r : CycleCursor) (log buffer : List ℕ) : Type 0 where
   pub logs : log ≡ logged log₀ first (map (readRecord kind m line) (cyclesOf answers (wantedAt start t)))
   pub brings : buffer ≡ through (bufferAfter (m .ram) line) (cyclesOf answers (wantedAt start t)) buffer₀
-  pub made : r .used ≡ length (cyclesOf answers (wantedAt start t))
+  pub made : r .cycles ≡ length (cyclesOf answers (wantedAt start t))
   pub ends : r .answer ≡ lastAnswer 0 (cyclesOf answers (wantedAt start t))
-  pub most : r .used ≤ length answers
+  pub most : r .cycles ≤ length answers
 
 -- What a write cycle leaves.
 pub record WriteCycle (buffer : List ℕ) (line first : ℕ) (t : CycleCursor) (x : ℕ) (m₀ : Memory) (log₀ : List ℕ) (r : CycleCursor) (m : Memory) (log : List ℕ) : Type 0 where
   pub turn : r ≡ cycleNext 0 t x
-  pub logs : log ≡ logged log₀ (first + t .used) (writeRecord buffer line (cycleAt 0 t x) ∷ [])
+  pub logs : log ≡ logged log₀ (first + t .cycles) (writeRecord buffer line (cycleAt 0 t x) ∷ [])
   pub sends : m ≡ memoryAfter buffer line (cycleAt 0 t x .moved) m₀
 
 -- What all write cycles from a cursor on leave.
 pub record WriteCycles (buffer answers : List ℕ) (line first : ℕ) (t : CycleCursor) (m₀ : Memory) (log₀ : List ℕ) (r : CycleCursor) (m : Memory) (log : List ℕ) : Type 0 where
   pub logs : log ≡ logged log₀ first (map (writeRecord buffer line) (cyclesOf answers (wantedAt 0 t)))
   pub sends : m ≡ through (memoryAfter buffer line) (cyclesOf answers (wantedAt 0 t)) m₀
-  pub made : r .used ≡ length (cyclesOf answers (wantedAt 0 t))
-  pub most : r .used ≤ length answers
+  pub made : r .cycles ≡ length (cyclesOf answers (wantedAt 0 t))
+  pub most : r .cycles ≤ length answers

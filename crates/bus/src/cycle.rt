@@ -14,13 +14,13 @@ use memory::lane_word;
 use memory::store_bytes;
 
 // What is left between two cycles: the wanted bytes of the doubleword now on the bus, its turn in the burst order, the
-// doublewords after it, the answers used and the last of them. Nothing is wanted where count is 0.
+// doublewords after it, the cycles made and the answer of the last. Nothing is wanted where count is 0.
 pub struct CycleCursor {
     pub from: usize,
     pub count: usize,
     pub turn: usize,
     pub left: usize,
-    pub used: usize,
+    pub cycles: usize,
     pub answer: u8,
 }
 
@@ -81,14 +81,14 @@ impl CycleCursor {
             count,
             turn: 0,
             left,
-            used: 0,
+            cycles: 0,
             answer: 0,
         }
     }
 
     // What is left after a cycle with this answer.
     fn next(self, start: usize, answer: u8) -> CycleCursor
-        requires { ⌜ (start < 4) × (self .turn + self .left ≤ 3) × (self .from < 16) × (self .count ≤ 4) × (self .used < 64) ⌝ }
+        requires { ⌜ (start < 4) × (self .turn + self .left ≤ 3) × (self .from < 16) × (self .count ≤ 4) × (self .cycles < 64) ⌝ }
         ensures { λ r. ⌜ r ≡ cycleNext start self answer ⌝ }
     {
         let size = size_of(answer, self.from, self.count);
@@ -98,7 +98,7 @@ impl CycleCursor {
                 count: self.count - size,
                 turn: self.turn,
                 left: self.left,
-                used: self.used + 1,
+                cycles: self.cycles + 1,
                 answer,
             };
         }
@@ -108,7 +108,7 @@ impl CycleCursor {
                 count: 0,
                 turn: self.turn,
                 left: 0,
-                used: self.used + 1,
+                cycles: self.cycles + 1,
                 answer,
             };
         }
@@ -117,7 +117,7 @@ impl CycleCursor {
             count: 4,
             turn: self.turn + 1,
             left: self.left - 1,
-            used: self.used + 1,
+            cycles: self.cycles + 1,
             answer,
         }
     }
@@ -137,11 +137,11 @@ fn read_cycle(
     kind: u32,
 ) -> CycleCursor
     requires { ⌜ (0 < t .count) × (start < 4) × (kind ≤ 32) × CycleNeeds t (length (now answers)) × BufferNeeds line first (length (now ram)) (length (now parity)) (length (now answers)) (length (now log)) (length (now buffer)) ⌝ }
-    ensures { λ r. ⌜ ReadCycle kind (memory (now (ram .entry)) (now (parity .entry))) start line first t (getD (now (answers .entry)) (t .used) 0) (now (log .entry)) (now (buffer .entry)) r (now (log .exit)) (now (buffer .exit)) ⌝ }
+    ensures { λ r. ⌜ ReadCycle kind (memory (now (ram .entry)) (now (parity .entry))) start line first t (getD (now (answers .entry)) (t .cycles) 0) (now (log .entry)) (now (buffer .entry)) r (now (log .exit)) (now (buffer .exit)) ⌝ }
 {
-    let used = t.used;
+    let cycles = t.cycles;
     let from = t.from;
-    let answer = answers[used];
+    let answer = answers[cycles];
     let size = size_of(answer, from, t.count);
     let next = t.next(start, answer);
     let at = line + from;
@@ -149,7 +149,7 @@ fn read_cycle(
     let flags = flags_of(from % 4, size, kind, next.count == 0, wrong);
     let address = (line + from / 4 * 4) as u32;
     let word = lane_word(ram, at, from % 4, size);
-    put_record(log, first + used, address, flags, word);
+    put_record(log, first + cycles, address, flags, word);
     copy_bytes(ram, at, buffer, from, size);
     next
 }
@@ -167,7 +167,7 @@ pub fn read_cycles(
     first: usize,
     kind: u32,
 ) -> CycleCursor
-    requires { ⌜ (begin .used ≡ 0) × (begin .answer ≡ 0) × (start < 4) × (kind ≤ 32) × CycleNeeds begin (length (now answers)) × BufferNeeds line first (length (now ram)) (length (now parity)) (length (now answers)) (length (now log)) (length (now buffer)) ⌝ }
+    requires { ⌜ (begin .cycles ≡ 0) × (begin .answer ≡ 0) × (start < 4) × (kind ≤ 32) × CycleNeeds begin (length (now answers)) × BufferNeeds line first (length (now ram)) (length (now parity)) (length (now answers)) (length (now log)) (length (now buffer)) ⌝ }
     ensures { λ r. ⌜ ReadCycles kind (memory (now (ram .entry)) (now (parity .entry))) (now (answers .entry)) start line first begin (now (log .entry)) (now (buffer .entry)) r (now (log .exit)) (now (buffer .exit)) ⌝ }
 {
     let mut t = begin;
@@ -201,17 +201,17 @@ fn write_cycle(
     first: usize,
 ) -> CycleCursor
     requires { ⌜ (0 < t .count) × CycleNeeds t (length (now answers)) × BufferNeeds line first (length (now ram)) (length (now parity)) (length (now answers)) (length (now log)) (length (now buffer)) ⌝ }
-    ensures { λ r. ⌜ WriteCycle (now (buffer .entry)) line first t (getD (now (answers .entry)) (t .used) 0) (memory (now (ram .entry)) (now (parity .entry))) (now (log .entry)) r (memory (now (ram .exit)) (now (parity .exit))) (now (log .exit)) ⌝ }
+    ensures { λ r. ⌜ WriteCycle (now (buffer .entry)) line first t (getD (now (answers .entry)) (t .cycles) 0) (memory (now (ram .entry)) (now (parity .entry))) (now (log .entry)) r (memory (now (ram .exit)) (now (parity .exit))) (now (log .exit)) ⌝ }
 {
-    let used = t.used;
+    let cycles = t.cycles;
     let from = t.from;
-    let answer = answers[used];
+    let answer = answers[cycles];
     let size = size_of(answer, from, t.count);
     let next = t.next(0, answer);
     let flags = flags_of(from % 4, size, 16, next.count == 0, false);
     let address = (line + from / 4 * 4) as u32;
     let word = lane_word(buffer, from, from % 4, size);
-    put_record(log, first + used, address, flags, word);
+    put_record(log, first + cycles, address, flags, word);
     store_bytes(buffer, from, ram, parity, line + from, size);
     next
 }
@@ -227,7 +227,7 @@ pub fn write_cycles(
     line: usize,
     first: usize,
 ) -> CycleCursor
-    requires { ⌜ (begin .used ≡ 0) × (begin .answer ≡ 0) × CycleNeeds begin (length (now answers)) × BufferNeeds line first (length (now ram)) (length (now parity)) (length (now answers)) (length (now log)) (length (now buffer)) ⌝ }
+    requires { ⌜ (begin .cycles ≡ 0) × (begin .answer ≡ 0) × CycleNeeds begin (length (now answers)) × BufferNeeds line first (length (now ram)) (length (now parity)) (length (now answers)) (length (now log)) (length (now buffer)) ⌝ }
     ensures { λ r. ⌜ WriteCycles (now (buffer .entry)) (now (answers .entry)) line first begin (memory (now (ram .entry)) (now (parity .entry))) (now (log .entry)) r (memory (now (ram .exit)) (now (parity .exit))) (now (log .exit)) ⌝ }
 {
     let mut t = begin;

@@ -98,7 +98,7 @@ pub missed-done : (fills : Bool) (m : Memory) (w : Doubleword) (victim first : �
     change ≡ keptChange (fills && eqb (t .answer % 2) 1) victim →
     array ≡ keptArray (fills && eqb (t .answer % 2) 1) victim (w .line) buffer array₀ →
     operand ≡ sets operand₀ (w .place) (bytesAt buffer (w .wanted .from) (w .wanted .count)) →
-    Reads (cond fills (readFill victim m array₀ w) (readPlain m array₀ w)) (w .place) first log₀ operand₀ (record { change = change; records = t .used }) array log operand
+    Reads (cond fills (readFill victim m array₀ w) (readPlain m array₀ w)) (w .place) first log₀ operand₀ (record { change = change; cycles = t .cycles }) array log operand
 unfolding readFill readPlain
 missed-done true m w victim first array₀ log₀ operand₀ t change log buffer array operand k ec ea eo =
     let q : eqb (t .answer % 2) 1 ≡ ken (lastAnswer 0 (fillCycles w)) = ap (λ (x : ℕ). eqb (x % 2) 1) (k .ends) in
@@ -143,7 +143,7 @@ missed-length {fills} {m} {w} {buffer₀ = buffer₀} k = ap length (k .brings) 
 module _ (f : Found) (victim : ℕ) (mayFill : Bool) (m : Memory) (array : List ℕ) (w : Doubleword) where
   pub hit-reads : (way slot first : ℕ) (log operand₀ operand : List ℕ) → f ≡ At way → slot ≡ dataOffset (w .line) way →
       operand ≡ sets operand₀ (w .place) (bytesAt array (slot + w .wanted .from) (w .wanted .count)) →
-      Reads (readDone f victim mayFill m array w) (w .place) first log operand₀ (record { change = Use way; records = 0 }) array log operand
+      Reads (readDone f victim mayFill m array w) (w .place) first log operand₀ (record { change = Use way; cycles = 0 }) array log operand
   unfolding readDone readHit wordsOf
   hit-reads way slot first log operand₀ operand e s o =
       rw e
@@ -166,7 +166,7 @@ module _ (f : Found) (victim : ℕ) (mayFill : Bool) (m : Memory) (array : List 
 pub plain-write : (operand answers : List ℕ) (w : Wanted) (first : ℕ) (m₀ : Memory) (log₀ : List ℕ) (t : CycleCursor) (buffer : List ℕ) (m : Memory) (log : List ℕ) →
     0 < w .count → length answers ≡ groupSize → buffer ≡ writeBuffer operand (doublewordOf w answers) →
     WriteCycles buffer answers (w .line) first (plainStart w) m₀ log₀ t m log →
-    PlainWrite operand (doublewordOf w answers) first m₀ log₀ (t .used) m log
+    PlainWrite operand (doublewordOf w answers) first m₀ log₀ (t .cycles) m log
 plain-write operand answers w first m₀ log₀ t buffer m log some a e k =
     let q = plain-cycles w answers 0 some in
     record {
@@ -180,7 +180,7 @@ plain-write operand answers w first m₀ log₀ t buffer m log some a e k =
 module _ (f : Found) (stays : Bool) (m₀ : Memory) (array operand : List ℕ) (w : Doubleword) (first : ℕ) (log₀ : List ℕ) where
   pub stay-writes : (way slot : ℕ) (array′ : List ℕ) → f ≡ At way → stays ≡ true → slot ≡ dataOffset (w .line) way →
       array′ ≡ sets array (slot + w .wanted .from) (bytesAt operand (w .place) (w .wanted .count)) →
-      Writes (writeDone f stays m₀ array operand w) first log₀ (record { change = Use way; records = 0 }) m₀ array′ log₀
+      Writes (writeDone f stays m₀ array operand w) first log₀ (record { change = Use way; cycles = 0 }) m₀ array′ log₀
   unfolding writeDone hitArray wordsOf
   stay-writes way slot array′ e b s a =
       rw (e, b)
@@ -194,7 +194,7 @@ module _ (f : Found) (stays : Bool) (m₀ : Memory) (array operand : List ℕ) (
       })
 
   through-writes : (change : Change) (array′ : List ℕ) (r : ℕ) (m : Memory) (log : List ℕ) → PlainWrite operand w first m₀ log₀ r m log →
-      Writes (writeThrough change m₀ array′ operand w) first log₀ (record { change = change; records = r }) m array′ log
+      Writes (writeThrough change m₀ array′ operand w) first log₀ (record { change = change; cycles = r }) m array′ log
   unfolding writeThrough
   through-writes change array′ r m log k =
       record {
@@ -208,14 +208,14 @@ module _ (f : Found) (stays : Bool) (m₀ : Memory) (array operand : List ℕ) (
 
   pub hit-writes : (way slot : ℕ) (array′ : List ℕ) (r : ℕ) (m : Memory) (log : List ℕ) → f ≡ At way → stays ≡ false → slot ≡ dataOffset (w .line) way →
       array′ ≡ sets array (slot + w .wanted .from) (bytesAt operand (w .place) (w .wanted .count)) → PlainWrite operand w first m₀ log₀ r m log →
-      Writes (writeDone f stays m₀ array operand w) first log₀ (record { change = Use way; records = r }) m array′ log
+      Writes (writeDone f stays m₀ array operand w) first log₀ (record { change = Use way; cycles = r }) m array′ log
   unfolding writeDone hitArray
   hit-writes way slot array′ r m log e b s a k =
       let h : array′ ≡ hitArray way array operand w = rw s at a in
       rw (e, b, h) (through-writes (Use way) (hitArray way array operand w) r m log k)
 
   pub miss-writes : (r : ℕ) (m : Memory) (log : List ℕ) → f ≡ Nothing → PlainWrite operand w first m₀ log₀ r m log →
-      Writes (writeDone f stays m₀ array operand w) first log₀ (record { change = Unchanged; records = r }) m array log
+      Writes (writeDone f stays m₀ array operand w) first log₀ (record { change = Unchanged; cycles = r }) m array log
   unfolding writeDone
   miss-writes r m log e k = rw e (through-writes Unchanged array r m log k)
 

@@ -46,9 +46,9 @@ missKind fills = cond fills filling plainRead
 pub record ReadMiss (fills : Bool) (m : Memory) (w : Doubleword) (first : ℕ) (log₀ buffer₀ : List ℕ) (r : CycleCursor) (log buffer : List ℕ) : Type 0 where
   pub logs : log ≡ logged log₀ first (map (readRecord (missKind fills) m (w .line)) (missCycles fills w))
   pub brings : buffer ≡ through (bufferAfter (m .ram) (w .line)) (missCycles fills w) buffer₀
-  pub made : r .used ≡ length (missCycles fills w)
+  pub made : r .cycles ≡ length (missCycles fills w)
   pub ends : r .answer ≡ lastAnswer 0 (missCycles fills w)
-  pub most : r .used ≤ groupSize
+  pub most : r .cycles ≤ groupSize
 
 -- A fill that is kept, or dropped.
 abbrev pub keptChange : Bool → ℕ → Change
@@ -63,8 +63,8 @@ pub record Reads (done : Done) (place first : ℕ) (log₀ operand₀ : List ℕ
   pub arrays : array ≡ done .array
   pub logs : log ≡ logged log₀ first (done .records)
   pub bytes : operand ≡ sets operand₀ place (done .bytes)
-  pub made : r .records ≡ length (done .records)
-  pub most : r .records ≤ groupSize
+  pub made : r .cycles ≡ length (done .records)
+  pub most : r .cycles ≤ groupSize
 
 -- The same for a write.
 pub record Writes (done : Done) (first : ℕ) (log₀ : List ℕ) (r : DoublewordResult) (m : Memory) (array log : List ℕ) : Type 0 where
@@ -72,8 +72,8 @@ pub record Writes (done : Done) (first : ℕ) (log₀ : List ℕ) (r : Doublewor
   pub memories : m ≡ done .memory
   pub arrays : array ≡ done .array
   pub logs : log ≡ logged log₀ first (done .records)
-  pub made : r .records ≡ length (done .records)
-  pub most : r .records ≤ groupSize
+  pub made : r .cycles ≡ length (done .records)
+  pub most : r .cycles ≤ groupSize
 
 -- What the write cycles of a doubleword leave.
 pub record PlainWrite (operand : List ℕ) (w : Doubleword) (first : ℕ) (m₀ : Memory) (log₀ : List ℕ) (r : ℕ) (m : Memory) (log : List ℕ) : Type 0 where

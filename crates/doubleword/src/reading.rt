@@ -113,7 +113,7 @@ pub fn read_doubleword<'a>(
         );
         return DoublewordResult {
             change: Change::Use(way),
-            records: 0,
+            cycles: 0,
         };
     }
     let fills = may_fill & (answers[0] % 2 == 1);
@@ -124,6 +124,6 @@ pub fn read_doubleword<'a>(
     let change = keep_line(valid, lru, data, &buffer, w.line, kept);
     DoublewordResult {
         change,
-        records: t.used,
+        cycles: t.cycles,
     }
 }

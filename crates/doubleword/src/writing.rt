@@ -41,7 +41,7 @@ fn write_through(
         w.line as usize,
         first,
     );
-    t.used
+    t.cycles
 }
 
 // One doubleword of a write. stays: CD = NW = 1, where a hit makes no cycle.
@@ -74,18 +74,18 @@ pub fn write_doubleword<'a>(
         if stays {
             return DoublewordResult {
                 change: Change::Use(way),
-                records: 0,
+                cycles: 0,
             };
         }
-        let records = write_through(ram, parity, answers, log, operand, w, first);
+        let cycles = write_through(ram, parity, answers, log, operand, w, first);
         return DoublewordResult {
             change: Change::Use(way),
-            records,
+            cycles,
         };
     }
-    let records = write_through(ram, parity, answers, log, operand, w, first);
+    let cycles = write_through(ram, parity, answers, log, operand, w, first);
     DoublewordResult {
         change: Change::Unchanged,
-        records,
+        cycles,
     }
 }

@@ -87,12 +87,12 @@ pub extern "C" fn unit486_read_in_place<'a>(
         );
         let change = step.change;
         change_in_place(tags, valid, lru, step.line, change);
-        cursor = cursor.next(step.count, step.records);
+        cursor = cursor.next(step.count, step.cycles);
     }
     CallResult {
         number: 0,
         value: word_of(operand),
-        cycles: cursor.records as u32,
+        cycles: cursor.cycles as u32,
     }
 }
 
@@ -142,12 +142,12 @@ pub extern "C" fn unit486_write_in_place<'a>(
         );
         let change = step.change;
         change_in_place(tags, valid, lru, step.line, change);
-        cursor = cursor.next(step.count, step.records);
+        cursor = cursor.next(step.count, step.cycles);
     }
     CallResult {
         number: 0,
         value: 0,
-        cycles: cursor.records as u32,
+        cycles: cursor.cycles as u32,
     }
 }
 

@@ -16,7 +16,7 @@ use Rattle.directory.specs.State.{stateIn}
 use Rattle.directory.specs.Ways.{lookupIn}
 use Rattle.memory.specs.Bytes.{bytesAt}
 use Rattle.doubleword.specs.Doubleword.{dataOffset}
-use Rattle.refusal.specs.Refusal.{orElse, viewInputNumber}
+use Rattle.refusal.specs.Refusal.{viewInputNumber}
 use Rattle.memory.proofs.Places.{bytes-length}
 use Rattle.refusal.proofs.Accepted.{or-zero, GoodView, view-accepted}
 use Rattle.views.specs.View.{viewNumberIn, shown, viewIn, shownAt, viewAt}

@@ -13,7 +13,7 @@ abbrev Inv-loop : tie.InvT-loop
 Inv-loop ram parity answers log₀ buffer₀ start line first kind t₀ log buffer t = CycleInvariant (bufferAfter ram line) (readRecord kind (memory ram parity) line) start first answers t₀ log₀ buffer₀ t log buffer × (length buffer ≡ length buffer₀)
 
 abbrev μ-loop : tie.MeasureT-loop
-μ-loop ram parity answers log₀ buffer₀ start line first kind t₀ log buffer t = length answers - t .used
+μ-loop ram parity answers log₀ buffer₀ start line first kind t₀ log buffer t = length answers - t .cycles
 
 loop-holds : tie.Need-loop-holds Inv-loop μ-loop
 loop-holds c = (cycle-invariant-begin _ _ _ _ _ _ _ _ (c .before .before .before .before .before .pre .0) (c .before .before .before .before .before .pre .1) (c .before .before .before .before .before .pre .4), refl)

@@ -13,7 +13,7 @@ abbrev Inv-loop : tie.InvT-loop
 Inv-loop ram₀ parity₀ answers log₀ buffer line first t₀ ram parity log t = CycleInvariant (memoryAfter buffer line) (writeRecord buffer line) 0 first answers t₀ log₀ (memory ram₀ parity₀) t log (memory ram parity) × (length ram ≡ length ram₀) × (length parity ≡ length parity₀)
 
 abbrev μ-loop : tie.MeasureT-loop
-μ-loop ram₀ parity₀ answers log₀ buffer line first t₀ ram parity log t = length answers - t .used
+μ-loop ram₀ parity₀ answers log₀ buffer line first t₀ ram parity log t = length answers - t .cycles
 
 loop-holds : tie.Need-loop-holds Inv-loop μ-loop
 loop-holds c = (cycle-invariant-begin _ _ _ _ _ _ _ _ (c .before .before .before .before .before .pre .0) (c .before .before .before .before .before .pre .1) (c .before .before .before .before .before .pre .2), refl, refl)

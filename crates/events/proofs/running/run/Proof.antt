@@ -1,7 +1,6 @@
 use mathlib.Core.Path.{_∙_}
 use Rattle.lines.proofs.Printing.{header-length}
 use Rattle.events.proofs.Rest.{output-long, output-lines, after-header}
-use borrow.Author.Needs.{needs}
 use native.Mathlib.Omega.{arith}
 use Rattle.events.proofs.running.run.Statement.{statement}
 use Rattle.events.proofs.running.run.Tie as tie
