@@ -158,7 +158,7 @@ def main() -> int:
     nodes, faults, rows, references, edits = read_crates(), [], 0, 0, set()
     cited = reach([key for key, node in nodes.items() if node.function and node.public], nodes)
     for number, line in enumerate((ROOT / "docs/TRACE.md").read_text().splitlines(), start=1):
-        if line[:1] != "|" or line.startswith(("| document 01 |", "|---")):
+        if line[:1] != "|" or line.startswith(("| document 01 |", "| demand |", "|---")):
             continue
         cells = dict(zip(COLUMNS, (re.findall("`(.*?)`", cell) for cell in line.split("|")[2:])))
         found = {column: [resolve(column, name, nodes) for name in cells[column]] for column in cells}

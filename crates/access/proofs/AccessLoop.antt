@@ -206,7 +206,7 @@ module _ (cursor : AccessCursor) (ram parity array answers log operand : ℕ) (z
         lanes = omega arith;
         line = omega arith;
         served = e;
-        records = omega (arith, z .made, z .room, needs-more);
+        records = omega (arith, z .made, z .records, needs-more);
         few = omega (arith, z .made, needs-more);
       }
 
@@ -219,7 +219,7 @@ module _ (cursor : AccessCursor) (ram parity array answers log operand : ℕ) (z
         bits = z .bits;
         arrayLength = z .arrayLength;
         served = z .served;
-        room = z .room;
+        records = z .records;
         fits = fits-next (cursor .left) (cursor .address) (cursor .group) _ refl (z .fits) needs-more;
         last = omega (arith, needs-more);
         made = omega (arith, z .made);

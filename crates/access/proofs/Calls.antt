@@ -17,7 +17,7 @@ use Rattle.doubleword.specs.Doubleword.{Doubleword, Done, doublewordsOf}
 use Rattle.refusal.specs.Refusal.{orElse, memoryNumber, externalNumber, statesOf, lentNumber, argumentNumber, valueNumber}
 use Rattle.access.specs.Access.{State, state, Progress, allOf, readOne, writeOne, after, outcome, refused, accepted, readNumber, writeNumber, readAll, writeAll, operandOf, readCall, writeCall}
 use Rattle.access.specs.Masters.{written, externalWriteNumber, externalCall}
-use Rattle.access.specs.AccessLoop.{accessStart, restOf, AccessNeeds}
+use Rattle.access.specs.AccessLoop.{accessBegin, restOf, AccessNeeds}
 use Rattle.refusal.proofs.Accepted.{or-zero, zero-or, first-or, or-grouped, GoodMemory, GoodExternal, memory-accepted, lent-accepted, arguments-accepted, external-accepted}
 use Rattle.access.proofs.AccessLoop.{AccessInvariant, access-invariant-end, ReadInvariant, reading-end}
 use Rattle.access.proofs.Values.{all-length, value-padded}
@@ -96,7 +96,7 @@ module _ (d : Directory) (m : Memory) (array : List ℕ) (address width : ℕ) (
   numbered later = sym (or-grouped (lentNumber (length (m .ram)) (length (m .parity)) (length array)) (argumentNumber (length (m .ram)) address width answers (length log)) later) ∙ ap (λ (x : ℕ). orElse x later) (sym en)
 
   -- what the loops start with
-  pub needs-begin : n ≡ 0 → AccessNeeds (accessStart address width) (length (m .ram)) (length (m .parity)) (length array) (length answers) (length log) 4
+  pub needs-begin : n ≡ 0 → AccessNeeds (accessBegin address width) (length (m .ram)) (length (m .parity)) (length array) (length answers) (length log) 4
   needs-begin z =
       let p = or-zero (lentNumber (length (m .ram)) (length (m .parity)) (length array)) _ (sym en ∙ z) in
       let l = lent-accepted _ _ _ (p .0) in
@@ -108,7 +108,7 @@ module _ (d : Directory) (m : Memory) (array : List ℕ) (address width : ℕ) (
         bits = l .0 .bits;
         arrayLength = l .1;
         served = r .served;
-        room = r .room;
+        records = r .records;
         fits = omega (arith, r .four);
         last = omega arith;
         made = omega arith;
@@ -133,7 +133,7 @@ module _ (d : Directory) (m : Memory) (array : List ℕ) (address width : ℕ) (
       read-state-refused h = read-refused bad (read-number ∙ zero-or n _ z ∙ sym eb) h
 
       pub read-done : bad ≡ 0 → (cursor : AccessCursor) (d′ : Directory) (array′ log′ operand : List ℕ) (value : ℕ) → cursor .left ≡ 0 →
-          ReadInvariant pcd answers (allOf (readOne pcd) s (restOf (accessStart address width) answers)) log (replicate 4 0) cursor (state d′ m array′) log′ operand →
+          ReadInvariant pcd answers (allOf (readOne pcd) s (restOf (accessBegin address width) answers)) log (replicate 4 0) cursor (state d′ m array′) log′ operand →
           value ≡ valueOf operand →
           after (outcome d′ 0 value (cursor .cycles)) m array′ log′ ≡ readCall s address width pcd answers log
       unfolding readCall readAll restOf
@@ -165,7 +165,7 @@ module _ (d : Directory) (m : Memory) (array : List ℕ) (address width : ℕ) (
       write-later-refused h = write-refused bad (write-number ∙ zero-or n _ z ∙ sym later) h
 
       pub write-done : bad ≡ 0 → (cursor : AccessCursor) (d′ : Directory) (m′ : Memory) (array′ log′ : List ℕ) → cursor .left ≡ 0 →
-          AccessInvariant (writeOne (operandOf value)) answers (allOf (writeOne (operandOf value)) s (restOf (accessStart address width) answers)) log cursor (state d′ m′ array′) log′ →
+          AccessInvariant (writeOne (operandOf value)) answers (allOf (writeOne (operandOf value)) s (restOf (accessBegin address width) answers)) log cursor (state d′ m′ array′) log′ →
           after (outcome d′ 0 0 (cursor .cycles)) m′ array′ log′ ≡ writeCall s address width value answers log
       unfolding writeCall writeAll restOf
       write-done b cursor d′ m′ array′ log′ e g =

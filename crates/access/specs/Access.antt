@@ -7,13 +7,13 @@ use lib.ListN.{length}
 use Rattle.directory.specs.declared.steps.Directory.{Directory}
 use Rattle.directory.specs.Address.{setOf}
 use Rattle.directory.specs.Steps.{lookupOf, victimOf}
-use Rattle.access.specs.declared.outcome.Outcome.{Outcome}
 use Rattle.memory.specs.Bytes.{valueOf, bytesOf}
 use Rattle.memory.specs.Parity.{Memory}
 use Rattle.bus.specs.Record.{Record, logged}
-use Rattle.doubleword.specs.Doubleword.{Doubleword, doublewordsOf, changed, Done, readDone, writeDone}
 use Rattle.bus.specs.Groups.{groupCount}
+use Rattle.doubleword.specs.Doubleword.{Doubleword, doublewordsOf, changed, Done, readDone, writeDone}
 use Rattle.refusal.specs.Refusal.{orElse, lentNumber, argumentNumber, valueNumber, statesOf}
+use Rattle.access.specs.declared.outcome.Outcome.{Outcome}
 
 -- What a call is lent and changes: directory, RAM with its parity, data array (`array`).
 pub record State : Type 0 where

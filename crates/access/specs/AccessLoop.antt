@@ -1,11 +1,11 @@
--- What the code's own state between two doublewords of an access stands for, and what the next doubleword leaves.
+-- What the code's own cursor between two doublewords of an access stands for, and what the next doubleword leaves.
 use Prim.Native.Nat.{ℕ, _+_, _*_, _-_, _/_, _%_, _≤_, min}
 use mathlib.Core.Path.{_≡_}
 use mathlib.Core.List.{List}
 use lib.ListN.{length, take, drop}
 use lib.Seq.{sets}
-use Rattle.bus.specs.Groups.{groupSize, groupCount}
 use Rattle.memory.specs.Parity.{Memory}
+use Rattle.bus.specs.Groups.{groupSize, groupCount}
 use Rattle.bus.specs.Record.{logged}
 use Rattle.doubleword.specs.declared.change.Wanted.{Wanted}
 use Rattle.doubleword.specs.Doubleword.{Doubleword, Done, doublewordsOf}
@@ -14,8 +14,8 @@ use Rattle.access.specs.declared.cursor.AccessCursor.{AccessCursor}
 use Rattle.access.specs.declared.cursor.StepResult.{StepResult}
 
 -- The start of an access, its next doubleword, and what is left after it.
-abbrev pub accessStart : ℕ → ℕ → AccessCursor
-accessStart address width = record { address = address; left = width; group = 0; place = 0; cycles = 0 }
+abbrev pub accessBegin : ℕ → ℕ → AccessCursor
+accessBegin address width = record { address = address; left = width; group = 0; place = 0; cycles = 0 }
 
 abbrev pub wantedOf : AccessCursor → Wanted
 wantedOf cursor =
@@ -49,7 +49,7 @@ pub record AccessNeeds (cursor : AccessCursor) (ram parity array answers log ope
   pub bits : parity ≡ ram / 4
   pub arrayLength : array ≡ 8192
   pub served : answers ≡ groupSize * groupCount
-  pub room : 3 * (groupSize * groupCount) ≤ log
+  pub records : 3 * (groupSize * groupCount) ≤ log
   pub fits : cursor .left ≤ 4 * (groupCount - cursor .group) - cursor .address % 4
   pub last : cursor .group ≤ groupCount
   pub made : cursor .cycles ≤ cursor .group * groupSize
@@ -63,7 +63,7 @@ lineAddress cursor = cursor .address / 16 * 16
 abbrev pub nextDoubleword : AccessCursor → List ℕ → Doubleword
 nextDoubleword cursor answers = doublewordOf (wantedOf cursor) (take groupSize (drop (cursor .group * groupSize) answers))
 
--- What the code hands back and leaves in the buffers for what the next doubleword of a read, or of a write, does.
+-- What the code hands back and leaves in the buffers for what the next doubleword of a read does.
 pub record ReadStep (done : Done) (cursor : AccessCursor) (log₀ operand₀ : List ℕ) (r : StepResult) (array log operand : List ℕ) : Type 0 where
   pub line : r .line ≡ lineAddress cursor
   pub change : r .change ≡ done .change

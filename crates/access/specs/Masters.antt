@@ -7,9 +7,9 @@ use lib.ListN.{length}
 use Rattle.directory.specs.declared.steps.Directory.{Directory}
 use Rattle.directory.specs.declared.steps.DirectoryResult.{DirectoryResult}
 use Rattle.directory.specs.Steps.{afterSnoop, afterReset, afterFlush, snoopCall, controlCall}
-use Rattle.access.specs.declared.outcome.Outcome.{Outcome}
 use Rattle.memory.specs.Parity.{Memory, stored}
 use Rattle.refusal.specs.Refusal.{orElse, memoryNumber, externalNumber, statesOf}
+use Rattle.access.specs.declared.outcome.Outcome.{Outcome}
 use Rattle.access.specs.Access.{outcome}
 
 -- What an external write leaves: its answer with the directory, and memory.

@@ -1,7 +1,7 @@
 // The doublewords of an access, the lowest first.
 ghost use mathlib.Core.Path.{_≡_};
 ghost use Prim.Native.Nat.{_+_, _≤_, _<_};
-ghost use Rattle.access.specs.AccessLoop.{accessNext, accessStart, wantedOf};
+ghost use Rattle.access.specs.AccessLoop.{accessBegin, accessNext, wantedOf};
 use doubleword::Change;
 use doubleword::Wanted;
 
@@ -25,8 +25,9 @@ pub struct StepResult {
 }
 
 impl AccessCursor {
-    pub fn start(address: u32, width: u32) -> AccessCursor
-        ensures { λ r. ⌜ r ≡ accessStart address width ⌝ }
+    // Before the first doubleword: so many bytes from an address on.
+    pub fn begin(address: u32, width: u32) -> AccessCursor
+        ensures { λ r. ⌜ r ≡ accessBegin address width ⌝ }
     {
         AccessCursor {
             address,

@@ -47,11 +47,11 @@ pub fn external_write(
 pub fn snoop(given: Directory, address: u32) -> Outcome
     ensures { λ r. ⌜ r ≡ snoopOutcome given address ⌝ }
 {
-    let answer = given.snoop(address);
-    let directory = answer.directory;
+    let result = given.snoop(address);
+    let directory = result.directory;
     Outcome {
         directory,
-        number: answer.number,
+        number: result.number,
         value: 0,
         cycles: 0,
     }
@@ -60,11 +60,11 @@ pub fn snoop(given: Directory, address: u32) -> Outcome
 pub fn control(given: Directory, cd: bool, nw: bool) -> Outcome
     ensures { λ r. ⌜ r ≡ controlOutcome given cd nw ⌝ }
 {
-    let answer = given.control(cd, nw);
-    let directory = answer.directory;
+    let result = given.control(cd, nw);
+    let directory = result.directory;
     Outcome {
         directory,
-        number: answer.number,
+        number: result.number,
         value: 0,
         cycles: 0,
     }

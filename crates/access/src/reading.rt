@@ -2,12 +2,12 @@
 ghost use mathlib.Core.Path.{_≡_};
 ghost use Prim.Native.Nat.{_<_};
 ghost use lib.ListN.{length};
-ghost use Rattle.directory.specs.Ways.{lookupIn, victimIn};
 ghost use Rattle.directory.specs.Address.{setOf};
+ghost use Rattle.directory.specs.Ways.{lookupIn, victimIn};
 ghost use Rattle.memory.specs.Parity.{memory};
 ghost use Rattle.doubleword.specs.Doubleword.{readDone};
 ghost use Rattle.access.specs.Access.{after, readCall, state};
-ghost use Rattle.access.specs.AccessLoop.{lineAddress, nextDoubleword, AccessNeeds, ReadStep};
+ghost use Rattle.access.specs.AccessLoop.{AccessNeeds, lineAddress, nextDoubleword, ReadStep};
 use crate::cursor::AccessCursor;
 use crate::cursor::StepResult;
 use crate::outcome::Outcome;
@@ -89,7 +89,7 @@ pub fn read(
         return refused(given, bad);
     }
     let mut operand = [0u8; 4];
-    let mut cursor = AccessCursor::start(address, width);
+    let mut cursor = AccessCursor::begin(address, width);
     while 0 < cursor.left {
         let step = read_step(
             &given.tags,

@@ -6,7 +6,7 @@ ghost use Rattle.directory.specs.Ways.{lookupIn};
 ghost use Rattle.memory.specs.Parity.{memory};
 ghost use Rattle.doubleword.specs.Doubleword.{writeDone};
 ghost use Rattle.access.specs.Access.{after, state, writeCall};
-ghost use Rattle.access.specs.AccessLoop.{lineAddress, nextDoubleword, AccessNeeds, WriteStep};
+ghost use Rattle.access.specs.AccessLoop.{AccessNeeds, lineAddress, nextDoubleword, WriteStep};
 use crate::cursor::AccessCursor;
 use crate::cursor::StepResult;
 use crate::outcome::Outcome;
@@ -89,7 +89,7 @@ pub fn write(
         return refused(given, bad);
     }
     let operand = bytes_of(value);
-    let mut cursor = AccessCursor::start(address, width);
+    let mut cursor = AccessCursor::begin(address, width);
     while 0 < cursor.left {
         let step = write_step(
             &given.tags,

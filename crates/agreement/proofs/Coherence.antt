@@ -157,7 +157,7 @@ filled-lines d g m array l line w al fits a8 wl x xl hx =
       same = λ s v tag sl vl h o ol.
           ⊎-elim
           (λ n. rw (n .0 .0, n .0 .1, n .1, line-back line al) (sets-in array (dataOffset line w) x o (rw xl ol) (omega arith) ∙ hx o ol))
-          (λ n. other-slot s v o vl ol (λ e. n .0 (omega arith, omega arith)) ∙ l .same s v tag sl vl (n .1) o ol)
+          (λ n. other-line s v o vl ol (λ e. n .0 (omega arith, omega arith)) ∙ l .same s v tag sl vl (n .1) o ol)
           (split s v tag vl h);
     }
   where
@@ -165,8 +165,8 @@ filled-lines d g m array l line w al fits a8 wl x xl hx =
         (Same s v (setOf line) w × (tag ≡ tagOf line)) ⊎ ((Same s v (setOf line) w → ⊥) × Held d s v tag)
     split = fill-held d (setOf line) w (tagOf line) (g .sized) (omega arith) wl
 
-    other-slot : (s v o : ℕ) → v < 4 → o < 16 → (lineIndex s v ≡ lineIndex (setOf line) w → ⊥) → getD (sets array (dataOffset line w) x) (lineIndex s v * 16 + o) 0 ≡ getD array (lineIndex s v * 16 + o) 0
-    other-slot s v o vl ol ne =
+    other-line : (s v o : ℕ) → v < 4 → o < 16 → (lineIndex s v ≡ lineIndex (setOf line) w → ⊥) → getD (sets array (dataOffset line w) x) (lineIndex s v * 16 + o) 0 ≡ getD array (lineIndex s v * 16 + o) 0
+    other-line s v o vl ol ne =
         elim (decLt (lineIndex s v) (lineIndex (setOf line) w)) [
           | yes c ↦ sets-below array (dataOffset line w) x (lineIndex s v * 16 + o) (omega arith)
           | no c ↦ sets-above array (dataOffset line w) x (lineIndex s v * 16 + o) (let c2 : lineIndex (setOf line) w < lineIndex s v = omega arith in omega arith)

@@ -7,17 +7,18 @@ use mathlib.Core.Logic.{_⊎_}
 use lib.ListN.{length, getD}
 use Rattle.directory.specs.Steps.{afterReset, controlRefused}
 use Rattle.memory.specs.Parity.{Memory, Agrees}
-use Rattle.access.specs.Access.{State, state, After}
 use Rattle.refusal.specs.Refusal.{lentNumber}
+use Rattle.access.specs.Access.{State, state, After}
 use Rattle.agreement.specs.Calls.{Call, read, write, external, snoop, flush, control, view, reset, Step, step, nextState}
 use Rattle.agreement.specs.Plain.{Plain, plain}
 
--- "No record that a call of the list leaves carries 128.": of the records that a call counts, whose flags are the second of three words each.
+-- "No record that a call of the list leaves carries 128.": of the records that a call counts, whose flags are the second of three words each. That the
+-- count is the number of records is demand 2's; an accepted call's log has at least 96 words, so that each of them is there.
 abbrev pub NoParityError : After → Type 0
 NoParityError a =
     (k : ℕ) → k < a .outcome .cycles → getD (a .log) (3 * k + 1) 0 / 128 % 2 ≡ 0
 
--- "Compared after each call": numbers, values, views, "and all of RAM". For every call, refused ones too (D50).
+-- "Compared after each call": numbers, values, views, "and all of RAM"; and no record carries 128. For every call, refused ones too (D50).
 pub record Matches (x : Step) (p : Plain) : Type 0 where
   pub numbers : x .leaves .outcome .number ≡ p .number
   pub values : x .leaves .outcome .value ≡ p .value

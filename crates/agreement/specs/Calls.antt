@@ -8,8 +8,9 @@ use Rattle.access.specs.Access.{State, state, After, after, outcome, readCall, 
 use Rattle.access.specs.Masters.{Written, externalCall, snoopOutcome, controlOutcome, flushOutcome, resetOutcome}
 use Rattle.views.specs.View.{viewNumberIn, viewIn}
 
--- Numbers are ℕ, so that a claim about every list covers more than 32-bit addresses and 8-bit bytes.
 -- "the calls' arguments except directory, RAM, parity and data array": "The log, the board's answers and an external write's bytes are each call's own and may be anything."
+-- Numbers are ℕ, so that the claim covers lists that no caller can make too; the contracts tie steps with 32-bit arguments and
+-- 8-bit bytes to the code.
 pub data Call : Type 0 where
   read : (address width : ℕ) → (pcd : Bool) → (answers log : List ℕ) → Call
   write : (address width value : ℕ) → (answers log : List ℕ) → Call

@@ -36,10 +36,10 @@ burst-whole : (start turn : ℕ) → start < 4 → turn < 4 → Whole (burstAt s
 unfolding burst
 burst-whole start turn sl tl =
     four (λ s. Whole (burstAt s turn))
-    (four (λ t. Whole (burstAt 0 t)) at0 at4 at8 at12 turn tl)
-    (four (λ t. Whole (burstAt 1 t)) at4 at0 at12 at8 turn tl)
-    (four (λ t. Whole (burstAt 2 t)) at8 at12 at0 at4 turn tl)
-    (four (λ t. Whole (burstAt 3 t)) at12 at8 at4 at0 turn tl)
+    (four (λ cursor. Whole (burstAt 0 cursor)) at0 at4 at8 at12 turn tl)
+    (four (λ cursor. Whole (burstAt 1 cursor)) at4 at0 at12 at8 turn tl)
+    (four (λ cursor. Whole (burstAt 2 cursor)) at8 at12 at0 at4 turn tl)
+    (four (λ cursor. Whole (burstAt 3 cursor)) at12 at8 at4 at0 turn tl)
     start
     sl
   where
@@ -61,86 +61,86 @@ unfolding burst later
 burst-later start sl = four (λ s. burst s ≡ run (s * 4) 4 ∷ later s 0 3) refl refl refl refl start sl
 
 -- the cursor after a cycle, by what the cycle left
-module _ (start : ℕ) (t : CycleCursor) (x : ℕ) where
+module _ (start : ℕ) (cursor : CycleCursor) (x : ℕ) where
   abbrev size : ℕ
-  size = sizeOf x (run (t .from) (t .count))
+  size = sizeOf x (run (cursor .from) (cursor .count))
 
   abbrev pub doneNext : CycleCursor
-  doneNext = record { from = t .from; count = 0; turn = t .turn; left = 0; cycles = t .cycles + 1; answer = x }
+  doneNext = record { from = cursor .from; count = 0; turn = cursor .turn; left = 0; cycles = cursor .cycles + 1; answer = x }
 
   abbrev pub wholeNext : CycleCursor
   wholeNext =
       record {
-        from = burstAt start (t .turn + 1);
+        from = burstAt start (cursor .turn + 1);
         count = 4;
-        turn = t .turn + 1;
-        left = t .left - 1;
-        cycles = t .cycles + 1;
+        turn = cursor .turn + 1;
+        left = cursor .left - 1;
+        cycles = cursor .cycles + 1;
         answer = x;
       }
 
   abbrev pub partNext : CycleCursor
   partNext =
       record {
-        from = t .from + size;
-        count = t .count - size;
-        turn = t .turn;
-        left = t .left;
-        cycles = t .cycles + 1;
+        from = cursor .from + size;
+        count = cursor .count - size;
+        turn = cursor .turn;
+        left = cursor .left;
+        cycles = cursor .cycles + 1;
         answer = x;
       }
 
-  pub next-done : size ≡ t .count → t .left ≡ 0 → cycleNext start t x ≡ doneNext
+  pub next-done : size ≡ cursor .count → cursor .left ≡ 0 → cycleNext start cursor x ≡ doneNext
   unfolding cycleNext
   next-done e f = rw (eq-eqb _ _ e, eq-eqb _ _ f)
 
-  pub next-whole : size ≡ t .count → (t .left ≡ 0 → ⊥) → cycleNext start t x ≡ wholeNext
+  pub next-whole : size ≡ cursor .count → (cursor .left ≡ 0 → ⊥) → cycleNext start cursor x ≡ wholeNext
   unfolding cycleNext
   next-whole e n = rw (eq-eqb _ _ e, ne-eqb _ _ n)
 
-  pub next-part : (size ≡ t .count → ⊥) → cycleNext start t x ≡ partNext
+  pub next-part : (size ≡ cursor .count → ⊥) → cycleNext start cursor x ≡ partNext
   unfolding cycleNext
   next-part n = rw (ne-eqb _ _ n)
 
   -- what holds of each of the three holds of the next cursor
   pub next-cases :
       (P : CycleCursor → Type 0) →
-      (size ≡ t .count → t .left ≡ 0 → P doneNext) →
-      (size ≡ t .count → (t .left ≡ 0 → ⊥) → P wholeNext) →
-      ((size ≡ t .count → ⊥) → P partNext) →
-      P (cycleNext start t x)
+      (size ≡ cursor .count → cursor .left ≡ 0 → P doneNext) →
+      (size ≡ cursor .count → (cursor .left ≡ 0 → ⊥) → P wholeNext) →
+      ((size ≡ cursor .count → ⊥) → P partNext) →
+      P (cycleNext start cursor x)
   next-cases P f g h =
-      same-or _ size (t .count)
-      (λ e. same-or _ (t .left) 0 (λ k. rw (next-done e k) (f e k)) (λ n. rw (next-whole e n) (g e n)))
+      same-or _ size (cursor .count)
+      (λ e. same-or _ (cursor .left) 0 (λ k. rw (next-done e k) (f e k)) (λ n. rw (next-whole e n) (g e n)))
       (λ n. rw (next-part n) (h n))
 
-  pub next-cycles : (cycleNext start t x .cycles ≡ t .cycles + 1) × (cycleNext start t x .answer ≡ x)
-  next-cycles = next-cases (λ r. (r .cycles ≡ t .cycles + 1) × (r .answer ≡ x)) (λ _ _. (refl, refl)) (λ _ _. (refl, refl)) (λ _. (refl, refl))
+  pub next-cycles : (cycleNext start cursor x .cycles ≡ cursor .cycles + 1) × (cycleNext start cursor x .answer ≡ x)
+  next-cycles = next-cases (λ r. (r .cycles ≡ cursor .cycles + 1) × (r .answer ≡ x)) (λ _ _. (refl, refl)) (λ _ _. (refl, refl)) (λ _. (refl, refl))
 
-  pub next-ready : (n : ℕ) → start < 4 → 0 < t .count → CycleNeeds t n → CycleNeeds (cycleNext start t x) n
+  pub next-ready : (n : ℕ) → start < 4 → 0 < cursor .count → CycleNeeds cursor n → CycleNeeds (cycleNext start cursor x) n
   next-ready n sl some r =
-      let k = size-some x (t .from) (t .count) some in
-      let m = size-most x (t .from) (t .count) in
+      let k = size-some x (cursor .from) (cursor .count) some in
+      let m = size-most x (cursor .from) (cursor .count) in
       next-cases (λ u. CycleNeeds u n)
       (λ e z. record { lanes = omega (arith, r .lanes); line = r .line; turns = omega (arith, r .turns); enough = omega (arith, r .enough) })
       (λ e z.
-      let b = burst-whole start (t .turn + 1) sl (omega (arith, r .turns)) in
+      let b = burst-whole start (cursor .turn + 1) sl (omega (arith, r .turns)) in
       record { lanes = omega arith; line = b .1; turns = omega (arith, r .turns); enough = omega (arith, r .enough) })
       (λ z. record { lanes = omega (arith, r .lanes); line = omega (arith, r .lanes, r .line); turns = r .turns; enough = omega (arith, r .enough) })
 
--- what is wanted at a turn: nothing exactly where the count is 0
-pub wanted-some : (start : ℕ) (t : CycleCursor) → 0 < t .count → wantedAt start t ≡ run (t .from) (t .count) ∷ later start (t .turn) (t .left)
+-- what is wanted at a cursor: nothing exactly where the count is 0
+pub wanted-some : (start : ℕ) (cursor : CycleCursor) → 0 < cursor .count → wantedAt start cursor ≡ run (cursor .from) (cursor .count) ∷ later start (cursor .turn) (cursor .left)
 unfolding wantedAt
-wanted-some start t h = rw (ne-eqb (t .count) 0 (λ e. omega arith))
+wanted-some start cursor h = rw (ne-eqb (cursor .count) 0 (λ e. omega arith))
 
-pub wanted-none : (start : ℕ) (t : CycleCursor) → t .count ≡ 0 → wantedAt start t ≡ []
+pub wanted-none : (start : ℕ) (cursor : CycleCursor) → cursor .count ≡ 0 → wantedAt start cursor ≡ []
 unfolding wantedAt
-wanted-none start t e = rw (eq-eqb (t .count) 0 e)
+wanted-none start cursor e = rw (eq-eqb (cursor .count) 0 e)
 
-none-count : (start : ℕ) (t : CycleCursor) → none (wantedAt start t) ≡ eqb (t .count) 0
+none-count : (start : ℕ) (cursor : CycleCursor) → none (wantedAt start cursor) ≡ eqb (cursor .count) 0
 unfolding wantedAt
-none-count start t =
-    by-test (λ b. none (cond b [] (run (t .from) (t .count) ∷ later start (t .turn) (t .left))) ≡ b) (eqb (t .count) 0) (λ _. refl) (λ _. refl)
+none-count start cursor =
+    by-test (λ b. none (cond b [] (run (cursor .from) (cursor .count) ∷ later start (cursor .turn) (cursor .left))) ≡ b) (eqb (cursor .count) 0) (λ _. refl) (λ _. refl)
 
 later-none : (start turn n : ℕ) → n ≡ 0 → later start turn n ≡ []
 unfolding later
@@ -153,22 +153,22 @@ later-next start turn zero z = absurd (z refl)
 later-next start turn (suc n) z = let e : suc n - 1 ≡ n = omega arith in rw e
 
 -- the next cursor wants what a cycle left
-module _ (start : ℕ) (t : CycleCursor) (x : ℕ) (some : 0 < t .count) where
+module _ (start : ℕ) (cursor : CycleCursor) (x : ℕ) (some : 0 < cursor .count) where
   abbrev after : List Run
-  after = later start (t .turn) (t .left)
+  after = later start (cursor .turn) (cursor .left)
 
-  pub wanted-next : wantedAt start (cycleNext start t x) ≡ wantedAfter x (run (t .from) (t .count)) after
+  pub wanted-next : wantedAt start (cycleNext start cursor x) ≡ wantedAfter x (run (cursor .from) (cursor .count)) after
   unfolding wantedAfter
   wanted-next =
-      let m = size-most x (t .from) (t .count) in
-      next-cases start t x (λ u. wantedAt start u ≡ wantedAfter x (run (t .from) (t .count)) after)
-      (λ e z. wanted-none start (doneNext start t x) refl ∙ sym (later-none start (t .turn) (t .left) z) ∙ sym (cond-true _ _ _ (eq-eqb _ _ e)))
-      (λ e z. wanted-some start (wholeNext start t x) (omega arith) ∙ sym (later-next start (t .turn) (t .left) z) ∙ sym (cond-true _ _ _ (eq-eqb _ _ e)))
-      (λ z. wanted-some start (partNext start t x) (omega arith) ∙ sym (cond-false _ _ _ (ne-eqb _ _ z)))
+      let m = size-most x (cursor .from) (cursor .count) in
+      next-cases start cursor x (λ u. wantedAt start u ≡ wantedAfter x (run (cursor .from) (cursor .count)) after)
+      (λ e z. wanted-none start (doneNext start cursor x) refl ∙ sym (later-none start (cursor .turn) (cursor .left) z) ∙ sym (cond-true _ _ _ (eq-eqb _ _ e)))
+      (λ e z. wanted-some start (wholeNext start cursor x) (omega arith) ∙ sym (later-next start (cursor .turn) (cursor .left) z) ∙ sym (cond-true _ _ _ (eq-eqb _ _ e)))
+      (λ z. wanted-some start (partNext start cursor x) (omega arith) ∙ sym (cond-false _ _ _ (ne-eqb _ _ z)))
 
-  -- a cycle is the last exactly where the next turn wants nothing
-  pub last-next : eqb (cycleNext start t x .count) 0 ≡ none (wantedAfter x (run (t .from) (t .count)) after)
-  last-next = sym (none-count start (cycleNext start t x)) ∙ ap none wanted-next
+  -- a cycle is the last exactly where the next cursor wants nothing
+  pub last-next : eqb (cycleNext start cursor x .count) 0 ≡ none (wantedAfter x (run (cursor .from) (cursor .count)) after)
+  last-next = sym (none-count start (cycleNext start cursor x)) ∙ ap none wanted-next
 
 -- the burst order picked by turn, then by start
 pub burst-picked : (start turn a b c d : ℕ) → start < 4 → turn < 4 →
@@ -180,9 +180,9 @@ pub burst-picked : (start turn a b c d : ℕ) → start < 4 → turn < 4 →
 unfolding burst
 burst-picked start turn a b c d sl tl ea eb ec ed =
     four (λ s. getD (a ∷ b ∷ c ∷ d ∷ []) s 0 ≡ burstAt s turn)
-    (ea ∙ four (λ t. getD (0 ∷ 4 ∷ 8 ∷ 12 ∷ []) t 0 ≡ burstAt 0 t) refl refl refl refl turn tl)
-    (eb ∙ four (λ t. getD (4 ∷ 0 ∷ 12 ∷ 8 ∷ []) t 0 ≡ burstAt 1 t) refl refl refl refl turn tl)
-    (ec ∙ four (λ t. getD (8 ∷ 12 ∷ 0 ∷ 4 ∷ []) t 0 ≡ burstAt 2 t) refl refl refl refl turn tl)
-    (ed ∙ four (λ t. getD (12 ∷ 8 ∷ 4 ∷ 0 ∷ []) t 0 ≡ burstAt 3 t) refl refl refl refl turn tl)
+    (ea ∙ four (λ cursor. getD (0 ∷ 4 ∷ 8 ∷ 12 ∷ []) cursor 0 ≡ burstAt 0 cursor) refl refl refl refl turn tl)
+    (eb ∙ four (λ cursor. getD (4 ∷ 0 ∷ 12 ∷ 8 ∷ []) cursor 0 ≡ burstAt 1 cursor) refl refl refl refl turn tl)
+    (ec ∙ four (λ cursor. getD (8 ∷ 12 ∷ 0 ∷ 4 ∷ []) cursor 0 ≡ burstAt 2 cursor) refl refl refl refl turn tl)
+    (ed ∙ four (λ cursor. getD (12 ∷ 8 ∷ 4 ∷ 0 ∷ []) cursor 0 ≡ burstAt 3 cursor) refl refl refl refl turn tl)
     start
     sl

@@ -1,5 +1,5 @@
 -- The bus by document 01, in its order: what a reader must believe of this crate.
--- `CycleLoop` alone is no rule: it says what the code's own state between cycles stands for.
+-- `CycleLoop` alone is no rule: it says what the code's own cursor between cycles stands for.
 pub mod Groups
 pub mod Bus
 pub mod Record

@@ -4,7 +4,7 @@ ghost use mathlib.Core.List.{[], _∷_};
 ghost use Prim.Native.Nat.{_+_, _≤_, _<_};
 ghost use lib.ListN.{length, getD};
 ghost use Rattle.memory.specs.Parity.{memory};
-ghost use Rattle.bus.specs.Bus.{sizeLimit, run, sizeOf};
+ghost use Rattle.bus.specs.Bus.{run, sizeLimit, sizeOf};
 ghost use Rattle.bus.specs.CycleLoop.{BufferNeeds, burstAt, cycleBegin, CycleNeeds, cycleNext, ReadCycle, ReadCycles, WriteCycle, WriteCycles};
 use crate::record::flags_of;
 use crate::record::put_record;
@@ -130,20 +130,20 @@ fn read_cycle(
     answers: &[u8],
     log: &mut [u32],
     buffer: &mut [u8],
-    t: CycleCursor,
+    cursor: CycleCursor,
     start: usize,
     line: usize,
     first: usize,
     kind: u32,
 ) -> CycleCursor
-    requires { ⌜ (0 < t .count) × (start < 4) × (kind ≤ 32) × CycleNeeds t (length (now answers)) × BufferNeeds line first (length (now ram)) (length (now parity)) (length (now answers)) (length (now log)) (length (now buffer)) ⌝ }
-    ensures { λ r. ⌜ ReadCycle kind (memory (now (ram .entry)) (now (parity .entry))) start line first t (getD (now (answers .entry)) (t .cycles) 0) (now (log .entry)) (now (buffer .entry)) r (now (log .exit)) (now (buffer .exit)) ⌝ }
+    requires { ⌜ (0 < cursor .count) × (start < 4) × (kind ≤ 32) × CycleNeeds cursor (length (now answers)) × BufferNeeds line first (length (now ram)) (length (now parity)) (length (now answers)) (length (now log)) (length (now buffer)) ⌝ }
+    ensures { λ r. ⌜ ReadCycle kind (memory (now (ram .entry)) (now (parity .entry))) start line first cursor (getD (now (answers .entry)) (cursor .cycles) 0) (now (log .entry)) (now (buffer .entry)) r (now (log .exit)) (now (buffer .exit)) ⌝ }
 {
-    let cycles = t.cycles;
-    let from = t.from;
+    let cycles = cursor.cycles;
+    let from = cursor.from;
     let answer = answers[cycles];
-    let size = size_of(answer, from, t.count);
-    let next = t.next(start, answer);
+    let size = size_of(answer, from, cursor.count);
+    let next = cursor.next(start, answer);
     let at = line + from;
     let wrong = any_wrong(ram, parity, at, size);
     let flags = flags_of(from % 4, size, kind, next.count == 0, wrong);
@@ -170,23 +170,23 @@ pub fn read_cycles(
     requires { ⌜ (begin .cycles ≡ 0) × (begin .answer ≡ 0) × (start < 4) × (kind ≤ 32) × CycleNeeds begin (length (now answers)) × BufferNeeds line first (length (now ram)) (length (now parity)) (length (now answers)) (length (now log)) (length (now buffer)) ⌝ }
     ensures { λ r. ⌜ ReadCycles kind (memory (now (ram .entry)) (now (parity .entry))) (now (answers .entry)) start line first begin (now (log .entry)) (now (buffer .entry)) r (now (log .exit)) (now (buffer .exit)) ⌝ }
 {
-    let mut t = begin;
-    while 0 < t.count {
+    let mut cursor = begin;
+    while 0 < cursor.count {
         let next = read_cycle(
             ram,
             parity,
             answers,
             log,
             buffer,
-            t,
+            cursor,
             start,
             line,
             first,
             kind,
         );
-        t = next;
+        cursor = next;
     }
-    t
+    cursor
 }
 
 // One write cycle: its record, and its bytes of the line buffer into RAM.
@@ -196,18 +196,18 @@ fn write_cycle(
     answers: &[u8],
     log: &mut [u32],
     buffer: &[u8],
-    t: CycleCursor,
+    cursor: CycleCursor,
     line: usize,
     first: usize,
 ) -> CycleCursor
-    requires { ⌜ (0 < t .count) × CycleNeeds t (length (now answers)) × BufferNeeds line first (length (now ram)) (length (now parity)) (length (now answers)) (length (now log)) (length (now buffer)) ⌝ }
-    ensures { λ r. ⌜ WriteCycle (now (buffer .entry)) line first t (getD (now (answers .entry)) (t .cycles) 0) (memory (now (ram .entry)) (now (parity .entry))) (now (log .entry)) r (memory (now (ram .exit)) (now (parity .exit))) (now (log .exit)) ⌝ }
+    requires { ⌜ (0 < cursor .count) × CycleNeeds cursor (length (now answers)) × BufferNeeds line first (length (now ram)) (length (now parity)) (length (now answers)) (length (now log)) (length (now buffer)) ⌝ }
+    ensures { λ r. ⌜ WriteCycle (now (buffer .entry)) line first cursor (getD (now (answers .entry)) (cursor .cycles) 0) (memory (now (ram .entry)) (now (parity .entry))) (now (log .entry)) r (memory (now (ram .exit)) (now (parity .exit))) (now (log .exit)) ⌝ }
 {
-    let cycles = t.cycles;
-    let from = t.from;
+    let cycles = cursor.cycles;
+    let from = cursor.from;
     let answer = answers[cycles];
-    let size = size_of(answer, from, t.count);
-    let next = t.next(0, answer);
+    let size = size_of(answer, from, cursor.count);
+    let next = cursor.next(0, answer);
     let flags = flags_of(from % 4, size, 16, next.count == 0, false);
     let address = (line + from / 4 * 4) as u32;
     let word = lane_word(buffer, from, from % 4, size);
@@ -230,10 +230,10 @@ pub fn write_cycles(
     requires { ⌜ (begin .cycles ≡ 0) × (begin .answer ≡ 0) × CycleNeeds begin (length (now answers)) × BufferNeeds line first (length (now ram)) (length (now parity)) (length (now answers)) (length (now log)) (length (now buffer)) ⌝ }
     ensures { λ r. ⌜ WriteCycles (now (buffer .entry)) (now (answers .entry)) line first begin (memory (now (ram .entry)) (now (parity .entry))) (now (log .entry)) r (memory (now (ram .exit)) (now (parity .exit))) (now (log .exit)) ⌝ }
 {
-    let mut t = begin;
-    while 0 < t.count {
-        let next = write_cycle(ram, parity, answers, log, buffer, t, line, first);
-        t = next;
+    let mut cursor = begin;
+    while 0 < cursor.count {
+        let next = write_cycle(ram, parity, answers, log, buffer, cursor, line, first);
+        cursor = next;
     }
-    t
+    cursor
 }

@@ -6,7 +6,7 @@ ghost use Prim.Native.Nat.{_+_, _*_, _≤_};
 ghost use lib.ListN.{length};
 ghost use Rattle.bus.specs.Record.{flagsOf, lanesOf, logged};
 
-// The flags of lane 0 on.
+// The flags of so many bytes from lane 0 on.
 fn low_lanes(count: usize) -> u32
     requires { ⌜ count ≤ 4 ⌝ }
     ensures { λ r. ⌜ (r ≡ lanesOf 0 count) × (r ≤ 15) ⌝ }

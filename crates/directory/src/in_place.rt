@@ -4,7 +4,7 @@ ghost use mathlib.Core.Path.{_≡_};
 ghost use mathlib.Core.Bool.{Bool};
 ghost use mathlib.Core.List.{List};
 ghost use Prim.Native.Nat.{ℕ, _<_};
-ghost use Rattle.directory.specs.Steps.{afterFill, afterFlush, afterSnoop, afterUse, directoryResult, directoryOf, snoopCall};
+ghost use Rattle.directory.specs.Steps.{afterFill, afterFlush, afterSnoop, afterUse, directoryOf, directoryResult, snoopCall};
 use crate::address::set_of;
 use crate::lru::lru_after;
 use crate::state::state_number;

@@ -141,11 +141,11 @@ missed-length {fills} {m} {w} {buffer₀ = buffer₀} k = ap length (k .brings) 
 
 -- a hit, and a miss, by what the lookup found
 module _ (f : Found) (victim : ℕ) (mayFill : Bool) (m : Memory) (array : List ℕ) (w : Doubleword) where
-  pub hit-reads : (way slot first : ℕ) (log operand₀ operand : List ℕ) → f ≡ At way → slot ≡ dataOffset (w .line) way →
-      operand ≡ sets operand₀ (w .place) (bytesAt array (slot + w .wanted .from) (w .wanted .count)) →
+  pub hit-reads : (way offset first : ℕ) (log operand₀ operand : List ℕ) → f ≡ At way → offset ≡ dataOffset (w .line) way →
+      operand ≡ sets operand₀ (w .place) (bytesAt array (offset + w .wanted .from) (w .wanted .count)) →
       Reads (readDone f victim mayFill m array w) (w .place) first log operand₀ (record { change = Use way; cycles = 0 }) array log operand
   unfolding readDone readHit wordsOf
-  hit-reads way slot first log operand₀ operand e s o =
+  hit-reads way offset first log operand₀ operand e s o =
       rw e
       (record {
         change = refl;
@@ -178,11 +178,11 @@ plain-write operand answers w first m₀ log₀ t buffer m log some a e k =
 
 -- a write by what the lookup found
 module _ (f : Found) (stays : Bool) (m₀ : Memory) (array operand : List ℕ) (w : Doubleword) (first : ℕ) (log₀ : List ℕ) where
-  pub stay-writes : (way slot : ℕ) (array′ : List ℕ) → f ≡ At way → stays ≡ true → slot ≡ dataOffset (w .line) way →
-      array′ ≡ sets array (slot + w .wanted .from) (bytesAt operand (w .place) (w .wanted .count)) →
+  pub stay-writes : (way offset : ℕ) (array′ : List ℕ) → f ≡ At way → stays ≡ true → offset ≡ dataOffset (w .line) way →
+      array′ ≡ sets array (offset + w .wanted .from) (bytesAt operand (w .place) (w .wanted .count)) →
       Writes (writeDone f stays m₀ array operand w) first log₀ (record { change = Use way; cycles = 0 }) m₀ array′ log₀
   unfolding writeDone hitArray wordsOf
-  stay-writes way slot array′ e b s a =
+  stay-writes way offset array′ e b s a =
       rw (e, b)
       (record {
         change = refl;
@@ -206,11 +206,11 @@ module _ (f : Found) (stays : Bool) (m₀ : Memory) (array operand : List ℕ) (
         most = k .most;
       }
 
-  pub hit-writes : (way slot : ℕ) (array′ : List ℕ) (r : ℕ) (m : Memory) (log : List ℕ) → f ≡ At way → stays ≡ false → slot ≡ dataOffset (w .line) way →
-      array′ ≡ sets array (slot + w .wanted .from) (bytesAt operand (w .place) (w .wanted .count)) → PlainWrite operand w first m₀ log₀ r m log →
+  pub hit-writes : (way offset : ℕ) (array′ : List ℕ) (r : ℕ) (m : Memory) (log : List ℕ) → f ≡ At way → stays ≡ false → offset ≡ dataOffset (w .line) way →
+      array′ ≡ sets array (offset + w .wanted .from) (bytesAt operand (w .place) (w .wanted .count)) → PlainWrite operand w first m₀ log₀ r m log →
       Writes (writeDone f stays m₀ array operand w) first log₀ (record { change = Use way; cycles = r }) m array′ log
   unfolding writeDone hitArray
-  hit-writes way slot array′ r m log e b s a k =
+  hit-writes way offset array′ r m log e b s a k =
       let h : array′ ≡ hitArray way array operand w = rw s at a in
       rw (e, b, h) (through-writes (Use way) (hitArray way array operand w) r m log k)
 

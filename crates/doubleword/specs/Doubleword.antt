@@ -9,13 +9,13 @@ use Rattle.directory.specs.declared.ways.Found.{Found}
 use Rattle.directory.specs.declared.ways.Found.the-variants.{At, Nothing}
 use Rattle.directory.specs.Address.{byteOf, setOf, tagOf, lineIndex}
 use Rattle.directory.specs.Steps.{afterUse, afterFill}
-use Rattle.bus.specs.Groups.{groupSize}
-use Rattle.doubleword.specs.declared.change.Change.{Change}
-use Rattle.doubleword.specs.declared.change.Change.the-variants.{Unchanged, Use, Fill}
 use Rattle.memory.specs.Bytes.{bytesAt}
 use Rattle.memory.specs.Parity.{Memory}
+use Rattle.bus.specs.Groups.{groupSize}
 use Rattle.bus.specs.Bus.{ken, Run, run, Cycle, cyclesOf, burst, lastAnswer, through, bufferAfter, memoryAfter}
 use Rattle.bus.specs.Record.{Record, readRecord, writeRecord, plainRead, filling}
+use Rattle.doubleword.specs.declared.change.Change.{Change}
+use Rattle.doubleword.specs.declared.change.Change.the-variants.{Unchanged, Use, Fill}
 
 -- A doubleword of an access: the address of its line, its wanted bytes, their place in the operand, its own answers.
 pub record Doubleword : Type 0 where
@@ -43,7 +43,7 @@ doublewordsOf (suc g) xs address (suc n) place =
 abbrev pub dataOffset : ℕ → ℕ → ℕ
 dataOffset line way = lineIndex (setOf line) way * 16
 
--- What an access does to the directory: `Unchanged` nothing, `Use` a use of a way of the line's set, `Fill` a kept fill of one.
+-- What a doubleword does to the directory: `Unchanged` nothing, `Use` a use of a way of the line's set, `Fill` a kept fill of one.
 unfoldable pub changed : Directory → ℕ → Change → Directory
 changed d line Unchanged = d
 changed d line (Use way) = afterUse d (setOf line) way
@@ -104,7 +104,7 @@ readFill victim m array w =
       records = map (readRecord filling m (w .line)) (fillCycles w);
     }
 
--- "Read miss: a fill when CD = 0, PCD = 0 and the first cycle has KEN#." (001, 002) `may`: CD = 0 and PCD = 0.
+-- "Read miss: a fill when CD = 0, PCD = 0 and the first cycle has KEN#." (001, 002) `mayFill`: CD = 0 and PCD = 0.
 unfoldable pub readDone : Found → ℕ → Bool → Memory → List ℕ → Doubleword → Done
 readDone (At way) victim mayFill m array w = readHit way m array w
 readDone Nothing victim mayFill m array w =
@@ -115,7 +115,7 @@ abbrev pub writeBuffer : List ℕ → Doubleword → List ℕ
 writeBuffer operand w =
     sets (replicate 16 0) (w .wanted .from) (bytesAt operand (w .place) (w .wanted .count))
 
--- "Write: to RAM and the moved lanes' parity". "A miss never fills."
+-- "Write: to RAM and the moved lanes' parity".
 unfoldable pub writeThrough : Change → Memory → List ℕ → List ℕ → Doubleword → Done
 writeThrough change m array operand w =
     record {
@@ -131,7 +131,7 @@ unfoldable pub hitArray : ℕ → List ℕ → List ℕ → Doubleword → List 
 hitArray way array operand w =
     sets array (dataOffset (w .line) way + w .wanted .from) (bytesAt operand (w .place) (w .wanted .count))
 
--- "With CD = NW = 1 a hit changes the data array and, as a use, the LRU number; RAM and parity stay, with no cycle." `stays`: CD = NW = 1. (002)
+-- "A miss never fills. With CD = NW = 1 a hit changes the data array and, as a use, the LRU number; RAM and parity stay, with no cycle." `stays`: CD = NW = 1. (002)
 unfoldable pub writeDone : Found → Bool → Memory → List ℕ → List ℕ → Doubleword → Done
 writeDone (At way) stays m array operand w =
     cond stays

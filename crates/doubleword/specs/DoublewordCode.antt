@@ -5,10 +5,10 @@ use mathlib.Core.Bool.{Bool, cond}
 use mathlib.Core.List.{List, map}
 use lib.ListN.{length}
 use lib.Seq.{sets}
-use Rattle.bus.specs.declared.cycle.CycleCursor.{CycleCursor}
 use Rattle.memory.specs.Bytes.{bytesAt}
-use Rattle.bus.specs.Groups.{groupSize}
 use Rattle.memory.specs.Parity.{Memory}
+use Rattle.bus.specs.declared.cycle.CycleCursor.{CycleCursor}
+use Rattle.bus.specs.Groups.{groupSize}
 use Rattle.bus.specs.Bus.{run, Cycle, bufferAfter, memoryAfter, through, lastAnswer}
 use Rattle.bus.specs.Record.{logged, readRecord, writeRecord, plainRead, filling}
 use Rattle.doubleword.specs.declared.change.Change.{Change}
@@ -57,7 +57,7 @@ keptChange kept victim = cond kept (Fill victim) Unchanged
 abbrev pub keptArray : Bool → ℕ → ℕ → List ℕ → List ℕ → List ℕ
 keptArray kept victim line buffer array = cond kept (sets array (dataOffset line victim) (bytesAt buffer 0 16)) array
 
--- What the code hands back and leaves in the buffers for what a doubleword of a read, or of a write, does.
+-- What the code hands back and leaves in the buffers for what a doubleword of a read does.
 pub record Reads (done : Done) (place first : ℕ) (log₀ operand₀ : List ℕ) (r : DoublewordResult) (array log operand : List ℕ) : Type 0 where
   pub change : r .change ≡ done .change
   pub arrays : array ≡ done .array

@@ -6,7 +6,7 @@ ghost use Rattle.directory.specs.Address.{setOf};
 ghost use Rattle.directory.specs.Ways.{lookupIn, victimIn};
 ghost use Rattle.memory.specs.Parity.{memory};
 ghost use Rattle.doubleword.specs.Doubleword.{readDone};
-ghost use Rattle.doubleword.specs.DoublewordCode.{doublewordOf, keptArray, keptChange, ReadMiss, Reads, DoublewordNeeds};
+ghost use Rattle.doubleword.specs.DoublewordCode.{DoublewordNeeds, doublewordOf, keptArray, keptChange, ReadMiss, Reads};
 use crate::change::Change;
 use crate::change::DoublewordResult;
 use crate::change::Wanted;
@@ -118,12 +118,12 @@ pub fn read_doubleword<'a>(
     }
     let fills = may_fill & (answers[0] % 2 == 1);
     let mut buffer = [0u8; 16];
-    let t = read_missed(ram, parity, answers, log, &mut buffer, w, first, fills);
+    let cursor = read_missed(ram, parity, answers, log, &mut buffer, w, first, fills);
     copy_bytes(&buffer, w.from, operand, w.place, w.count);
-    let kept = fills & (t.answer % 2 == 1);
+    let kept = fills & (cursor.answer % 2 == 1);
     let change = keep_line(valid, lru, data, &buffer, w.line, kept);
     DoublewordResult {
         change,
-        cycles: t.cycles,
+        cycles: cursor.cycles,
     }
 }

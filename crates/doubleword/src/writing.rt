@@ -5,7 +5,7 @@ ghost use lib.ListN.{length};
 ghost use Rattle.directory.specs.Ways.{lookupIn};
 ghost use Rattle.memory.specs.Parity.{memory};
 ghost use Rattle.doubleword.specs.Doubleword.{writeDone};
-ghost use Rattle.doubleword.specs.DoublewordCode.{doublewordOf, PlainWrite, DoublewordNeeds, Writes};
+ghost use Rattle.doubleword.specs.DoublewordCode.{DoublewordNeeds, doublewordOf, PlainWrite, Writes};
 use crate::change::Change;
 use crate::change::DoublewordResult;
 use crate::change::Wanted;
@@ -31,7 +31,7 @@ fn write_through(
     let mut buffer = [0u8; 16];
     copy_bytes(operand, w.place, &mut buffer, w.from, w.count);
     let plain = CycleCursor::begin(w.from, w.count, 0);
-    let t = write_cycles(
+    let cursor = write_cycles(
         ram,
         parity,
         answers,
@@ -41,7 +41,7 @@ fn write_through(
         w.line as usize,
         first,
     );
-    t.cycles
+    cursor.cycles
 }
 
 // One doubleword of a write. stays: CD = NW = 1, where a hit makes no cycle.

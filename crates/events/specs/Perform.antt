@@ -2,8 +2,8 @@
 use Prim.Native.Nat.{ℕ, _*_}
 use mathlib.Core.List.{List}
 use lib.ListN.{drop, replicate}
-use Rattle.bus.specs.Groups.{groupSize, groupCount}
 use Rattle.memory.specs.Parity.{Memory}
+use Rattle.bus.specs.Groups.{groupSize, groupCount}
 use Rattle.access.specs.declared.outcome.Outcome.{Outcome}
 use Rattle.access.specs.Access.{State, After, outcome, readCall, writeCall}
 use Rattle.access.specs.Masters.{Written, externalCall, snoopOutcome, controlOutcome, flushOutcome, resetOutcome}
@@ -30,7 +30,7 @@ directoryEvent s o = performed o (s .memory) (s .array)
 abbrev pub zeroLog : List ℕ
 zeroLog = replicate (3 * (groupSize * groupCount)) 0
 
--- A read or a write: its log is not kept.
+-- A read or a write: its log is left out.
 abbrev pub accessEvent : After → Performed
 accessEvent a = performed (a .outcome) (a .memory) (a .array)
 

@@ -4,7 +4,7 @@ ghost use mathlib.Core.Path.{_≡_};
 ghost use mathlib.Core.Bool.{Bool};
 ghost use mathlib.Core.List.{List};
 ghost use Prim.Native.Nat.{ℕ};
-ghost use Rattle.directory.specs.Steps.{afterFlush, directoryResult, directoryOf, snoopCall};
+ghost use Rattle.directory.specs.Steps.{afterFlush, directoryOf, directoryResult, snoopCall};
 ghost use Rattle.memory.specs.Parity.{memory};
 ghost use Rattle.access.specs.Access.{after, outcome, readCall, state, writeCall};
 ghost use Rattle.access.specs.Masters.{externalCall, written};
@@ -70,7 +70,7 @@ pub extern "C" fn unit486_read_in_place<'a>(
         return refused(bad);
     }
     let mut operand = [0u8; 4];
-    let mut cursor = AccessCursor::start(address, width);
+    let mut cursor = AccessCursor::begin(address, width);
     while 0 < cursor.left {
         let step = read_step(
             tags,
@@ -126,7 +126,7 @@ pub extern "C" fn unit486_write_in_place<'a>(
         return refused(bad);
     }
     let operand = bytes_of(value);
-    let mut cursor = AccessCursor::start(address, width);
+    let mut cursor = AccessCursor::begin(address, width);
     while 0 < cursor.left {
         let step = write_step(
             tags,

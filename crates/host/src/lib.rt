@@ -1,5 +1,5 @@
 // The unit as a host calls it: what a C program links (host/include/unit486.h). The calls in place are here; each of the
-// others is a call of a crate below under its exported name, with that call's contract.
+// others runs a call of a crate below under an exported name, and its contract cites the same definition.
 mod in_place;
 mod text;
 mod thin;

@@ -9,7 +9,7 @@ pub extern "C" fn unit486_drop_line(directory: &mut Directory, address: u32) -> 
     ensures { λ r. ⌜ record { directory = now (directory .exit); number = r } ≡ snoopCall (now (directory .entry)) address ⌝ }
 {
     let given = *directory;
-    let answer = given.snoop(address);
-    *directory = answer.directory;
-    answer.number
+    let result = given.snoop(address);
+    *directory = result.directory;
+    result.number
 }

@@ -1,4 +1,4 @@
--- Plain laws that the proofs of every crate cite.
+-- Plain laws that the proofs of other crates cite.
 pub mod Tests
 pub mod Below
 pub mod Lists

@@ -1,1 +1,1 @@
-// No code: plain laws, in proofs/, that the proofs of every other crate cite.
+// No code: plain laws, in proofs/, that the proofs of other crates cite.

@@ -4,7 +4,7 @@ ghost use Prim.Native.Nat.{_≤_};
 ghost use lib.ListN.{length};
 ghost use lib.Seq.{sets};
 ghost use Rattle.bytes.specs.Bytes.{indexOf};
-ghost use Rattle.lines.specs.Fields.{pairBytes, hexOf, isHex, isPairs};
+ghost use Rattle.lines.specs.Fields.{hexOf, isHex, isPairs, pairBytes};
 
 // The place of the first separator, or the text's length.
 pub fn end_of(text: &[u8], separator: u8) -> usize

@@ -114,7 +114,7 @@ pub record GoodArguments (ram address width answers log : ℕ) : Type 0 where
   pub four : width ≤ 4
   pub inside : address + width ≤ ram
   pub served : answers ≡ groupSize * groupCount
-  pub room : 3 * (groupSize * groupCount) ≤ log
+  pub records : 3 * (groupSize * groupCount) ≤ log
 
 width-good : (width : ℕ) → badWidth width ≡ false → (0 < width) × (width ≤ 4)
 width-good width e =
@@ -141,7 +141,7 @@ arguments-accepted ram address width answers log e =
       four = w .1;
       inside = ltb-false ram (address + width) (when-zero (ltb ram (address + width)) 5 (omega arith) (q .0));
       served = eqb-true (length answers) (groupSize * groupCount) (not-false _ (a .0));
-      room = ltb-false log (3 * (groupSize * groupCount)) (when-zero (ltb log (3 * (groupSize * groupCount))) 7 (omega arith) (r .1));
+      records = ltb-false log (3 * (groupSize * groupCount)) (when-zero (ltb log (3 * (groupSize * groupCount))) 7 (omega arith) (r .1));
     }
 
 -- 10

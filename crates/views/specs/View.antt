@@ -31,8 +31,8 @@ viewIn tags valid lru ram array address =
 
 -- Where the part begins, by where RAM and the data array begin: a block of the host's memory, and a byte of it.
 unfoldable pub shownAt : Found → ℕ × ℕ → ℕ × ℕ → ℕ → ℕ × ℕ
-shownAt (At way) ram array address = (array .0, array .1 + dataOffset address way)
-shownAt Nothing ram array address = (ram .0, ram .1 + address / 16 * 16)
+shownAt (At way) ramAt arrayAt address = (arrayAt .0, arrayAt .1 + dataOffset address way)
+shownAt Nothing ramAt arrayAt address = (ramAt .0, ramAt .1 + address / 16 * 16)
 
 -- "a refused view is the empty part at RAM's start"
 unfoldable pub viewAt : List ℕ → List Bool → List ℕ → List ℕ → List ℕ → ℕ × ℕ → ℕ × ℕ → ℕ → ℕ × ℕ

@@ -1,6 +1,6 @@
 use Rattle.access.proofs.Calls.{needs-begin, read-input-refused, read-state-refused, read-done}
 use Rattle.access.proofs.AccessLoop.{ReadInvariant, reading-begin, reading-next, keep-changed, needs-lengths, needs-more, cursor-less, cursor-needs, cursor-steps}
-use Rattle.access.specs.AccessLoop.{accessStart, restOf, AccessNeeds}
+use Rattle.access.specs.AccessLoop.{accessBegin, restOf, AccessNeeds}
 use Rattle.access.specs.Access.{state, allOf, readOne}
 use lib.ListN.{length, replicate}
 use Rattle.memory.specs.Parity.{memory}
@@ -13,10 +13,10 @@ use Rattle.access.proofs.reading.read.Statement.{statement}
 use Rattle.access.proofs.reading.read.Tie as tie
 
 abbrev Inv-loop : tie.InvT-loop
-Inv-loop ram parity data₀ address width pcd answers log₀ given₀ number bad operand₀ walk₀ «data» log given operand cursor = ReadInvariant pcd answers (allOf (readOne pcd) (state given₀ (memory ram parity) data₀) (restOf (accessStart address width) answers)) log₀ (replicate 4 0) cursor (state given (memory ram parity) «data») log operand × AccessNeeds cursor (length ram) (length parity) (length data₀) (length answers) (length log₀) 4 × (length «data» ≡ length data₀) × (length log ≡ length log₀) × (length operand ≡ 4)
+Inv-loop ram parity data₀ address width pcd answers log₀ given₀ number bad operand₀ cursor₀ «data» log given operand cursor = ReadInvariant pcd answers (allOf (readOne pcd) (state given₀ (memory ram parity) data₀) (restOf (accessBegin address width) answers)) log₀ (replicate 4 0) cursor (state given (memory ram parity) «data») log operand × AccessNeeds cursor (length ram) (length parity) (length data₀) (length answers) (length log₀) 4 × (length «data» ≡ length data₀) × (length log ≡ length log₀) × (length operand ≡ 4)
 
 abbrev μ-loop : tie.MeasureT-loop
-μ-loop ram parity data₀ address width pcd answers log₀ given₀ number bad operand₀ walk₀ «data» log given operand cursor = cursor .left
+μ-loop ram parity data₀ address width pcd answers log₀ given₀ number bad operand₀ cursor₀ «data» log given operand cursor = cursor .left
 
 input-number-requires : tie.Need-input-number-requires Inv-loop μ-loop
 input-number-requires c κs = search needs
@@ -48,11 +48,11 @@ same-length-4 c = search needs
 returns-2 : tie.Need-returns-2 Inv-loop μ-loop
 returns-2 c = let a = c .before .before .before .before .before .before .before .before .before .before .before .before .before .before .before .before .args in rw (c .refused2 .ensures) (read-state-refused (a .t1) (memory (now (a .ram)) (now (a .parity))) (now (a .«data»)) (a .address) (a .width) (now (a .answers)) (now (a .log)) _ (c .before .before .before .before .before .before .before .before .input-number .ensures) (a .pcd) (c .before .before .before .before .before .before .before .if1 .left) _ (c .before .before .states-number .ensures) (c .before .if2 .taken))
 
-start-requires : tie.Need-start-requires Inv-loop μ-loop
-start-requires c κs = search needs
+begin-requires : tie.Need-begin-requires Inv-loop μ-loop
+begin-requires c κs = search needs
 
 loop-holds : tie.Need-loop-holds Inv-loop μ-loop
-loop-holds c = let a = c .before .before .before .before .before .before .before .before .before .before .before .before .before .before .before .before .args in rw (c .start .ensures) (reading-begin _ _ _ _ _ _ refl refl, needs-begin (a .t1) (memory (now (a .ram)) (now (a .parity))) (now (a .«data»)) (a .address) (a .width) (now (a .answers)) (now (a .log)) _ (c .before .before .before .before .before .before .before .before .input-number .ensures) (c .before .before .before .before .before .before .before .if1 .left), refl, refl, refl)
+loop-holds c = let a = c .before .before .before .before .before .before .before .before .before .before .before .before .before .before .before .before .args in rw (c .begin .ensures) (reading-begin _ _ _ _ _ _ refl refl, needs-begin (a .t1) (memory (now (a .ram)) (now (a .parity))) (now (a .«data»)) (a .address) (a .width) (now (a .answers)) (now (a .log)) _ (c .before .before .before .before .before .before .before .before .input-number .ensures) (c .before .before .before .before .before .before .before .if1 .left), refl, refl, refl)
 
 slice-aggregate-read-step : tie.Need-slice-aggregate-read-step Inv-loop μ-loop
 slice-aggregate-read-step c = search needs
@@ -107,7 +107,7 @@ read-spec =
     same-length-3
     same-length-4
     returns-2
-    start-requires
+    begin-requires
     loop-holds
     slice-aggregate-read-step
     read-step-requires

@@ -1,6 +1,6 @@
 use Rattle.access.proofs.Calls.{needs-begin, write-input-refused, write-later-refused, write-done}
 use Rattle.access.proofs.AccessLoop.{AccessInvariant, access-invariant-begin, writing-next, keep-changed, needs-lengths, needs-more, cursor-less, cursor-needs, cursor-steps}
-use Rattle.access.specs.AccessLoop.{accessStart, restOf, AccessNeeds}
+use Rattle.access.specs.AccessLoop.{accessBegin, restOf, AccessNeeds}
 use Rattle.access.specs.Access.{state, allOf, writeOne}
 use lib.ListN.{length}
 use Rattle.memory.specs.Parity.{memory}
@@ -14,10 +14,10 @@ use Rattle.access.proofs.writing.write.Statement.{statement}
 use Rattle.access.proofs.writing.write.Tie as tie
 
 abbrev Inv-loop : tie.InvT-loop
-Inv-loop ram₀ parity₀ data₀ address width value answers log₀ given₀ number states bad operand walk₀ ram parity «data» log given cursor = AccessInvariant (writeOne operand) answers (allOf (writeOne operand) (state given₀ (memory ram₀ parity₀) data₀) (restOf (accessStart address width) answers)) log₀ cursor (state given (memory ram parity) «data») log × AccessNeeds cursor (length ram₀) (length parity₀) (length data₀) (length answers) (length log₀) (length operand) × (length «data» ≡ length data₀) × (length log ≡ length log₀) × (length ram ≡ length ram₀) × (length parity ≡ length parity₀)
+Inv-loop ram₀ parity₀ data₀ address width value answers log₀ given₀ number states bad operand cursor₀ ram parity «data» log given cursor = AccessInvariant (writeOne operand) answers (allOf (writeOne operand) (state given₀ (memory ram₀ parity₀) data₀) (restOf (accessBegin address width) answers)) log₀ cursor (state given (memory ram parity) «data») log × AccessNeeds cursor (length ram₀) (length parity₀) (length data₀) (length answers) (length log₀) (length operand) × (length «data» ≡ length data₀) × (length log ≡ length log₀) × (length ram ≡ length ram₀) × (length parity ≡ length parity₀)
 
 abbrev μ-loop : tie.MeasureT-loop
-μ-loop ram₀ parity₀ data₀ address width value answers log₀ given₀ number states bad operand walk₀ ram parity «data» log given cursor = cursor .left
+μ-loop ram₀ parity₀ data₀ address width value answers log₀ given₀ number states bad operand cursor₀ ram parity «data» log given cursor = cursor .left
 
 input-number-requires : tie.Need-input-number-requires Inv-loop μ-loop
 input-number-requires c κs = search needs
@@ -70,12 +70,12 @@ returns-2 c = let a = c .before .before .before .before .before .before .before 
 bytes-of-requires : tie.Need-bytes-of-requires Inv-loop μ-loop
 bytes-of-requires c κs = search needs
 
-start-requires : tie.Need-start-requires Inv-loop μ-loop
-start-requires c κs = search needs
+begin-requires : tie.Need-begin-requires Inv-loop μ-loop
+begin-requires c κs = search needs
 
 loop-holds : tie.Need-loop-holds Inv-loop μ-loop
 unfolding bytesOf
-loop-holds c = let a = c .before .before .before .before .before .before .before .before .before .before .before .before .before .before .before .before .before .before .before .before .before .args in rw (c .start .ensures, c .before .bytes-of .ensures) (access-invariant-begin _ _ _ _ _ refl, needs-begin (a .t1) (memory (now (a .ram)) (now (a .parity))) (now (a .«data»)) (a .address) (a .width) (now (a .answers)) (now (a .log)) _ (c .before .before .before .before .before .before .before .before .before .before .before .input-number .ensures) (c .before .before .before .before .before .before .before .before .before .before .if1 .left), refl, refl, refl, refl)
+loop-holds c = let a = c .before .before .before .before .before .before .before .before .before .before .before .before .before .before .before .before .before .before .before .before .before .args in rw (c .begin .ensures, c .before .bytes-of .ensures) (access-invariant-begin _ _ _ _ _ refl, needs-begin (a .t1) (memory (now (a .ram)) (now (a .parity))) (now (a .«data»)) (a .address) (a .width) (now (a .answers)) (now (a .log)) _ (c .before .before .before .before .before .before .before .before .before .before .before .input-number .ensures) (c .before .before .before .before .before .before .before .before .before .before .if1 .left), refl, refl, refl, refl)
 
 slice-aggregate-write-step : tie.Need-slice-aggregate-write-step Inv-loop μ-loop
 slice-aggregate-write-step c = search needs
@@ -140,7 +140,7 @@ write-spec =
     same-length-8
     returns-2
     bytes-of-requires
-    start-requires
+    begin-requires
     loop-holds
     slice-aggregate-write-step
     write-step-requires

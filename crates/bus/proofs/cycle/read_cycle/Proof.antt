@@ -53,7 +53,7 @@ same-length-2 : tie.Need-same-length-2
 same-length-2 c = c .before .before .copy-bytes .kept .1 .1 .0
 
 returns : tie.Need-returns
-returns c = let a = c .before .before .before .before .before .before .before .before .before .before .before .before .before .before .before .before .before .before .before .before .args in read-cycle-left (a .kind) (memory (now (a .ram)) (now (a .parity))) (a .start) (a .line) (a .first) (a .t) _ (now (a .log)) (now (a .buffer)) (c .before .before .before .before .before .before .before .before .before .before .before .before .before .size-of .ensures) (c .before .before .before .before .before .before .before .before .before .before .before .before .next .ensures) (c .before .before .before .before .before .before .before .before .before .before .before .any-wrong .ensures) (c .before .before .before .before .before .before .before .before .before .flags-of .ensures) refl (c .before .before .before .before .before .before .before .before .lane-word .ensures) (c .before .before .before .before .before .before .put-record .ensures) (c .before .before .copy-bytes .ensures)
+returns c = let a = c .before .before .before .before .before .before .before .before .before .before .before .before .before .before .before .before .before .before .before .before .args in read-cycle-left (a .kind) (memory (now (a .ram)) (now (a .parity))) (a .start) (a .line) (a .first) (a .cursor) _ (now (a .log)) (now (a .buffer)) (c .before .before .before .before .before .before .before .before .before .before .before .before .before .size-of .ensures) (c .before .before .before .before .before .before .before .before .before .before .before .before .next .ensures) (c .before .before .before .before .before .before .before .before .before .before .before .any-wrong .ensures) (c .before .before .before .before .before .before .before .before .before .flags-of .ensures) refl (c .before .before .before .before .before .before .before .before .lane-word .ensures) (c .before .before .before .before .before .before .put-record .ensures) (c .before .before .copy-bytes .ensures)
 
 pub read-cycle-spec : {M : Type 1} → statement M
 read-cycle-spec =

@@ -53,7 +53,7 @@ same-length-3 : tie.Need-same-length-3
 same-length-3 c = c .before .before .before .before .before .before .before .before .before .put-record .kept .0
 
 returns : tie.Need-returns
-returns c = let a = c .before .before .before .before .before .before .before .before .before .before .before .before .before .before .before .before .before .before .before .before .before .before .args in write-cycle-left (now (a .buffer)) (a .line) (a .first) (a .t) _ (memory (now (a .ram)) (now (a .parity))) (now (a .log)) (c .before .before .before .before .before .before .before .before .before .before .before .before .before .before .before .size-of .ensures) (c .before .before .before .before .before .before .before .before .before .before .before .before .before .before .next .ensures) (c .before .before .before .before .before .before .before .before .before .before .before .before .flags-of .ensures) refl (c .before .before .before .before .before .before .before .before .before .before .before .lane-word .ensures) (c .before .before .before .before .before .before .before .before .before .put-record .ensures) (c .before .before .before .before .store-bytes .ensures)
+returns c = let a = c .before .before .before .before .before .before .before .before .before .before .before .before .before .before .before .before .before .before .before .before .before .before .args in write-cycle-left (now (a .buffer)) (a .line) (a .first) (a .cursor) _ (memory (now (a .ram)) (now (a .parity))) (now (a .log)) (c .before .before .before .before .before .before .before .before .before .before .before .before .before .before .before .size-of .ensures) (c .before .before .before .before .before .before .before .before .before .before .before .before .before .before .next .ensures) (c .before .before .before .before .before .before .before .before .before .before .before .before .flags-of .ensures) refl (c .before .before .before .before .before .before .before .before .before .before .before .lane-word .ensures) (c .before .before .before .before .before .before .before .before .before .put-record .ensures) (c .before .before .before .before .store-bytes .ensures)
 
 pub write-cycle-spec : {M : Type 1} → statement M
 write-cycle-spec =

@@ -6,7 +6,7 @@ use lib.ListN.{length, replicate}
 use Rattle.directory.specs.Steps.{directoryOf}
 use Rattle.memory.specs.Parity.{memory}
 use Rattle.access.specs.Access.{state, allOf, readOne}
-use Rattle.access.specs.AccessLoop.{accessStart, restOf, AccessNeeds}
+use Rattle.access.specs.AccessLoop.{accessBegin, restOf, AccessNeeds}
 use Rattle.access.proofs.AccessLoop.{ReadInvariant, reading-begin, reading-next, needs-lengths, needs-more, cursor-less, cursor-needs, cursor-steps}
 use Rattle.access.proofs.Calls.{needs-begin, read-input-refused, read-state-refused, read-done}
 use borrow.Author.Needs.{needs}
@@ -14,10 +14,10 @@ use Rattle.host.proofs.in_place.unit486_read_in_place.Statement.{statem
 use Rattle.host.proofs.in_place.unit486_read_in_place.Tie as tie
 
 abbrev Inv-loop : tie.InvT-loop
-Inv-loop tags₀ valid₀ lru₀ cd ram parity data₀ address width pcd answers log₀ number bad operand₀ walk₀ tags valid lru «data» log operand cursor = ((nw : Bool) → ReadInvariant pcd answers (allOf (readOne pcd) (state (directoryOf tags₀ valid₀ lru₀ cd nw) (memory ram parity) data₀) (restOf (accessStart address width) answers)) log₀ (replicate 4 0) cursor (state (directoryOf tags valid lru cd nw) (memory ram parity) «data») log operand) × AccessNeeds cursor (length ram) (length parity) (length data₀) (length answers) (length log₀) 4 × (length «data» ≡ length data₀) × (length log ≡ length log₀) × (length operand ≡ 4)
+Inv-loop tags₀ valid₀ lru₀ cd ram parity data₀ address width pcd answers log₀ number bad operand₀ cursor₀ tags valid lru «data» log operand cursor = ((nw : Bool) → ReadInvariant pcd answers (allOf (readOne pcd) (state (directoryOf tags₀ valid₀ lru₀ cd nw) (memory ram parity) data₀) (restOf (accessBegin address width) answers)) log₀ (replicate 4 0) cursor (state (directoryOf tags valid lru cd nw) (memory ram parity) «data») log operand) × AccessNeeds cursor (length ram) (length parity) (length data₀) (length answers) (length log₀) 4 × (length «data» ≡ length data₀) × (length log ≡ length log₀) × (length operand ≡ 4)
 
 abbrev μ-loop : tie.MeasureT-loop
-μ-loop tags₀ valid₀ lru₀ cd ram parity data₀ address width pcd answers log₀ number bad operand₀ walk₀ tags valid lru «data» log operand cursor = cursor .left
+μ-loop tags₀ valid₀ lru₀ cd ram parity data₀ address width pcd answers log₀ number bad operand₀ cursor₀ tags valid lru «data» log operand cursor = cursor .left
 
 input-number-requires : tie.Need-input-number-requires Inv-loop μ-loop
 input-number-requires c κs = search needs
@@ -49,11 +49,11 @@ same-length-4 c = search needs
 returns-2 : tie.Need-returns-2 Inv-loop μ-loop
 returns-2 c = λ nw. rw (c .refused2 .ensures) (read-state-refused (directoryOf (now (c .before .before .before .before .before .before .before .before .before .before .before .before .before .before .before .args .tags)) (now (c .before .before .before .before .before .before .before .before .before .before .before .before .before .before .before .args .valid)) (now (c .before .before .before .before .before .before .before .before .before .before .before .before .before .before .before .args .lru)) (c .before .before .before .before .before .before .before .before .before .before .before .before .before .before .before .args .cd) nw) (memory (now (c .before .before .before .before .before .before .before .before .before .before .before .before .before .before .before .args .ram)) (now (c .before .before .before .before .before .before .before .before .before .before .before .before .before .before .before .args .parity))) (now (c .before .before .before .before .before .before .before .before .before .before .before .before .before .before .before .args .«data»)) (c .before .before .before .before .before .before .before .before .before .before .before .before .before .before .before .args .address) (c .before .before .before .before .before .before .before .before .before .before .before .before .before .before .before .args .width) (now (c .before .before .before .before .before .before .before .before .before .before .before .before .before .before .before .args .answers)) (now (c .before .before .before .before .before .before .before .before .before .before .before .before .before .before .before .args .log)) _ (c .before .before .before .before .before .before .before .input-number .ensures) (c .before .before .before .before .before .before .before .before .before .before .before .before .before .before .before .args .pcd) (c .before .before .before .before .before .before .if1 .left) _ (c .before .before .states-number .ensures) (c .before .if2 .taken))
 
-start-requires : tie.Need-start-requires Inv-loop μ-loop
-start-requires c κs = search needs
+begin-requires : tie.Need-begin-requires Inv-loop μ-loop
+begin-requires c κs = search needs
 
 loop-holds : tie.Need-loop-holds Inv-loop μ-loop
-loop-holds c = rw (c .start .ensures) (λ nw. reading-begin _ _ _ _ _ _ refl refl, needs-begin (directoryOf (now (c .before .before .before .before .before .before .before .before .before .before .before .before .before .before .before .args .tags)) (now (c .before .before .before .before .before .before .before .before .before .before .before .before .before .before .before .args .valid)) (now (c .before .before .before .before .before .before .before .before .before .before .before .before .before .before .before .args .lru)) (c .before .before .before .before .before .before .before .before .before .before .before .before .before .before .before .args .cd) true) (memory (now (c .before .before .before .before .before .before .before .before .before .before .before .before .before .before .before .args .ram)) (now (c .before .before .before .before .before .before .before .before .before .before .before .before .before .before .before .args .parity))) (now (c .before .before .before .before .before .before .before .before .before .before .before .before .before .before .before .args .«data»)) (c .before .before .before .before .before .before .before .before .before .before .before .before .before .before .before .args .address) (c .before .before .before .before .before .before .before .before .before .before .before .before .before .before .before .args .width) (now (c .before .before .before .before .before .before .before .before .before .before .before .before .before .before .before .args .answers)) (now (c .before .before .before .before .before .before .before .before .before .before .before .before .before .before .before .args .log)) _ (c .before .before .before .before .before .before .before .input-number .ensures) (c .before .before .before .before .before .before .if1 .left), refl, refl, refl)
+loop-holds c = rw (c .begin .ensures) (λ nw. reading-begin _ _ _ _ _ _ refl refl, needs-begin (directoryOf (now (c .before .before .before .before .before .before .before .before .before .before .before .before .before .before .before .args .tags)) (now (c .before .before .before .before .before .before .before .before .before .before .before .before .before .before .before .args .valid)) (now (c .before .before .before .before .before .before .before .before .before .before .before .before .before .before .before .args .lru)) (c .before .before .before .before .before .before .before .before .before .before .before .before .before .before .before .args .cd) true) (memory (now (c .before .before .before .before .before .before .before .before .before .before .before .before .before .before .before .args .ram)) (now (c .before .before .before .before .before .before .before .before .before .before .before .before .before .before .before .args .parity))) (now (c .before .before .before .before .before .before .before .before .before .before .before .before .before .before .before .args .«data»)) (c .before .before .before .before .before .before .before .before .before .before .before .before .before .before .before .args .address) (c .before .before .before .before .before .before .before .before .before .before .before .before .before .before .before .args .width) (now (c .before .before .before .before .before .before .before .before .before .before .before .before .before .before .before .args .answers)) (now (c .before .before .before .before .before .before .before .before .before .before .before .before .before .before .before .args .log)) _ (c .before .before .before .before .before .before .before .input-number .ensures) (c .before .before .before .before .before .before .if1 .left), refl, refl, refl)
 
 slice-aggregate-read-step : tie.Need-slice-aggregate-read-step Inv-loop μ-loop
 slice-aggregate-read-step c = search needs
@@ -105,7 +105,7 @@ unit486-read-in-place-spec =
     same-length-3
     same-length-4
     returns-2
-    start-requires
+    begin-requires
     loop-holds
     slice-aggregate-read-step
     read-step-requires

@@ -7,17 +7,17 @@ use Rattle.directory.specs.Steps.{directoryOf}
 use Rattle.memory.specs.Bytes.{bytesOf}
 use Rattle.memory.specs.Parity.{memory}
 use Rattle.access.specs.Access.{state, allOf, writeOne}
-use Rattle.access.specs.AccessLoop.{accessStart, restOf, AccessNeeds}
+use Rattle.access.specs.AccessLoop.{accessBegin, restOf, AccessNeeds}
 use Rattle.access.proofs.AccessLoop.{AccessInvariant, access-invariant-begin, writing-next, needs-lengths, needs-more, cursor-less, cursor-needs, cursor-steps}
 use Rattle.access.proofs.Calls.{needs-begin, write-input-refused, write-later-refused, write-done}
 use Rattle.host.proofs.in_place.unit486_write_in_place.Statement.{statement}
 use Rattle.host.proofs.in_place.unit486_write_in_place.Tie as tie
 
 abbrev Inv-loop : tie.InvT-loop
-Inv-loop tags₀ valid₀ lru₀ cd nw ram₀ parity₀ data₀ address width value answers log₀ number states bad operand walk₀ tags valid lru ram parity «data» log cursor = AccessInvariant (writeOne operand) answers (allOf (writeOne operand) (state (directoryOf tags₀ valid₀ lru₀ cd nw) (memory ram₀ parity₀) data₀) (restOf (accessStart address width) answers)) log₀ cursor (state (directoryOf tags valid lru cd nw) (memory ram parity) «data») log × AccessNeeds cursor (length ram₀) (length parity₀) (length data₀) (length answers) (length log₀) (length operand) × (length «data» ≡ length data₀) × (length log ≡ length log₀) × (length ram ≡ length ram₀) × (length parity ≡ length parity₀)
+Inv-loop tags₀ valid₀ lru₀ cd nw ram₀ parity₀ data₀ address width value answers log₀ number states bad operand cursor₀ tags valid lru ram parity «data» log cursor = AccessInvariant (writeOne operand) answers (allOf (writeOne operand) (state (directoryOf tags₀ valid₀ lru₀ cd nw) (memory ram₀ parity₀) data₀) (restOf (accessBegin address width) answers)) log₀ cursor (state (directoryOf tags valid lru cd nw) (memory ram parity) «data») log × AccessNeeds cursor (length ram₀) (length parity₀) (length data₀) (length answers) (length log₀) (length operand) × (length «data» ≡ length data₀) × (length log ≡ length log₀) × (length ram ≡ length ram₀) × (length parity ≡ length parity₀)
 
 abbrev μ-loop : tie.MeasureT-loop
-μ-loop tags₀ valid₀ lru₀ cd nw ram₀ parity₀ data₀ address width value answers log₀ number states bad operand walk₀ tags valid lru ram parity «data» log cursor = cursor .left
+μ-loop tags₀ valid₀ lru₀ cd nw ram₀ parity₀ data₀ address width value answers log₀ number states bad operand cursor₀ tags valid lru ram parity «data» log cursor = cursor .left
 
 input-number-requires : tie.Need-input-number-requires Inv-loop μ-loop
 input-number-requires c κs = search needs
@@ -70,12 +70,12 @@ returns-2 c = rw (c .refused2 .ensures) (write-later-refused (directoryOf (now (
 bytes-of-requires : tie.Need-bytes-of-requires Inv-loop μ-loop
 bytes-of-requires c κs = search needs
 
-start-requires : tie.Need-start-requires Inv-loop μ-loop
-start-requires c κs = search needs
+begin-requires : tie.Need-begin-requires Inv-loop μ-loop
+begin-requires c κs = search needs
 
 loop-holds : tie.Need-loop-holds Inv-loop μ-loop
 unfolding bytesOf
-loop-holds c = rw (c .start .ensures, c .before .bytes-of .ensures) (access-invariant-begin _ _ _ _ _ refl, needs-begin (directoryOf (now (c .before .before .before .before .before .before .before .before .before .before .before .before .before .before .before .before .before .before .before .before .args .tags)) (now (c .before .before .before .before .before .before .before .before .before .before .before .before .before .before .before .before .before .before .before .before .args .valid)) (now (c .before .before .before .before .before .before .before .before .before .before .before .before .before .before .before .before .before .before .before .before .args .lru)) (c .before .before .before .before .before .before .before .before .before .before .before .before .before .before .before .before .before .before .before .before .args .cd) (c .before .before .before .before .before .before .before .before .before .before .before .before .before .before .before .before .before .before .before .before .args .nw)) (memory (now (c .before .before .before .before .before .before .before .before .before .before .before .before .before .before .before .before .before .before .before .before .args .ram)) (now (c .before .before .before .before .before .before .before .before .before .before .before .before .before .before .before .before .before .before .before .before .args .parity))) (now (c .before .before .before .before .before .before .before .before .before .before .before .before .before .before .before .before .before .before .before .before .args .«data»)) (c .before .before .before .before .before .before .before .before .before .before .before .before .before .before .before .before .before .before .before .before .args .address) (c .before .before .before .before .before .before .before .before .before .before .before .before .before .before .before .before .before .before .before .before .args .width) (now (c .before .before .before .before .before .before .before .before .before .before .before .before .before .before .before .before .before .before .before .before .args .answers)) (now (c .before .before .before .before .before .before .before .before .before .before .before .before .before .before .before .before .before .before .before .before .args .log)) _ (c .before .before .before .before .before .before .before .before .before .before .input-number .ensures) (c .before .before .before .before .before .before .before .before .before .if1 .left), refl, refl, refl, refl)
+loop-holds c = rw (c .begin .ensures, c .before .bytes-of .ensures) (access-invariant-begin _ _ _ _ _ refl, needs-begin (directoryOf (now (c .before .before .before .before .before .before .before .before .before .before .before .before .before .before .before .before .before .before .before .before .args .tags)) (now (c .before .before .before .before .before .before .before .before .before .before .before .before .before .before .before .before .before .before .before .before .args .valid)) (now (c .before .before .before .before .before .before .before .before .before .before .before .before .before .before .before .before .before .before .before .before .args .lru)) (c .before .before .before .before .before .before .before .before .before .before .before .before .before .before .before .before .before .before .before .before .args .cd) (c .before .before .before .before .before .before .before .before .before .before .before .before .before .before .before .before .before .before .before .before .args .nw)) (memory (now (c .before .before .before .before .before .before .before .before .before .before .before .before .before .before .before .before .before .before .before .before .args .ram)) (now (c .before .before .before .before .before .before .before .before .before .before .before .before .before .before .before .before .before .before .before .before .args .parity))) (now (c .before .before .before .before .before .before .before .before .before .before .before .before .before .before .before .before .before .before .before .before .args .«data»)) (c .before .before .before .before .before .before .before .before .before .before .before .before .before .before .before .before .before .before .before .before .args .address) (c .before .before .before .before .before .before .before .before .before .before .before .before .before .before .before .before .before .before .before .before .args .width) (now (c .before .before .before .before .before .before .before .before .before .before .before .before .before .before .before .before .before .before .before .before .args .answers)) (now (c .before .before .before .before .before .before .before .before .before .before .before .before .before .before .before .before .before .before .before .before .args .log)) _ (c .before .before .before .before .before .before .before .before .before .before .input-number .ensures) (c .before .before .before .before .before .before .before .before .before .if1 .left), refl, refl, refl, refl)
 
 slice-aggregate-write-step : tie.Need-slice-aggregate-write-step Inv-loop μ-loop
 slice-aggregate-write-step c = search needs
@@ -137,7 +137,7 @@ unit486-write-in-place-spec =
     same-length-8
     returns-2
     bytes-of-requires
-    start-requires
+    begin-requires
     loop-holds
     slice-aggregate-write-step
     write-step-requires
