@@ -1,11 +1,10 @@
 -- Laws of the loops over doublewords: what is left from here gives what the whole gives.
-use Prim.Native.Nat.{ℕ, zero, suc, _+_, _*_, _-_, _/_, _%_, _≤_, _<_, min}
+use Prim.Native.Nat.{ℕ, zero, suc, _+_, _*_, _-_, _/_, _%_, _<_, min}
 use mathlib.Core.Path.{_≡_, refl, sym, _∙_, ap}
 use mathlib.Core.Bool.{Bool}
 use mathlib.Core.List.{List, [], _∷_, _++_}
 use native.Mathlib.Omega.{arith}
-use native.Mathlib.Decide.{decLe}
-use lib.ListN.{length, take, drop, length-append, length-take, length-drop}
+use lib.ListN.{length, take, drop, length-append}
 use lib.Seq.{drop-drop, sets}
 use Rattle.laws.proofs.Lists.{sets-append}
 use Rattle.memory.specs.Parity.{Memory}
@@ -15,15 +14,14 @@ use Rattle.bus.specs.Record.{Record, logged, wordsOf}
 use Rattle.directory.specs.declared.steps.Directory.{Directory}
 use Rattle.doubleword.specs.declared.change.Change.{Change}
 use Rattle.doubleword.specs.declared.change.Change.the-variants.{Unchanged}
-use Rattle.doubleword.specs.declared.change.DoublewordResult.{DoublewordResult}
-use Rattle.doubleword.specs.declared.change.Wanted.{Wanted}
-use Rattle.access.specs.declared.cursor.AccessCursor.{AccessCursor}
-use Rattle.access.specs.declared.cursor.StepResult.{StepResult}
+use Rattle.access_steps.specs.declared.cursor.AccessCursor.{AccessCursor}
+use Rattle.access_steps.specs.declared.cursor.StepResult.{StepResult}
 use Rattle.bus.specs.Groups.{groupSize, groupCount}
 use Rattle.doubleword.specs.Doubleword.{Doubleword, Done, doublewordsOf, changed}
 use Rattle.access.specs.Access.{State, state, Progress, allOf, next, readOne, writeOne}
-use Rattle.doubleword.specs.DoublewordCode.{doublewordOf, BelowFour, DoublewordNeeds, Reads, Writes}
-use Rattle.access.specs.AccessLoop.{wantedOf, accessNext, restOf, AccessNeeds, nextDoubleword, ReadStep, WriteStep}
+use Rattle.doubleword.specs.DoublewordCode.{doublewordOf}
+use Rattle.access_steps.specs.AccessLoop.{wantedOf, accessNext, restOf, nextDoubleword, ReadStep, WriteStep}
+use Rattle.access_steps.proofs.Steps.{groupAt}
 use Rattle.access.proofs.Values.{one-length, one-memory}
 
 words-append : (a b : List Record) → wordsOf (a ++ b) ≡ wordsOf a ++ wordsOf b
@@ -54,10 +52,6 @@ none-of : (g : ℕ) (xs : List ℕ) (address place : ℕ) → doublewordsOf g xs
 unfolding doublewordsOf
 none-of zero xs address place = refl
 none-of (suc g) xs address place = refl
-
--- the group of answers that serves the next doubleword
-abbrev pub groupAt : AccessCursor → List ℕ → List ℕ
-groupAt cursor xs = take groupSize (drop (cursor .group * groupSize) xs)
 
 module _ (cursor : AccessCursor) (xs : List ℕ) (cycles : ℕ) (some : 0 < cursor .left) (more : cursor .group < groupCount) where
   abbrev count : ℕ
@@ -152,90 +146,6 @@ module _ (one : State → Doubleword → Done) (xs : List ℕ) where
       let r = rest-done cursor xs z in
       (rw r at (g .states), rw r at (g .logs), (let m = rw r at (g .made) in omega arith))
 
--- the bytes left fit into the doublewords left: all go into this one, or this one ends at a boundary
-all-here : (left room c : ℕ) → c ≡ min left room → left ≤ room → left - c ≡ 0
-all-here left room c e h = omega arith
-
-none-fits : (x y : ℕ) → x ≡ 0 → x ≤ y
-none-fits x y e = omega arith
-
-some-here : (left room c : ℕ) → c ≡ min left room → room < left → c ≡ room
-some-here left room c e h = omega arith
-
-boundary : (a c : ℕ) → c ≡ 4 - a % 4 → (a + c) % 4 ≡ 0
-boundary a c e = omega arith
-
-fewer : (left b g c : ℕ) → b < 4 → c ≡ 4 - b → left ≤ 4 * (2 - g) - b → g < 2 → left - c ≤ 4 * (2 - (g + 1))
-fewer left b g c bl e l h = omega arith
-
-fits-next : (left a g c : ℕ) → c ≡ min left (4 - a % 4) → left ≤ 4 * (2 - g) - a % 4 → g < 2 → left - c ≤ 4 * (2 - (g + 1)) - (a + c) % 4
-fits-next left a g c e l h =
-    elim (decLe left (4 - a % 4)) [
-      | yes p ↦ none-fits (left - c) _ (all-here left (4 - a % 4) c e p)
-      | no p ↦
-          let k = some-here left (4 - a % 4) c e (over left (4 - a % 4) p) in
-          let f = boundary a c k in
-          ends (left - c) (4 * (2 - (g + 1))) ((a + c) % 4) f (fewer left (a % 4) g c (omega arith) k l h)
-    ]
-  where
-    over : (x y : ℕ) → (x ≤ y → ⊥) → y < x
-    over x y n = omega arith
-
-    ends : (x y z : ℕ) → z ≡ 0 → x ≤ y → x ≤ y - z
-    ends x y z e h = omega arith
-
--- buffers of the same lengths
-pub needs-lengths : {cursor : AccessCursor} {ram parity array answers log operand ram′ parity′ array′ log′ operand′ : ℕ} →
-    ram′ ≡ ram → parity′ ≡ parity → array′ ≡ array → log′ ≡ log → operand′ ≡ operand →
-    AccessNeeds cursor ram parity array answers log operand → AccessNeeds cursor ram′ parity′ array′ answers log′ operand′
-needs-lengths er ep ea el eo z = rw (er, ep, ea, el, eo) z
-
--- what the next doubleword needs, and what is left after it
-module _ (cursor : AccessCursor) (ram parity array answers log operand : ℕ) (z : AccessNeeds cursor ram parity array answers log operand) (some : 0 < cursor .left) where
-  pub needs-more : cursor .group < groupCount
-  needs-more = omega (arith, z .fits, z .last)
-
-  pub needs-doubleword : (given : ℕ) → given ≡ groupSize → DoublewordNeeds (wantedOf cursor) (cursor .cycles) ram parity given log
-  needs-doubleword given e =
-      record {
-        aligned = omega arith;
-        inside = omega (arith, z .inside, z .whole);
-        small = z .small;
-        bits = omega (arith, z .bits, z .whole);
-        some = omega arith;
-        lanes = omega arith;
-        line = omega arith;
-        served = e;
-        records = omega (arith, z .made, z .records, needs-more);
-        few = omega (arith, z .made, needs-more);
-      }
-
-  pub needs-next : (n : ℕ) → n ≤ groupSize → AccessNeeds (accessNext cursor (min (cursor .left) (4 - cursor .address % 4)) n) ram parity array answers log operand
-  needs-next n l =
-      record {
-        inside = omega (arith, z .inside);
-        whole = z .whole;
-        small = z .small;
-        bits = z .bits;
-        arrayLength = z .arrayLength;
-        served = z .served;
-        records = z .records;
-        fits = fits-next (cursor .left) (cursor .address) (cursor .group) _ refl (z .fits) needs-more;
-        last = omega (arith, needs-more);
-        made = omega (arith, z .made);
-        operands = omega (arith, z .operands);
-        four = z .four;
-      }
-
--- the group of answers that the code takes is the rules'
-pub group-is : (xs : List ℕ) (from to : ℕ) → to ≡ from + 16 → take (to - from) (drop from xs) ≡ take groupSize (drop from xs)
-group-is xs from to e = let k : to - from ≡ 16 = omega arith in ap (λ (n : ℕ). take n (drop from xs)) k
-
-pub group-length : (xs : List ℕ) (from to : ℕ) → to ≡ from + 16 → from + 16 ≤ length xs → length (take (to - from) (drop from xs)) ≡ groupSize
-group-length xs from to e l =
-    let k : to - from ≡ 16 = omega arith in
-    length-take (to - from) (drop from xs) ∙ rw (length-drop from xs) (omega arith)
-
 -- where the change is `Unchanged` the directory stays
 pub keep-changed : (d d′ : Directory) (line : ℕ) (change : Change) → change ≡ Unchanged → d′ ≡ d → d′ ≡ changed d line change
 unfolding changed
@@ -302,74 +212,3 @@ pub reading-end : (pcd : Bool) (xs : List ℕ) {p : Progress} {log₀ operand₀
     cursor .left ≡ 0 → ReadInvariant pcd xs p log₀ operand₀ cursor s log operand → operand ≡ sets operand₀ 0 (p .bytes)
 unfolding allOf
 reading-end pcd xs cursor s log operand z g = let r = rest-done cursor xs z in rw r at (g .bytes)
-
--- the cursor after a doubleword
-module _ (cursor u : AccessCursor) (count n : ℕ) (some : 0 < cursor .left) (ec : count ≡ min (cursor .left) (4 - cursor .address % 4)) where
-  pub cursor-less : u ≡ accessNext cursor count n → u .left < cursor .left
-  cursor-less eu = rw (eu, ec) (omega arith)
-
-  pub cursor-needs : u ≡ accessNext cursor count n → (ram parity array answers log operand : ℕ) → n ≤ groupSize → AccessNeeds cursor ram parity array answers log operand → AccessNeeds u ram parity array answers log operand
-  cursor-needs eu ram parity array answers log operand l z = rw (eu, ec) (needs-next cursor ram parity array answers log operand z some n l)
-
--- what the code's next cursor needs
-pub cursor-steps : (cursor : AccessCursor) (count n ram parity array answers log operand : ℕ) → count ≡ min (cursor .left) (4 - cursor .address % 4) → n ≤ groupSize →
-    AccessNeeds cursor ram parity array answers log operand →
-    (count ≤ cursor .left) × (cursor .address + cursor .left < 4294967296) × (cursor .group < 64) × (cursor .place < 64) × (cursor .left ≤ 64) × (cursor .cycles ≤ 64) × (n ≤ 64)
-cursor-steps cursor count n ram parity array answers log operand ec l z = (
-  rw ec (omega arith),
-  omega (arith, z .inside, z .small),
-  omega (arith, z .last),
-  omega (arith, z .operands, z .four),
-  omega (arith, z .operands, z .four),
-  omega (arith, z .made, z .last),
-  omega arith,
-)
-
--- what the next doubleword's code needs
-pub cursor-doubleword : (cursor : AccessCursor) (w : Wanted) (ram parity array answers log₀ log operand₀ operand given : ℕ) → 0 < cursor .left → w ≡ wantedOf cursor →
-    AccessNeeds cursor ram parity array answers log₀ operand₀ → log ≡ log₀ → operand ≡ operand₀ → given ≡ groupSize →
-    DoublewordNeeds w (cursor .cycles) ram parity given log × (w .place + w .count ≤ operand)
-cursor-doubleword cursor w ram parity array answers log₀ log operand₀ operand given some ew z el eo eg =
-    rw (ew, el, eo) (needs-doubleword cursor ram parity array answers log₀ operand₀ z some given eg, room (cursor .place) (cursor .left) _ operand₀ (z .operands))
-  where
-    room : (place left r operand : ℕ) → place + left ≤ operand → place + min left r ≤ operand
-    room place left r operand h = omega arith
-
--- a step of the code, from what its parts leave
-module _ (cursor : AccessCursor) (xs : List ℕ) (w : Wanted) (given : List ℕ) (ew : w ≡ wantedOf cursor) (eg : given ≡ groupAt cursor xs) (moved : DoublewordResult) (b : BelowFour (moved .change)) where
-  abbrev stepped : StepResult
-  stepped = record { line = w .line; change = moved .change; count = w .count; cycles = moved .cycles }
-
-  pub read-step-left : (one : Wanted → List ℕ → Done) (log₀ operand₀ array log operand : List ℕ) →
-      Reads (one w given) (w .place) (cursor .cycles) log₀ operand₀ moved array log operand →
-      ReadStep (one (wantedOf cursor) (groupAt cursor xs)) cursor log₀ operand₀ stepped array log operand
-  read-step-left one log₀ operand₀ array log operand k =
-      let k′ : Reads (one (wantedOf cursor) (groupAt cursor xs)) (cursor .place) (cursor .cycles) log₀ operand₀ moved array log operand = rw (ew, eg) at k in
-      record {
-        line = ap (λ (x : Wanted). x .line) ew;
-        change = k′ .change;
-        below = b;
-        counts = ap (λ (x : Wanted). x .count) ew;
-        made = k′ .made;
-        arrays = k′ .arrays;
-        logs = k′ .logs;
-        bytes = k′ .bytes;
-        most = k′ .most;
-      }
-
-  pub write-step-left : (one : Wanted → List ℕ → Done) (log₀ : List ℕ) (m : Memory) (array log : List ℕ) →
-      Writes (one w given) (cursor .cycles) log₀ moved m array log →
-      WriteStep (one (wantedOf cursor) (groupAt cursor xs)) cursor log₀ stepped m array log
-  write-step-left one log₀ m array log k =
-      let k′ : Writes (one (wantedOf cursor) (groupAt cursor xs)) (cursor .cycles) log₀ moved m array log = rw (ew, eg) at k in
-      record {
-        line = ap (λ (x : Wanted). x .line) ew;
-        change = k′ .change;
-        below = b;
-        counts = ap (λ (x : Wanted). x .count) ew;
-        made = k′ .made;
-        memories = k′ .memories;
-        arrays = k′ .arrays;
-        logs = k′ .logs;
-        most = k′ .most;
-      }

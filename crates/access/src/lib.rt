@@ -1,13 +1,10 @@
 // The calls by value: reads, writes, other masters, control, flush and reset.
 // RAM, parity array, data array, answers and log are lent by the caller.
-mod cursor;
 mod master;
 mod outcome;
 mod reading;
 mod writing;
 
-pub use cursor::AccessCursor;
-pub use cursor::StepResult;
 pub use master::control;
 pub use master::external_write;
 pub use master::flush;
@@ -15,6 +12,4 @@ pub use master::reset;
 pub use master::snoop;
 pub use outcome::Outcome;
 pub use reading::read;
-pub use reading::read_step;
 pub use writing::write;
-pub use writing::write_step;

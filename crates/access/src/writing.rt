@@ -1,69 +1,19 @@
 // The write call.
 ghost use mathlib.Core.Path.{_≡_};
-ghost use Prim.Native.Nat.{_<_};
-ghost use lib.ListN.{length};
-ghost use Rattle.directory.specs.Ways.{lookupIn};
 ghost use Rattle.memory.specs.Parity.{memory};
-ghost use Rattle.doubleword.specs.Doubleword.{writeDone};
 ghost use Rattle.access.specs.Access.{after, state, writeCall};
-ghost use Rattle.access.specs.AccessLoop.{AccessNeeds, lineAddress, nextDoubleword, WriteStep};
-use crate::cursor::AccessCursor;
-use crate::cursor::StepResult;
 use crate::outcome::Outcome;
 use crate::outcome::refused;
+use access_steps::AccessCursor;
+use access_steps::write_step;
 use directory::Directory;
 use doubleword::Change;
 use doubleword::changed_by;
-use doubleword::write_doubleword;
 use memory::bytes_of;
 use refusal::input_number;
 use refusal::or_else;
 use refusal::states_number;
 use refusal::value_number;
-
-// The next doubleword of a write, by lent fields of the directory.
-pub fn write_step<'a>(
-    tags: &'a [u32; 512],
-    valid: &'a [bool; 512],
-    stays: bool,
-    ram: &mut [u8],
-    parity: &mut [u8],
-    data: &mut [u8],
-    answers: &[u8],
-    log: &mut [u32],
-    operand: &[u8],
-    cursor: AccessCursor,
-) -> StepResult
-    requires { ⌜ (0 < cursor .left) × AccessNeeds cursor (length (now ram)) (length (now parity)) (length (now «data»)) (length (now answers)) (length (now log)) (length (now operand)) ⌝ }
-    ensures { λ r. ⌜ WriteStep (writeDone (lookupIn (now (tags .entry)) (now (valid .entry)) (lineAddress cursor)) stays
-        (memory (now (ram .entry)) (now (parity .entry))) (now («data» .entry)) (now (operand .entry)) (nextDoubleword cursor (now (answers .entry))))
-        cursor (now (log .entry)) r (memory (now (ram .exit)) (now (parity .exit))) (now («data» .exit)) (now (log .exit)) ⌝ }
-{
-    let w = cursor.wanted();
-    let from = cursor.group * 16;
-    let to = from + 16;
-    let group = &answers[from..to];
-    let moved = write_doubleword(
-        tags,
-        valid,
-        stays,
-        ram,
-        parity,
-        data,
-        group,
-        log,
-        operand,
-        w,
-        cursor.cycles,
-    );
-    let change = moved.change;
-    StepResult {
-        line: w.line,
-        change,
-        count: w.count,
-        cycles: moved.cycles,
-    }
-}
 
 pub fn write(
     mut given: Directory,

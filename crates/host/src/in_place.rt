@@ -8,9 +8,9 @@ ghost use Rattle.directory.specs.Steps.{afterFlush, directoryOf, directoryResul
 ghost use Rattle.memory.specs.Parity.{memory};
 ghost use Rattle.access.specs.Access.{after, outcome, readCall, state, writeCall};
 ghost use Rattle.access.specs.Masters.{externalCall, written};
-use access::AccessCursor;
-use access::read_step;
-use access::write_step;
+use access_steps::AccessCursor;
+use access_steps::read_step;
+use access_steps::write_step;
 use directory::invalidate_in_place;
 use doubleword::change_in_place;
 use memory::bytes_of;

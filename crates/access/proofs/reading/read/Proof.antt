@@ -1,6 +1,7 @@
 use Rattle.access.proofs.Calls.{needs-begin, read-input-refused, read-state-refused, read-done}
-use Rattle.access.proofs.AccessLoop.{ReadInvariant, reading-begin, reading-next, keep-changed, needs-lengths, needs-more, cursor-less, cursor-needs, cursor-steps}
-use Rattle.access.specs.AccessLoop.{accessBegin, restOf, AccessNeeds}
+use Rattle.access_steps.proofs.Steps.{needs-lengths, needs-more, cursor-less, cursor-needs, cursor-steps}
+use Rattle.access.proofs.AccessLoop.{ReadInvariant, reading-begin, reading-next, keep-changed}
+use Rattle.access_steps.specs.AccessLoop.{accessBegin, restOf, AccessNeeds}
 use Rattle.access.specs.Access.{state, allOf, readOne}
 use lib.ListN.{length, replicate}
 use Rattle.memory.specs.Parity.{memory}

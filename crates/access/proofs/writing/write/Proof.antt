@@ -1,6 +1,7 @@
 use Rattle.access.proofs.Calls.{needs-begin, write-input-refused, write-later-refused, write-done}
-use Rattle.access.proofs.AccessLoop.{AccessInvariant, access-invariant-begin, writing-next, keep-changed, needs-lengths, needs-more, cursor-less, cursor-needs, cursor-steps}
-use Rattle.access.specs.AccessLoop.{accessBegin, restOf, AccessNeeds}
+use Rattle.access_steps.proofs.Steps.{needs-lengths, needs-more, cursor-less, cursor-needs, cursor-steps}
+use Rattle.access.proofs.AccessLoop.{AccessInvariant, access-invariant-begin, writing-next, keep-changed}
+use Rattle.access_steps.specs.AccessLoop.{accessBegin, restOf, AccessNeeds}
 use Rattle.access.specs.Access.{state, allOf, writeOne}
 use lib.ListN.{length}
 use Rattle.memory.specs.Parity.{memory}

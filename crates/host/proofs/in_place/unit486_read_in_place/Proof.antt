@@ -6,8 +6,9 @@ use lib.ListN.{length, replicate}
 use Rattle.directory.specs.Steps.{directoryOf}
 use Rattle.memory.specs.Parity.{memory}
 use Rattle.access.specs.Access.{state, allOf, readOne}
-use Rattle.access.specs.AccessLoop.{accessBegin, restOf, AccessNeeds}
-use Rattle.access.proofs.AccessLoop.{ReadInvariant, reading-begin, reading-next, needs-lengths, needs-more, cursor-less, cursor-needs, cursor-steps}
+use Rattle.access_steps.specs.AccessLoop.{accessBegin, restOf, AccessNeeds}
+use Rattle.access_steps.proofs.Steps.{needs-lengths, needs-more, cursor-less, cursor-needs, cursor-steps}
+use Rattle.access.proofs.AccessLoop.{ReadInvariant, reading-begin, reading-next}
 use Rattle.access.proofs.Calls.{needs-begin, read-input-refused, read-state-refused, read-done}
 use borrow.Author.Needs.{needs}
 use Rattle.host.proofs.in_place.unit486_read_in_place.Statement.{statement}

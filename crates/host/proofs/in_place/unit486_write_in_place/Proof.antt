@@ -7,8 +7,9 @@ use Rattle.directory.specs.Steps.{directoryOf}
 use Rattle.memory.specs.Bytes.{bytesOf}
 use Rattle.memory.specs.Parity.{memory}
 use Rattle.access.specs.Access.{state, allOf, writeOne}
-use Rattle.access.specs.AccessLoop.{accessBegin, restOf, AccessNeeds}
-use Rattle.access.proofs.AccessLoop.{AccessInvariant, access-invariant-begin, writing-next, needs-lengths, needs-more, cursor-less, cursor-needs, cursor-steps}
+use Rattle.access_steps.specs.AccessLoop.{accessBegin, restOf, AccessNeeds}
+use Rattle.access_steps.proofs.Steps.{needs-lengths, needs-more, cursor-less, cursor-needs, cursor-steps}
+use Rattle.access.proofs.AccessLoop.{AccessInvariant, access-invariant-begin, writing-next}
 use Rattle.access.proofs.Calls.{needs-begin, write-input-refused, write-later-refused, write-done}
 use Rattle.host.proofs.in_place.unit486_write_in_place.Statement.{statement}
 use Rattle.host.proofs.in_place.unit486_write_in_place.Tie as tie

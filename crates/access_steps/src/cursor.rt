@@ -1,7 +1,7 @@
 // The doublewords of an access, the lowest first.
 ghost use mathlib.Core.Path.{_≡_};
 ghost use Prim.Native.Nat.{_+_, _≤_, _<_};
-ghost use Rattle.access.specs.AccessLoop.{accessBegin, accessNext, wantedOf};
+ghost use Rattle.access_steps.specs.AccessLoop.{accessBegin, accessNext, wantedOf};
 use doubleword::Change;
 use doubleword::Wanted;
 

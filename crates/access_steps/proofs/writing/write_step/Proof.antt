@@ -1,4 +1,4 @@
-use Rattle.access.proofs.AccessLoop.{needs-more, group-is, group-length, cursor-doubleword, write-step-left}
+use Rattle.access_steps.proofs.Steps.{needs-more, group-is, group-length, cursor-doubleword, write-step-left}
 use Rattle.doubleword.proofs.Doublewords.{writes-below}
 use Prim.Native.Nat.{ℕ}
 use Rattle.doubleword.specs.DoublewordCode.{doublewordOf}
@@ -12,8 +12,8 @@ use mathlib.Core.Path.{refl}
 use native.Mathlib.Omega.{arith}
 use denote.Ref.{now}
 use borrow.Author.Needs.{needs}
-use Rattle.access.proofs.writing.write_step.Statement.{statement}
-use Rattle.access.proofs.writing.write_step.Tie as tie
+use Rattle.access_steps.proofs.writing.write_step.Statement.{statement}
+use Rattle.access_steps.proofs.writing.write_step.Tie as tie
 
 wanted-requires : tie.Need-wanted-requires
 wanted-requires c κs = search needs

@@ -3,8 +3,8 @@ use Prim.Native.Nat.{_-_, _%_, min}
 use mathlib.Core.Path.{_≡_}
 use mathlib.Core.Logic.{⊎-elim}
 use borrow.Author.Needs.{needs}
-use Rattle.access.proofs.cursor.AccessCursor.wanted.Statement.{statement}
-use Rattle.access.proofs.cursor.AccessCursor.wanted.Tie as tie
+use Rattle.access_steps.proofs.cursor.AccessCursor.wanted.Statement.{statement}
+use Rattle.access_steps.proofs.cursor.AccessCursor.wanted.Tie as tie
 
 sub-room : tie.Need-sub-room
 sub-room c = search needs

@@ -10,8 +10,8 @@ use Rattle.bus.specs.Record.{logged}
 use Rattle.doubleword.specs.declared.change.Wanted.{Wanted}
 use Rattle.doubleword.specs.Doubleword.{Doubleword, Done, doublewordsOf}
 use Rattle.doubleword.specs.DoublewordCode.{BelowFour, doublewordOf}
-use Rattle.access.specs.declared.cursor.AccessCursor.{AccessCursor}
-use Rattle.access.specs.declared.cursor.StepResult.{StepResult}
+use Rattle.access_steps.specs.declared.cursor.AccessCursor.{AccessCursor}
+use Rattle.access_steps.specs.declared.cursor.StepResult.{StepResult}
 
 -- The start of an access, its next doubleword, and what is left after it.
 abbrev pub accessBegin : ℕ → ℕ → AccessCursor

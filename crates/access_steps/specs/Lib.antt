@@ -1,0 +1,2 @@
+-- No rule: what the code's own cursor between doublewords stands for.
+pub mod AccessLoop

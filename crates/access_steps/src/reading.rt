@@ -1,0 +1,57 @@
+// One doubleword of a read.
+ghost use Prim.Native.Nat.{_<_};
+ghost use lib.ListN.{length};
+ghost use Rattle.directory.specs.Address.{setOf};
+ghost use Rattle.directory.specs.Ways.{lookupIn, victimIn};
+ghost use Rattle.memory.specs.Parity.{memory};
+ghost use Rattle.doubleword.specs.Doubleword.{readDone};
+ghost use Rattle.access_steps.specs.AccessLoop.{AccessNeeds, lineAddress, nextDoubleword, ReadStep};
+use crate::cursor::AccessCursor;
+use crate::cursor::StepResult;
+use doubleword::read_doubleword;
+
+// The next doubleword of a read, by lent fields of the directory.
+pub fn read_step<'a>(
+    tags: &'a [u32; 512],
+    valid: &'a [bool; 512],
+    lru: &'a [u8; 128],
+    may_fill: bool,
+    ram: &[u8],
+    parity: &[u8],
+    data: &mut [u8],
+    answers: &[u8],
+    log: &mut [u32],
+    operand: &mut [u8],
+    cursor: AccessCursor,
+) -> StepResult
+    requires { ⌜ (0 < cursor .left) × AccessNeeds cursor (length (now ram)) (length (now parity)) (length (now «data»)) (length (now answers)) (length (now log)) (length (now operand)) ⌝ }
+    ensures { λ r. ⌜ ReadStep (readDone (lookupIn (now (tags .entry)) (now (valid .entry)) (lineAddress cursor)) (victimIn (now (valid .entry)) (now (lru .entry)) (setOf (lineAddress cursor)))
+        «may_fill» (memory (now (ram .entry)) (now (parity .entry))) (now («data» .entry)) (nextDoubleword cursor (now (answers .entry))))
+        cursor (now (log .entry)) (now (operand .entry)) r (now («data» .exit)) (now (log .exit)) (now (operand .exit)) ⌝ }
+{
+    let w = cursor.wanted();
+    let from = cursor.group * 16;
+    let to = from + 16;
+    let group = &answers[from..to];
+    let moved = read_doubleword(
+        tags,
+        valid,
+        lru,
+        may_fill,
+        ram,
+        parity,
+        data,
+        group,
+        log,
+        operand,
+        w,
+        cursor.cycles,
+    );
+    let change = moved.change;
+    StepResult {
+        line: w.line,
+        change,
+        count: w.count,
+        cycles: moved.cycles,
+    }
+}
