@@ -5,13 +5,13 @@ use mathlib.Core.Bool.{false}
 use mathlib.Core.List.{List, [], _∷_}
 use lib.ListN.{take, replicate}
 use Rattle.directory.specs.declared.steps.Directory.{Directory}
-use Rattle.directory.specs.declared.ways.Found.{Found}
-use Rattle.directory.specs.declared.ways.Found.the-variants.{At, Nothing}
-use Rattle.directory.specs.Lru.{lruAfter, lruWay}
-use Rattle.directory.specs.Ways.{lowest, lookupIn, victimIn}
-use Rattle.directory.specs.State.{sameTags, tagsAbove, firstNumber, stateIn}
+use Rattle.ways.specs.declared.ways.Found.{Found}
+use Rattle.ways.specs.declared.ways.Found.the-variants.{At, Nothing}
+use Rattle.ways.specs.Lru.{lruAfter, lruWay}
+use Rattle.ways.specs.Ways.{lowest, lookupIn, victimIn}
+use Rattle.ways.specs.State.{sameTags, tagsAbove, firstNumber, stateIn}
 use Rattle.directory.specs.Steps.{lookupOf, afterUse, afterFill, afterReset, afterControl}
-use Rattle.memory.specs.Bytes.{bytesAt, valueOf, bytesOf}
+use Rattle.words.specs.Bytes.{bytesAt, valueOf, bytesOf}
 use Rattle.memory.specs.Parity.{memory, onesOf, dpOf, laneBit, dpAt, withDp, put, stored, wrongAt, wrongIn}
 use Rattle.bus.specs.Bus.{sizeLimit, sizeOf, wantedAfter, cyclesOf, burst, lastAnswer, through}
 use Rattle.bus.specs.Record.{lanesOf, flagsOf, readRecord, writeRecord, wordsOf}

@@ -9,7 +9,7 @@ use borrow.Author.Tests.{eq-eqb, ne-eqb}
 use Rattle.laws.proofs.Tests.{cond-true, cond-false}
 use Rattle.directory.specs.declared.steps.Directory.{Directory}
 use Rattle.directory.specs.Steps.{afterSnoop}
-use Rattle.memory.specs.Bytes.{bytesAt, valueOf}
+use Rattle.words.specs.Bytes.{bytesAt, valueOf}
 use Rattle.memory.specs.Parity.{Memory, stored}
 use Rattle.access_steps.specs.declared.cursor.AccessCursor.{AccessCursor}
 use Rattle.bus.specs.Groups.{groupCount}

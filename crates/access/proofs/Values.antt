@@ -7,10 +7,10 @@ use native.Mathlib.Omega.{arith}
 use lib.ListN.{length, getD, drop, replicate, length-append}
 use lib.Seq.{sets}
 use Rattle.laws.proofs.Tests.{by-test}
-use Rattle.directory.specs.declared.ways.Found.{Found}
-use Rattle.directory.specs.declared.ways.Found.the-variants.{At, Nothing}
-use Rattle.memory.specs.Bytes.{valueOf}
-use Rattle.memory.proofs.Places.{bytes-length}
+use Rattle.ways.specs.declared.ways.Found.{Found}
+use Rattle.ways.specs.declared.ways.Found.the-variants.{At, Nothing}
+use Rattle.words.specs.Bytes.{valueOf}
+use Rattle.words.proofs.Places.{bytes-length}
 use Rattle.memory.specs.Parity.{Memory}
 use Rattle.bus.specs.Bus.{ken}
 use Rattle.bus.specs.Groups.{groupSize}

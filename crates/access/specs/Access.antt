@@ -5,9 +5,9 @@ use mathlib.Core.List.{List, [], _∷_, _++_}
 use lib.Dec.{eqb}
 use lib.ListN.{length}
 use Rattle.directory.specs.declared.steps.Directory.{Directory}
-use Rattle.directory.specs.Address.{setOf}
+use Rattle.ways.specs.Address.{setOf}
 use Rattle.directory.specs.Steps.{lookupOf, victimOf}
-use Rattle.memory.specs.Bytes.{valueOf, bytesOf}
+use Rattle.words.specs.Bytes.{valueOf, bytesOf}
 use Rattle.memory.specs.Parity.{Memory}
 use Rattle.bus.specs.Record.{Record, logged}
 use Rattle.bus.specs.Groups.{groupCount}

@@ -9,9 +9,9 @@ use access_steps::read_step;
 use directory::Directory;
 use doubleword::Change;
 use doubleword::changed_by;
-use memory::word_of;
 use refusal::input_number;
 use refusal::states_number;
+use words::word_of;
 
 pub fn read(
     mut given: Directory,

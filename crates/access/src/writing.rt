@@ -9,11 +9,11 @@ use access_steps::write_step;
 use directory::Directory;
 use doubleword::Change;
 use doubleword::changed_by;
-use memory::bytes_of;
 use refusal::input_number;
 use refusal::or_else;
 use refusal::states_number;
 use refusal::value_number;
+use words::bytes_of;
 
 pub fn write(
     mut given: Directory,

@@ -1,8 +1,8 @@
 // One doubleword of a read.
 ghost use Prim.Native.Nat.{_<_};
 ghost use lib.ListN.{length};
-ghost use Rattle.directory.specs.Address.{setOf};
-ghost use Rattle.directory.specs.Ways.{lookupIn, victimIn};
+ghost use Rattle.ways.specs.Address.{setOf};
+ghost use Rattle.ways.specs.Ways.{lookupIn, victimIn};
 ghost use Rattle.memory.specs.Parity.{memory};
 ghost use Rattle.doubleword.specs.Doubleword.{readDone};
 ghost use Rattle.access_steps.specs.AccessLoop.{AccessNeeds, lineAddress, nextDoubleword, ReadStep};

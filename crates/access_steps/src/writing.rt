@@ -1,7 +1,7 @@
 // One doubleword of a write.
 ghost use Prim.Native.Nat.{_<_};
 ghost use lib.ListN.{length};
-ghost use Rattle.directory.specs.Ways.{lookupIn};
+ghost use Rattle.ways.specs.Ways.{lookupIn};
 ghost use Rattle.memory.specs.Parity.{memory};
 ghost use Rattle.doubleword.specs.Doubleword.{writeDone};
 ghost use Rattle.access_steps.specs.AccessLoop.{AccessNeeds, lineAddress, nextDoubleword, WriteStep};

@@ -6,8 +6,8 @@ use native.Mathlib.Omega.{arith}
 use native.Mathlib.Nat.{zero-add, add-zero, suc-add}
 use lib.ListN.{length, getD, set, length-set}
 use lib.Seq.{sets, getD-set-same}
-use Rattle.memory.specs.Bytes.{bytesAt, bytesOf}
-use Rattle.memory.proofs.Places.{sets-below}
+use Rattle.words.specs.Bytes.{bytesAt, bytesOf}
+use Rattle.words.proofs.Places.{sets-below}
 
 pub bytes-split : (l : List ℕ) (i m n : ℕ) → bytesAt l i (m + n) ≡ bytesAt l i m ++ bytesAt l (i + m) n
 unfolding bytesAt

@@ -10,16 +10,16 @@ use lib.ListN.{length, getD}
 use lib.Seq.{sets, length-sets}
 use Rattle.laws.proofs.Tests.{same-or}
 use Rattle.directory.specs.declared.steps.Directory.{Directory}
-use Rattle.directory.specs.Address.{setOf, tagOf, lineIndex}
+use Rattle.ways.specs.Address.{setOf, tagOf, lineIndex}
 use Rattle.directory.specs.Steps.{afterFill}
 use Rattle.directory.specs.WellFormed.{Held, Same, WellFormed}
 use Rattle.directory.proofs.Laws.{fill-held}
-use Rattle.memory.specs.Bytes.{bytesAt}
+use Rattle.words.specs.Bytes.{bytesAt}
 use Rattle.memory.specs.Parity.{Agrees}
 use Rattle.doubleword.specs.Doubleword.{dataOffset}
 use Rattle.access.specs.Access.{State}
 use Rattle.refusal.proofs.Accepted.{GoodMemory}
-use Rattle.memory.proofs.Places.{sets-below, sets-above, sets-in}
+use Rattle.words.proofs.Places.{sets-below, sets-above, sets-in}
 use Rattle.agreement.proofs.Bytes.{bytes-same}
 
 -- the address of a line, by its set and tag

@@ -6,7 +6,7 @@ use mathlib.Core.List.{List, [], _∷_}
 use native.Mathlib.Omega.{arith}
 use lib.ListN.{drop, replicate, length-replicate}
 use Rattle.laws.proofs.Below.{four}
-use Rattle.memory.proofs.Places.{zeros-at}
+use Rattle.words.proofs.Places.{zeros-at}
 use Rattle.memory.specs.Parity.{memory, Agrees, dpAt, laneBit, dpOf, onesOf}
 use Rattle.access.specs.Access.{State}
 use Rattle.board.specs.Board.{boardAnswers}

@@ -13,13 +13,13 @@ use borrow.Author.Tests.{eqb-true, eqb-false, leb-true, ltb-true}
 use Rattle.laws.proofs.Below.{four}
 use Rattle.laws.proofs.Tests.{both, by-test, same-or}
 use Rattle.laws.proofs.Lists.{sets-append}
-use Rattle.memory.specs.Bytes.{bytesAt}
+use Rattle.words.specs.Bytes.{bytesAt}
 use Rattle.memory.specs.Parity.{Memory, stored, Agrees}
 use Rattle.bus.proofs.Flags.{words-length}
 use Rattle.bus.specs.Bus.{Run, run, sizeOf, wantedAfter, Cycle, cyclesOf, burst, through, bufferAfter, memoryAfter}
 use Rattle.bus.specs.Record.{Record, lanesOf, flagsOf, readRecord, writeRecord, writing, wordsOf, logged}
 use Rattle.bus.proofs.Sizing.{size-some, size-most}
-use Rattle.memory.proofs.Places.{bytes-at, bytes-length, sets-above, sets-below, sets-in}
+use Rattle.words.proofs.Places.{bytes-at, bytes-length, sets-above, sets-below, sets-in}
 use Rattle.agreement.proofs.Bytes.{bytes-split, bytes-same, bytes-sets}
 use Rattle.agreement.proofs.Memories.{stored-append, never-wrong}
 

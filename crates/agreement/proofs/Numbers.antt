@@ -9,7 +9,7 @@ use lib.Dec.{eqb, ltb}
 use lib.ListN.{length}
 use borrow.Author.Tests.{eq-eqb, le-ltb}
 use Rattle.laws.proofs.Tests.{same-or}
-use Rattle.directory.specs.Address.{setOf}
+use Rattle.ways.specs.Address.{setOf}
 use Rattle.directory.specs.Steps.{stateOf, controlRefused}
 use Rattle.directory.proofs.Laws.{good-state-zero}
 use Rattle.access.specs.Access.{State, readNumber, writeNumber}

@@ -6,10 +6,10 @@ use native.Mathlib.Omega.{arith}
 use lib.ListN.{length, drop, length-take, length-drop}
 use lib.Seq.{sets}
 use Rattle.laws.proofs.Lists.{sets-append}
-use Rattle.memory.specs.Bytes.{bytesAt}
+use Rattle.words.specs.Bytes.{bytesAt}
 use Rattle.bus.specs.Groups.{groupSize}
 use Rattle.doubleword.specs.Doubleword.{Doubleword, doublewordsOf}
-use Rattle.memory.proofs.Places.{bytes-length}
+use Rattle.words.proofs.Places.{bytes-length}
 use Rattle.agreement.proofs.Bytes.{bytes-split}
 use Rattle.agreement.proofs.Cycles.{OneDoubleword}
 

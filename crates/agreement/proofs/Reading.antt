@@ -9,20 +9,20 @@ use lib.Seq.{sets, length-sets}
 use borrow.Author.Tests.{not-true}
 use Rattle.laws.proofs.Tests.{both, differ, by-test}
 use Rattle.directory.specs.declared.steps.Directory.{Directory}
-use Rattle.directory.specs.declared.ways.Found.{Found}
-use Rattle.directory.specs.declared.ways.Found.the-variants.{At, Nothing}
-use Rattle.directory.specs.Address.{setOf, tagOf}
+use Rattle.ways.specs.declared.ways.Found.{Found}
+use Rattle.ways.specs.declared.ways.Found.the-variants.{At, Nothing}
+use Rattle.ways.specs.Address.{setOf, tagOf}
 use Rattle.directory.specs.Steps.{lookupOf, victimOf, afterUse, afterFill}
 use Rattle.directory.specs.WellFormed.{WellFormed}
-use Rattle.directory.proofs.FourWays.{victim-below}
+use Rattle.ways.proofs.FourWays.{victim-below}
 use Rattle.directory.proofs.Laws.{lookup-at, use-held, use-control, use-well-formed, fill-control, fill-address-well-formed}
-use Rattle.memory.specs.Bytes.{bytesAt}
+use Rattle.words.specs.Bytes.{bytesAt}
 use Rattle.bus.specs.Bus.{ken, burst, lastAnswer}
 use Rattle.bus.specs.Record.{plainRead, filling}
 use Rattle.doubleword.specs.declared.change.Change.the-variants.{Unchanged, Fill}
 use Rattle.doubleword.specs.Doubleword.{Doubleword, Done, changed, dataOffset, plainCycles, fillCycles, bufferOf, readHit, readPlain, readFill, readDone}
 use Rattle.access.specs.Access.{State, state, Progress, readOne, next, allOf}
-use Rattle.memory.proofs.Places.{bytes-at, bytes-length}
+use Rattle.words.proofs.Places.{bytes-at, bytes-length}
 use Rattle.agreement.proofs.Bytes.{bytes-same}
 use Rattle.agreement.proofs.Cycles.{Sound, sound-append, sound-reads, cycles-within, burst-each, fill-buffer, plain-bytes}
 use Rattle.agreement.proofs.Coherence.{Lines, NwInvariant, Coherent, fewer-lines, held-bytes, filled-lines}

@@ -6,7 +6,7 @@ use native.Mathlib.Omega.{arith}
 use lib.ListN.{length}
 use lib.Seq.{sets}
 use Rattle.laws.proofs.Tests.{by-test}
-use Rattle.directory.specs.Address.{setOf, tagOf}
+use Rattle.ways.specs.Address.{setOf, tagOf}
 use Rattle.directory.specs.Steps.{afterSnoop}
 use Rattle.directory.specs.WellFormed.{Held}
 use Rattle.directory.proofs.Laws.{snoop-held, snoop-control, snoop-none, snoop-well-formed}

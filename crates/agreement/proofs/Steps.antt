@@ -8,13 +8,13 @@ use lib.ListN.{length}
 use borrow.Author.Tests.{eq-eqb, ne-eqb}
 use Rattle.laws.proofs.Tests.{differ, cond-true, cond-false, by-test, same-or}
 use Rattle.directory.specs.declared.steps.Directory.{Directory}
-use Rattle.directory.specs.declared.ways.Found.{Found}
-use Rattle.directory.specs.declared.ways.Found.the-variants.{At, Nothing}
-use Rattle.directory.specs.Address.{setOf, tagOf}
+use Rattle.ways.specs.declared.ways.Found.{Found}
+use Rattle.ways.specs.declared.ways.Found.the-variants.{At, Nothing}
+use Rattle.ways.specs.Address.{setOf, tagOf}
 use Rattle.directory.specs.Steps.{lookupOf, afterReset, afterFlush, afterControl, afterSnoop, controlRefused}
 use Rattle.directory.specs.WellFormed.{WellFormed}
 use Rattle.directory.proofs.Laws.{lookup-at, reset-none, reset-control, reset-well-formed, flush-none, flush-control, flush-well-formed, control-held, control-set, control-well-formed, control-accepted, control-refused, snoop-well-formed, snoop-accepted}
-use Rattle.memory.specs.Bytes.{bytesAt, valueOf}
+use Rattle.words.specs.Bytes.{bytesAt, valueOf}
 use Rattle.bus.specs.Groups.{groupCount}
 use Rattle.doubleword.specs.Doubleword.{dataOffset, doublewordsOf}
 use Rattle.access.specs.Access.{State, after, outcome, refused, accepted, operandOf, readNumber, writeNumber, readAll, writeAll, readCall, writeCall}

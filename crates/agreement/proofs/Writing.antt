@@ -8,9 +8,9 @@ use lib.ListN.{length}
 use lib.Seq.{sets, length-sets}
 use Rattle.laws.proofs.Tests.{both, by-test}
 use Rattle.directory.specs.declared.steps.Directory.{Directory}
-use Rattle.directory.specs.declared.ways.Found.{Found}
-use Rattle.directory.specs.declared.ways.Found.the-variants.{At, Nothing}
-use Rattle.directory.specs.Address.{setOf}
+use Rattle.ways.specs.declared.ways.Found.{Found}
+use Rattle.ways.specs.declared.ways.Found.the-variants.{At, Nothing}
+use Rattle.ways.specs.Address.{setOf}
 use Rattle.directory.specs.Steps.{lookupOf, afterUse}
 use Rattle.directory.specs.WellFormed.{WellFormed}
 use Rattle.directory.proofs.Laws.{lookup-at, lookup-nothing, use-kept, use-well-formed}
@@ -20,7 +20,7 @@ use Rattle.bus.specs.Record.{writeRecord}
 use Rattle.doubleword.specs.declared.change.Change.the-variants.{Unchanged, Use}
 use Rattle.doubleword.specs.Doubleword.{Doubleword, Done, changed, dataOffset, plainCycles, writeBuffer, writeThrough, hitArray, writeDone}
 use Rattle.access.specs.Access.{State, state, Progress, writeOne, next, allOf}
-use Rattle.memory.proofs.Places.{bytes-length}
+use Rattle.words.proofs.Places.{bytes-length}
 use Rattle.agreement.proofs.Memories.{stored-ram, stored-parity, stored-agrees}
 use Rattle.agreement.proofs.Cycles.{Sound, sound-append, sound-writes, cycles-within, plain-stored}
 use Rattle.agreement.proofs.Coherence.{Lines, NwInvariant, Coherent, line-set, line-tag, stored-miss, stored-hit}

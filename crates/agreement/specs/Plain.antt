@@ -6,7 +6,7 @@ use lib.Dec.{eqb}
 use lib.ListN.{length}
 use lib.Seq.{sets}
 use Rattle.directory.specs.Steps.{controlRefused}
-use Rattle.memory.specs.Bytes.{bytesAt, valueOf, bytesOf}
+use Rattle.words.specs.Bytes.{bytesAt, valueOf, bytesOf}
 use Rattle.refusal.specs.Refusal.{when, orElse, argumentNumber, valueNumber, externalNumber, viewAddressNumber}
 use Rattle.agreement.specs.Calls.{Call, read, write, external, snoop, flush, control, view, reset}
 

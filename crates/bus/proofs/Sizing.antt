@@ -11,7 +11,7 @@ use Rattle.laws.proofs.Below.{four}
 use Rattle.laws.proofs.Tests.{by-test, same-or, cond-true, cond-false}
 use Rattle.bus.specs.declared.cycle.CycleCursor.{CycleCursor}
 use Rattle.bus.specs.Bus.{bs8, bs16, Run, run, sizeLimit, sizeOf, wantedAfter, none, burst}
-use Rattle.bus.specs.CycleLoop.{burstAt, later, wantedAt, cycleNext, CycleNeeds}
+use Rattle.bus.specs.Cursor.{burstAt, later, wantedAt, cycleNext, CycleNeeds}
 
 limit-some : (x from : ℕ) → 0 < sizeLimit x from
 unfolding sizeLimit

@@ -3,7 +3,7 @@ use Prim.Native.Nat.{ℕ, zero, suc, _+_, _*_, _/_, _%_, _^_}
 use mathlib.Core.Bool.{Bool, false, cond}
 use mathlib.Core.List.{List, [], _∷_}
 use lib.Seq.{sets}
-use Rattle.memory.specs.Bytes.{bytesAt, wordIn}
+use Rattle.words.specs.Bytes.{bytesAt, wordIn}
 use Rattle.memory.specs.Parity.{Memory, wrongIn}
 use Rattle.bus.specs.Bus.{Cycle}
 

@@ -1,8 +1,8 @@
-// The bus: sizing of cycles, burst order, records, and the loops that make the cycles of a doubleword. It knows nothing of
-// the directory.
+// The bus: sizing of cycles, burst order, what is left between two cycles, and records. It knows nothing of the directory.
 mod cycle;
 mod record;
 
 pub use cycle::CycleCursor;
-pub use cycle::read_cycles;
-pub use cycle::write_cycles;
+pub use cycle::size_of;
+pub use record::flags_of;
+pub use record::put_record;

@@ -8,15 +8,15 @@ use lib.Dec.{eqb}
 use lib.ListN.{length-set, getD-replicate}
 use borrow.Author.Tests.{eqb-true, eq-eqb, ne-eqb}
 use Rattle.directory.specs.declared.steps.Directory.{Directory}
-use Rattle.directory.specs.declared.ways.Found.{Found}
-use Rattle.directory.specs.declared.ways.Found.the-variants.{At, Nothing}
-use Rattle.directory.specs.Address.{setOf, tagOf, lineIndex}
-use Rattle.directory.specs.Lru.{lruAfter}
-use Rattle.directory.specs.Ways.{holds, lookupIn}
+use Rattle.ways.specs.declared.ways.Found.{Found}
+use Rattle.ways.specs.declared.ways.Found.the-variants.{At, Nothing}
+use Rattle.ways.specs.Address.{setOf, tagOf, lineIndex}
+use Rattle.ways.specs.Lru.{lruAfter}
+use Rattle.ways.specs.Ways.{holds, lookupIn}
 use Rattle.directory.specs.Steps.{validAt, tagAt, lruAt, lookupOf, stateOf, afterUse, afterFill, afterReset, afterControl, controlRefused, controlCall, afterFlush, invalidated, afterSnoop, snoopCall}
 use Rattle.directory.specs.WellFormed.{Held, Same, GoodSet, Sized, WellFormed}
 use Rattle.laws.proofs.Tests.{both, refuted, differ, cond-true, cond-false, by-test}
-use Rattle.directory.proofs.FourWays.{lowest-at, lowest-nothing, none-lowest, one-lowest}
+use Rattle.ways.proofs.FourWays.{lowest-at, lowest-nothing, none-lowest, one-lowest}
 use Rattle.directory.proofs.Lines.{same-line, stored-line, stored-other, use-lru-here, use-lru-apart, use-lru-below, fewer-well-formed}
 use Rattle.directory.proofs.SetState.{state-good, good-state}
 

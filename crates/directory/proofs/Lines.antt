@@ -6,12 +6,12 @@ use native.Mathlib.Omega.{arith}
 use lib.ListN.{length, getD, set}
 use lib.Seq.{getD-set-same, getD-set-other}
 use Rattle.directory.specs.declared.steps.Directory.{Directory}
-use Rattle.directory.specs.Address.{lineIndex}
-use Rattle.directory.specs.Lru.{lruAfter}
+use Rattle.ways.specs.Address.{lineIndex}
+use Rattle.ways.specs.Lru.{lruAfter}
 use Rattle.directory.specs.Steps.{lruAt, afterUse}
 use Rattle.directory.specs.WellFormed.{Held, Same, Sized, WellFormed}
 use Rattle.laws.proofs.Tests.{same-or}
-use Rattle.directory.proofs.FourWays.{lru-after-below}
+use Rattle.ways.proofs.FourWays.{lru-after-below}
 
 -- a line is named by one set and one way
 module _ (s w r v : ℕ) (wl : w < 4) (vl : v < 4) where

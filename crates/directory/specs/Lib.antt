@@ -1,7 +1,3 @@
 -- The directory by document 01, in its order: what a reader must believe of this crate.
-pub mod Address
-pub mod Lru
-pub mod Ways
 pub mod Steps
-pub mod State
 pub mod WellFormed

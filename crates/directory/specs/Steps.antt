@@ -6,12 +6,12 @@ use lib.Dec.{eqb}
 use lib.ListN.{getD, set, replicate}
 use Rattle.directory.specs.declared.steps.Directory.{Directory}
 use Rattle.directory.specs.declared.steps.DirectoryResult.{DirectoryResult}
-use Rattle.directory.specs.declared.ways.Found.{Found}
-use Rattle.directory.specs.declared.ways.Found.the-variants.{At, Nothing}
-use Rattle.directory.specs.Address.{setOf, lineIndex}
-use Rattle.directory.specs.Lru.{lruAfter}
-use Rattle.directory.specs.Ways.{validIn, tagIn, lookupIn, victimIn}
-use Rattle.directory.specs.State.{stateIn}
+use Rattle.ways.specs.declared.ways.Found.{Found}
+use Rattle.ways.specs.declared.ways.Found.the-variants.{At, Nothing}
+use Rattle.ways.specs.Address.{setOf, lineIndex}
+use Rattle.ways.specs.Lru.{lruAfter}
+use Rattle.ways.specs.Ways.{validIn, tagIn, lookupIn, victimIn}
+use Rattle.ways.specs.State.{stateIn}
 
 -- "The directory holds 512 tags, 512 valid marks and 128 LRU numbers, with CD and NW.": a directory of these.
 abbrev pub directoryOf : List ℕ → List Bool → List ℕ → Bool → Bool → Directory

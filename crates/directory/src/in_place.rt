@@ -5,11 +5,11 @@ ghost use mathlib.Core.Bool.{Bool};
 ghost use mathlib.Core.List.{List};
 ghost use Prim.Native.Nat.{ℕ, _<_};
 ghost use Rattle.directory.specs.Steps.{afterFill, afterFlush, afterSnoop, afterUse, directoryOf, directoryResult, snoopCall};
-use crate::address::set_of;
-use crate::lru::lru_after;
-use crate::state::state_number;
-use crate::ways::Found;
-use crate::ways::lookup;
+use ways::Found;
+use ways::lookup;
+use ways::lru_after;
+use ways::set_of;
+use ways::state_number;
 
 // A use of a way.
 pub fn use_in_place(lru: &mut [u8; 128], set: usize, way: usize)

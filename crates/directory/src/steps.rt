@@ -2,11 +2,11 @@
 ghost use mathlib.Core.Path.{_≡_};
 ghost use Prim.Native.Nat.{_<_};
 ghost use Rattle.directory.specs.Steps.{afterControl, afterFill, afterFlush, afterReset, afterSnoop, afterUse, controlCall, snoopCall};
-use crate::address::set_of;
-use crate::lru::lru_after;
-use crate::state::state_number;
-use crate::ways::Found;
-use crate::ways::lookup;
+use ways::Found;
+use ways::lookup;
+use ways::lru_after;
+use ways::set_of;
+use ways::state_number;
 
 // The line of a set and a way is element set * 4 + way of tags and valid. The layout is C's: a host holds one.
 #[repr(C)]

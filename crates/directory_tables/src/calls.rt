@@ -8,7 +8,7 @@ use crate::print::flag;
 use crate::print::label;
 use crate::print::number;
 use directory::Directory;
-use directory::Found;
+use ways::Found;
 
 pub fn control_rows() {
     control_row(false, false);
@@ -58,7 +58,7 @@ fn two_lines(cd: bool, nw: bool) -> Directory {
 }
 
 fn is_held(d: Directory, address: u32) -> bool {
-    match directory::lookup(&d.tags, &d.valid, address) {
+    match ways::lookup(&d.tags, &d.valid, address) {
         Found::At(_) => true,
         Found::Nothing => false,
     }

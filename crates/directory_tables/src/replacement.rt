@@ -25,7 +25,7 @@ fn lru_row(lru: u8) {
     print_lru_after(d, 1);
     print_lru_after(d, 2);
     print_lru_after(d, 3);
-    number(directory::victim(&d.valid, &d.lru, SET) as u64);
+    number(ways::victim(&d.valid, &d.lru, SET) as u64);
     end_row();
 }
 
@@ -57,10 +57,10 @@ fn fills_row(lru: u8) {
 
 // Prints the way that the fill takes.
 fn fill(d: Directory, address: u32) -> Directory {
-    let set = directory::set_of(address);
-    let way = directory::victim(&d.valid, &d.lru, set);
+    let set = ways::set_of(address);
+    let way = ways::victim(&d.valid, &d.lru, set);
     number(way as u64);
-    d.filled(set, way, directory::tag_of(address))
+    d.filled(set, way, ways::tag_of(address))
 }
 
 // Every pair of an LRU number and a mask of valid marks.
@@ -80,6 +80,6 @@ fn victim_row(lru: u8, mask: u8) {
     d = with_mark(d, SET, 1, mask / 2 % 2 == 1);
     d = with_mark(d, SET, 2, mask / 4 % 2 == 1);
     d = with_mark(d, SET, 3, mask / 8 % 2 == 1);
-    number(directory::victim(&d.valid, &d.lru, SET) as u64);
+    number(ways::victim(&d.valid, &d.lru, SET) as u64);
     end_row();
 }

@@ -42,7 +42,7 @@ fn state_label(name: &[u8]) {
 }
 
 fn end_with_state(d: Directory) {
-    let refusal = directory::state_number(&d.tags, &d.valid, &d.lru, SET);
+    let refusal = ways::state_number(&d.tags, &d.valid, &d.lru, SET);
     number(refusal as u64);
     end_row();
 }

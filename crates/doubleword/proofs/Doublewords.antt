@@ -8,17 +8,18 @@ use lib.Dec.{eqb}
 use lib.ListN.{length, getD, replicate, length-map}
 use lib.Seq.{sets, length-sets}
 use Rattle.laws.proofs.Tests.{by-test}
-use Rattle.directory.specs.declared.ways.Found.{Found}
-use Rattle.directory.specs.declared.ways.Found.the-variants.{At, Nothing}
-use Rattle.directory.specs.Address.{setOf}
-use Rattle.directory.specs.Ways.{lookupIn, victimIn}
-use Rattle.directory.proofs.FourWays.{lookup-below, victim-below}
+use Rattle.ways.specs.declared.ways.Found.{Found}
+use Rattle.ways.specs.declared.ways.Found.the-variants.{At, Nothing}
+use Rattle.ways.specs.Address.{setOf}
+use Rattle.ways.specs.Ways.{lookupIn, victimIn}
+use Rattle.ways.proofs.FourWays.{lookup-below, victim-below}
 use Rattle.bus.specs.declared.cycle.CycleCursor.{CycleCursor}
-use Rattle.memory.specs.Bytes.{bytesAt}
+use Rattle.words.specs.Bytes.{bytesAt}
 use Rattle.memory.specs.Parity.{Memory}
 use Rattle.bus.specs.Bus.{ken, Cycle, cyclesOf, lastAnswer, through, bufferAfter}
 use Rattle.bus.specs.Record.{readRecord, writeRecord, wordsOf, plainRead, filling}
-use Rattle.bus.specs.CycleLoop.{cycleBegin, later, wantedAt, CycleNeeds, BufferNeeds, ReadCycles, WriteCycles}
+use Rattle.bus.specs.Cursor.{cycleBegin, later, wantedAt, CycleNeeds}
+use Rattle.cycles.specs.CycleLoop.{BufferNeeds, ReadCycles, WriteCycles}
 use Rattle.bus.proofs.Sizing.{wanted-some, burst-later}
 use Rattle.doubleword.specs.declared.change.Change.{Change}
 use Rattle.doubleword.specs.declared.change.Change.the-variants.{Unchanged, Use, Fill}

@@ -5,11 +5,11 @@ use mathlib.Core.List.{List, [], _∷_, map}
 use lib.ListN.{getD, take, drop, replicate}
 use lib.Seq.{sets}
 use Rattle.directory.specs.declared.steps.Directory.{Directory}
-use Rattle.directory.specs.declared.ways.Found.{Found}
-use Rattle.directory.specs.declared.ways.Found.the-variants.{At, Nothing}
-use Rattle.directory.specs.Address.{byteOf, setOf, tagOf, lineIndex}
+use Rattle.ways.specs.declared.ways.Found.{Found}
+use Rattle.ways.specs.declared.ways.Found.the-variants.{At, Nothing}
+use Rattle.ways.specs.Address.{byteOf, setOf, tagOf, lineIndex}
 use Rattle.directory.specs.Steps.{afterUse, afterFill}
-use Rattle.memory.specs.Bytes.{bytesAt}
+use Rattle.words.specs.Bytes.{bytesAt}
 use Rattle.memory.specs.Parity.{Memory}
 use Rattle.bus.specs.Groups.{groupSize}
 use Rattle.bus.specs.Bus.{ken, Run, run, Cycle, cyclesOf, burst, lastAnswer, through, bufferAfter, memoryAfter}

@@ -5,7 +5,7 @@ use mathlib.Core.Bool.{Bool, cond}
 use mathlib.Core.List.{List, map}
 use lib.ListN.{length}
 use lib.Seq.{sets}
-use Rattle.memory.specs.Bytes.{bytesAt}
+use Rattle.words.specs.Bytes.{bytesAt}
 use Rattle.memory.specs.Parity.{Memory}
 use Rattle.bus.specs.declared.cycle.CycleCursor.{CycleCursor}
 use Rattle.bus.specs.Groups.{groupSize}

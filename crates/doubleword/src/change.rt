@@ -33,7 +33,7 @@ pub fn data_offset(line: u32, way: usize) -> usize
     requires { ⌜ way < 4 ⌝ }
     ensures { λ r. ⌜ (r ≡ dataOffset line way) × (r + 16 ≤ 8192) ⌝ }
 {
-    (directory::set_of(line) * 4 + way) * 16
+    (ways::set_of(line) * 4 + way) * 16
 }
 
 // The directory after its change: the one step of a doubleword. It copies the directory, so the calls spare it for `Unchanged`.
@@ -43,10 +43,8 @@ pub fn changed_by(directory: Directory, line: u32, change: Change) -> Directory
 {
     match change {
         Change::Unchanged => directory,
-        Change::Use(way) => directory.used(directory::set_of(line), way),
-        Change::Fill(way) => {
-            directory.filled(directory::set_of(line), way, directory::tag_of(line))
-        }
+        Change::Use(way) => directory.used(ways::set_of(line), way),
+        Change::Fill(way) => { directory.filled(ways::set_of(line), way, ways::tag_of(line)) }
     }
 }
 
@@ -64,15 +62,15 @@ pub fn change_in_place(
 {
     match change {
         Change::Unchanged => {}
-        Change::Use(way) => directory::use_in_place(lru, directory::set_of(line), way),
+        Change::Use(way) => directory::use_in_place(lru, ways::set_of(line), way),
         Change::Fill(way) => {
             directory::fill_in_place(
                 tags,
                 valid,
                 lru,
-                directory::set_of(line),
+                ways::set_of(line),
                 way,
-                directory::tag_of(line),
+                ways::tag_of(line),
             )
         }
     }

@@ -2,8 +2,8 @@
 ghost use mathlib.Core.Path.{_≡_};
 ghost use Prim.Native.Nat.{_+_, _≤_};
 ghost use lib.ListN.{length};
-ghost use Rattle.directory.specs.Address.{setOf};
-ghost use Rattle.directory.specs.Ways.{lookupIn, victimIn};
+ghost use Rattle.ways.specs.Address.{setOf};
+ghost use Rattle.ways.specs.Ways.{lookupIn, victimIn};
 ghost use Rattle.memory.specs.Parity.{memory};
 ghost use Rattle.doubleword.specs.Doubleword.{readDone};
 ghost use Rattle.doubleword.specs.DoublewordCode.{DoublewordNeeds, doublewordOf, keptArray, keptChange, ReadMiss, Reads};
@@ -12,9 +12,9 @@ use crate::change::DoublewordResult;
 use crate::change::Wanted;
 use crate::change::data_offset;
 use bus::CycleCursor;
-use bus::read_cycles;
-use directory::Found;
-use memory::copy_bytes;
+use cycles::read_cycles;
+use ways::Found;
+use words::copy_bytes;
 
 // The cycles of a doubleword that missed: a fill of its line, or its own bytes.
 fn read_missed(
@@ -76,7 +76,7 @@ fn keep_line<'a>(
         × (now («data» .exit) ≡ keptArray kept (victimIn (now (valid .entry)) (now (lru .entry)) (setOf line)) line (now (buffer .entry)) (now («data» .entry))) ⌝ }
 {
     if kept {
-        let way = directory::victim(valid, lru, directory::set_of(line));
+        let way = ways::victim(valid, lru, ways::set_of(line));
         copy_bytes(buffer, 0, data, data_offset(line, way), 16);
         return Change::Fill(way);
     }
@@ -103,7 +103,7 @@ pub fn read_doubleword<'a>(
         «may_fill» (memory (now (ram .entry)) (now (parity .entry))) (now («data» .entry)) (doublewordOf w (now (answers .entry))))
         (w .place) first (now (log .entry)) (now (operand .entry)) r (now («data» .exit)) (now (log .exit)) (now (operand .exit)) ⌝ }
 {
-    if let Found::At(way) = directory::lookup(tags, valid, w.line) {
+    if let Found::At(way) = ways::lookup(tags, valid, w.line) {
         copy_bytes(
             data,
             data_offset(w.line, way) + w.from,

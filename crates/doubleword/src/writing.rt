@@ -2,7 +2,7 @@
 ghost use mathlib.Core.Path.{_≡_};
 ghost use Prim.Native.Nat.{_+_, _≤_};
 ghost use lib.ListN.{length};
-ghost use Rattle.directory.specs.Ways.{lookupIn};
+ghost use Rattle.ways.specs.Ways.{lookupIn};
 ghost use Rattle.memory.specs.Parity.{memory};
 ghost use Rattle.doubleword.specs.Doubleword.{writeDone};
 ghost use Rattle.doubleword.specs.DoublewordCode.{DoublewordNeeds, doublewordOf, PlainWrite, Writes};
@@ -11,9 +11,9 @@ use crate::change::DoublewordResult;
 use crate::change::Wanted;
 use crate::change::data_offset;
 use bus::CycleCursor;
-use bus::write_cycles;
-use directory::Found;
-use memory::copy_bytes;
+use cycles::write_cycles;
+use ways::Found;
+use words::copy_bytes;
 
 // The write cycles of a doubleword, from the operand through a line buffer.
 fn write_through(
@@ -63,7 +63,7 @@ pub fn write_doubleword<'a>(
         (memory (now (ram .entry)) (now (parity .entry))) (now («data» .entry)) (now (operand .entry)) (doublewordOf w (now (answers .entry))))
         first (now (log .entry)) r (memory (now (ram .exit)) (now (parity .exit))) (now («data» .exit)) (now (log .exit)) ⌝ }
 {
-    if let Found::At(way) = directory::lookup(tags, valid, w.line) {
+    if let Found::At(way) = ways::lookup(tags, valid, w.line) {
         copy_bytes(
             operand,
             w.place,

@@ -6,7 +6,7 @@ use mathlib.Core.List.{List}
 use native.Mathlib.Omega.{arith}
 use lib.ListN.{length}
 use lib.Seq.{sets}
-use Rattle.memory.specs.Bytes.{bytesAt}
+use Rattle.words.specs.Bytes.{bytesAt}
 use Rattle.access.proofs.Calls.{bytes-all}
 use Rattle.views.specs.View.{viewIn}
 use Rattle.views.proofs.Viewing.{view-most}

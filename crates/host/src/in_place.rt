@@ -13,15 +13,15 @@ use access_steps::read_step;
 use access_steps::write_step;
 use directory::invalidate_in_place;
 use doubleword::change_in_place;
-use memory::bytes_of;
 use memory::store_bytes;
-use memory::word_of;
 use refusal::external_number;
 use refusal::input_number;
 use refusal::memory_number;
 use refusal::or_else;
 use refusal::states_number;
 use refusal::value_number;
+use words::bytes_of;
+use words::word_of;
 
 // What a call answers, apart from the directory: 0 where it was done or the number that turned it away, a read's value, the
 // count of cycles.

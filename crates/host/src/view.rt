@@ -35,6 +35,6 @@ pub extern "C" fn unit486_view<'a>(
         × (now (shown .exit) ≡ sets (now (shown .entry)) 0 (viewIn (now (tags .entry)) (now (valid .entry)) (now (lru .entry)) (now (ram .entry)) (now («data» .entry)) address)) ⌝ }
 {
     let part = views::view(tags, valid, lru, ram, data, address);
-    memory::copy_bytes(part, 0, shown, 0, part.len());
+    words::copy_bytes(part, 0, shown, 0, part.len());
     views::view_number(tags, valid, lru, ram, data, address)
 }

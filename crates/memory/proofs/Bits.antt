@@ -11,9 +11,9 @@ use lib.ListN.{length, getD, set, length-set}
 use lib.Seq.{sets, set-set, getD-set-same}
 use borrow.Author.Tests.{eqb-true, eq-eqb, ne-eqb}
 use Rattle.laws.proofs.Tests.{both, same-or}
-use Rattle.memory.specs.Bytes.{bytesAt}
+use Rattle.words.specs.Bytes.{bytesAt}
 use Rattle.memory.specs.Parity.{Memory, memory, onesOf, dpOf, laneBit, dpAt, withDp, put, stored, wrongAt, wrongIn}
-use Rattle.memory.proofs.Moves.{bytes-next}
+use Rattle.words.proofs.Moves.{bytes-next}
 
 -- the language's count of ones is the specification's
 pub ones-is : (k n : ℕ) → n < 2 ^ k → ones n ≡ onesOf k n

@@ -1,5 +1,2 @@
 -- Laws that several proofs cite.
-pub mod Places
-pub mod Moves
-pub mod Words
 pub mod Bits

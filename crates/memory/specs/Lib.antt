@@ -1,3 +1,2 @@
--- Bytes, and memory with its parity by document 01: what a reader must believe of this crate.
-pub mod Bytes
+-- RAM with its parity by document 01: what a reader must believe of this crate.
 pub mod Parity

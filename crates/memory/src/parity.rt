@@ -2,9 +2,9 @@
 ghost use mathlib.Core.Path.{_≡_};
 ghost use Prim.Native.Nat.{_+_, _*_, _%_, _≤_, _<_};
 ghost use lib.ListN.{length};
-ghost use Rattle.memory.specs.Bytes.{bytesAt};
+ghost use Rattle.words.specs.Bytes.{bytesAt};
 ghost use Rattle.memory.specs.Parity.{dpOf, laneBit, memory, put, stored, withDp, wrongAt, wrongIn};
-use crate::bytes::copy_bytes;
+use words::copy_bytes;
 
 // The DP bit of a byte.
 fn dp_bit(b: u8) -> u8

@@ -5,8 +5,8 @@ use mathlib.Core.List.{List, [], _∷_}
 use lib.Dec.{eqb, ltb}
 use lib.ListN.{length}
 use Rattle.directory.specs.declared.steps.Directory.{Directory}
-use Rattle.directory.specs.Address.{setOf}
-use Rattle.directory.specs.State.{stateIn}
+use Rattle.ways.specs.Address.{setOf}
+use Rattle.ways.specs.State.{stateIn}
 use Rattle.bus.specs.Groups.{groupSize, groupCount}
 
 -- A number where a test holds; and "Lowest number first": the first of two that is met.

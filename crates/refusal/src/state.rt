@@ -1,7 +1,7 @@
 // The numbers that turn a call away because of the state.
 ghost use mathlib.Core.Path.{_≡_};
 ghost use Prim.Native.Nat.{_+_, _-_, _<_};
-ghost use Rattle.directory.specs.Address.{setOf};
+ghost use Rattle.ways.specs.Address.{setOf};
 ghost use Rattle.refusal.specs.Refusal.{statesIn};
 
 // The set of the last of so many bytes.
@@ -23,11 +23,11 @@ pub fn states_number<'a>(
 ) -> u32
     ensures { λ r. ⌜ r ≡ statesIn (now (tags .entry)) (now (valid .entry)) (now (lru .entry)) address count ⌝ }
 {
-    let first = directory::set_of(address);
+    let first = ways::set_of(address);
     let last = last_set(address, count);
-    let number = directory::state_number(tags, valid, lru, first);
+    let number = ways::state_number(tags, valid, lru, first);
     if (number != 0) | (first == last) {
         return number;
     }
-    directory::state_number(tags, valid, lru, last)
+    ways::state_number(tags, valid, lru, last)
 }

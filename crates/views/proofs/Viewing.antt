@@ -9,15 +9,15 @@ use lib.ListN.{length, getD, take, drop}
 use lib.Seq.{drop-cons}
 use borrow.Author.Tests.{eq-eqb, ne-eqb}
 use Rattle.laws.proofs.Tests.{cond-true, cond-false, by-test}
-use Rattle.directory.specs.declared.ways.Found.{Found}
-use Rattle.directory.specs.declared.ways.Found.the-variants.{At, Nothing}
-use Rattle.directory.specs.Address.{setOf}
-use Rattle.directory.specs.State.{stateIn}
-use Rattle.directory.specs.Ways.{lookupIn}
-use Rattle.memory.specs.Bytes.{bytesAt}
+use Rattle.ways.specs.declared.ways.Found.{Found}
+use Rattle.ways.specs.declared.ways.Found.the-variants.{At, Nothing}
+use Rattle.ways.specs.Address.{setOf}
+use Rattle.ways.specs.State.{stateIn}
+use Rattle.ways.specs.Ways.{lookupIn}
+use Rattle.words.specs.Bytes.{bytesAt}
 use Rattle.doubleword.specs.Doubleword.{dataOffset}
 use Rattle.refusal.specs.Refusal.{viewInputNumber}
-use Rattle.memory.proofs.Places.{bytes-length}
+use Rattle.words.proofs.Places.{bytes-length}
 use Rattle.refusal.proofs.Accepted.{or-zero, GoodView, view-accepted}
 use Rattle.views.specs.View.{viewNumberIn, shown, viewIn, shownAt, viewAt}
 

@@ -4,12 +4,12 @@ use mathlib.Core.Bool.{Bool, cond}
 use mathlib.Core.List.{List, []}
 use lib.Dec.{eqb}
 use lib.ListN.{length}
-use Rattle.directory.specs.declared.ways.Found.{Found}
-use Rattle.directory.specs.declared.ways.Found.the-variants.{At, Nothing}
-use Rattle.directory.specs.Address.{setOf}
-use Rattle.directory.specs.Ways.{lookupIn}
-use Rattle.directory.specs.State.{stateIn}
-use Rattle.memory.specs.Bytes.{bytesAt}
+use Rattle.ways.specs.declared.ways.Found.{Found}
+use Rattle.ways.specs.declared.ways.Found.the-variants.{At, Nothing}
+use Rattle.ways.specs.Address.{setOf}
+use Rattle.ways.specs.Ways.{lookupIn}
+use Rattle.ways.specs.State.{stateIn}
+use Rattle.words.specs.Bytes.{bytesAt}
 use Rattle.doubleword.specs.Doubleword.{dataOffset}
 use Rattle.refusal.specs.Refusal.{orElse, viewInputNumber}
 

@@ -4,14 +4,14 @@ ghost use mathlib.Core.Path.{_≡_};
 ghost use Prim.Native.Nat.{_+_, _≤_};
 ghost use denote.Ref.{ptr};
 ghost use lib.ListN.{length};
-ghost use Rattle.memory.specs.Bytes.{bytesAt};
+ghost use Rattle.words.specs.Bytes.{bytesAt};
 ghost use Rattle.views.specs.View.{viewAt, viewIn, viewNumberIn};
-use directory::Found;
-use directory::lookup;
-use directory::set_of;
-use directory::state_number;
 use doubleword::data_offset;
 use refusal::view_input_number;
+use ways::Found;
+use ways::lookup;
+use ways::set_of;
+use ways::state_number;
 
 // The companion question: 0 where the view is accepted, else the number that turns it away.
 pub fn view_number<'a>(

@@ -5,7 +5,7 @@ use Rattle.access_steps.specs.AccessLoop.{accessBegin, restOf, AccessNeeds}
 use Rattle.access.specs.Access.{state, allOf, writeOne}
 use lib.ListN.{length}
 use Rattle.memory.specs.Parity.{memory}
-use Rattle.memory.specs.Bytes.{bytesOf}
+use Rattle.words.specs.Bytes.{bytesOf}
 use borrow.Author.Needs.{needs}
 use mathlib.Core.Logic.{⊎-elim}
 use mathlib.Core.Path.{_≡_, refl, _∙_}

@@ -4,8 +4,8 @@ use Prim.Native.Nat.{ℕ}
 use Rattle.doubleword.specs.DoublewordCode.{doublewordOf}
 use Rattle.doubleword.specs.Doubleword.{readDone}
 use Rattle.doubleword.specs.declared.change.Wanted.{Wanted}
-use Rattle.directory.specs.Address.{setOf}
-use Rattle.directory.specs.Ways.{lookupIn, victimIn}
+use Rattle.ways.specs.Address.{setOf}
+use Rattle.ways.specs.Ways.{lookupIn, victimIn}
 use Rattle.memory.specs.Parity.{memory}
 use mathlib.Core.List.{List}
 use Prim.Native.Nat.{_+_, _*_}

@@ -4,7 +4,7 @@ use Prim.Native.Nat.{ℕ}
 use Rattle.doubleword.specs.DoublewordCode.{doublewordOf}
 use Rattle.doubleword.specs.Doubleword.{writeDone}
 use Rattle.doubleword.specs.declared.change.Wanted.{Wanted}
-use Rattle.directory.specs.Ways.{lookupIn}
+use Rattle.ways.specs.Ways.{lookupIn}
 use Rattle.memory.specs.Parity.{memory}
 use mathlib.Core.List.{List}
 use Prim.Native.Nat.{_+_, _*_}

@@ -2,10 +2,10 @@ use denote.Ref.{now}
 use Prim.Native.Nat.{_<_}
 use mathlib.Core.Path.{_≡_, sym, _∙_}
 use native.Mathlib.Omega.{arith}
-use Rattle.directory.specs.declared.ways.Found.the-variants.{At}
-use Rattle.directory.specs.Address.{lineIndex}
-use Rattle.directory.specs.Ways.{lookupIn}
-use Rattle.directory.proofs.FourWays.{lookup-below}
+use Rattle.ways.specs.declared.ways.Found.the-variants.{At}
+use Rattle.ways.specs.Address.{lineIndex}
+use Rattle.ways.specs.Ways.{lookupIn}
+use Rattle.ways.proofs.FourWays.{lookup-below}
 use Rattle.directory.proofs.Lent.{invalidate-off, invalidate-nothing, invalidate-at}
 use borrow.Author.Needs.{needs}
 use Rattle.directory.proofs.in_place.invalidate_in_place.Statement.{statement}

@@ -1,4 +1,4 @@
-use Rattle.directory.proofs.FourWays.{victim-below}
+use Rattle.ways.proofs.FourWays.{victim-below}
 use borrow.Author.Needs.{needs}
 use Rattle.directory_tables.proofs.replacement.fill.Statement.{statement}
 use Rattle.directory_tables.proofs.replacement.fill.Tie as tie

@@ -1,5 +1,5 @@
 use mathlib.Core.Path.{_∙_}
-use Rattle.directory.proofs.FourWays.{victim-below}
+use Rattle.ways.proofs.FourWays.{victim-below}
 use borrow.Author.Needs.{needs}
 use Rattle.doubleword.proofs.reading.keep_line.Statement.{statement}
 use Rattle.doubleword.proofs.reading.keep_line.Tie as tie

@@ -1,8 +1,8 @@
 use denote.Ref.{now}
 use mathlib.Core.Path.{_≡_, sym, _∙_}
-use Rattle.directory.specs.declared.ways.Found.the-variants.{At, Nothing}
-use Rattle.directory.specs.Ways.{lookupIn}
-use Rattle.directory.proofs.FourWays.{lookup-below}
+use Rattle.ways.specs.declared.ways.Found.the-variants.{At, Nothing}
+use Rattle.ways.specs.Ways.{lookupIn}
+use Rattle.ways.proofs.FourWays.{lookup-below}
 use Rattle.doubleword.proofs.Doublewords.{hit-reads, miss-reads, missed-done, missed-length}
 use borrow.Author.Needs.{needs}
 use Rattle.doubleword.proofs.reading.read_doubleword.Statement.{statement}

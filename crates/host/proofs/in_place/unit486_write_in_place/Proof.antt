@@ -4,7 +4,7 @@ use mathlib.Core.Path.{_≡_, refl, _∙_}
 use lib.ListN.{length}
 use borrow.Author.Needs.{needs}
 use Rattle.directory.specs.Steps.{directoryOf}
-use Rattle.memory.specs.Bytes.{bytesOf}
+use Rattle.words.specs.Bytes.{bytesOf}
 use Rattle.memory.specs.Parity.{memory}
 use Rattle.access.specs.Access.{state, allOf, writeOne}
 use Rattle.access_steps.specs.AccessLoop.{accessBegin, restOf, AccessNeeds}

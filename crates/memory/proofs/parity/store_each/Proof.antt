@@ -4,7 +4,7 @@ use Prim.Native.Nat.{_+_, _-_, _≤_}
 use mathlib.Core.Path.{_≡_, refl, _∙_, ap}
 use lib.ListN.{length}
 use borrow.Author.Needs.{needs}
-use Rattle.memory.specs.Bytes.{bytesAt}
+use Rattle.words.specs.Bytes.{bytesAt}
 use Rattle.memory.specs.Parity.{Memory, memory, stored}
 use Rattle.memory.proofs.Bits.{store-next, put-lengths}
 use Rattle.memory.proofs.parity.store_each.Statement.{statement}

@@ -1,5 +1,5 @@
 use denote.Ref.{now}
-use Rattle.directory.specs.State.{stateIn}
+use Rattle.ways.specs.State.{stateIn}
 use Rattle.refusal.specs.Refusal.{statesIn}
 use Rattle.refusal.proofs.Accepted.{states-first, states-last}
 use borrow.Author.Needs.{needs}

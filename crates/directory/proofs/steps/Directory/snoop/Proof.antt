@@ -1,6 +1,6 @@
 use borrow.Author.Tests.{eq-eqb, ne-eqb}
 use mathlib.Core.Path.{_≡_}
-use Rattle.directory.specs.Address.{setOf}
+use Rattle.ways.specs.Address.{setOf}
 use Rattle.directory.specs.Steps.{snoopCall, stateOf}
 use borrow.Author.Needs.{needs}
 use Rattle.directory.proofs.steps.Directory.snoop.Statement.{statement}

@@ -1,10 +1,10 @@
 use native.Mathlib.Omega.{arith}
 use Prim.Native.Nat.{_<_}
 use mathlib.Core.Path.{_≡_, sym, _∙_}
-use Rattle.directory.specs.declared.ways.Found.the-variants.{At, Nothing}
-use Rattle.directory.specs.Address.{lineIndex}
+use Rattle.ways.specs.declared.ways.Found.the-variants.{At, Nothing}
+use Rattle.ways.specs.Address.{lineIndex}
 use Rattle.directory.specs.Steps.{lookupOf, invalidated}
-use Rattle.directory.proofs.FourWays.{lookup-below}
+use Rattle.ways.proofs.FourWays.{lookup-below}
 use Rattle.directory.proofs.Laws.{snoop-off, snoop-on}
 use borrow.Author.Needs.{needs}
 use Rattle.directory.proofs.steps.Directory.snooped.Statement.{statement}

@@ -1,0 +1,93 @@
+// Questions about the four ways of a set, on lent arrays, so that asking copies nothing.
+ghost use mathlib.Core.Path.{_≡_};
+ghost use mathlib.Core.Bool.{not};
+ghost use Prim.Native.Nat.{_<_};
+ghost use Rattle.ways.specs.Ways.{holds, lookupIn, lowest, validIn, victimIn, wayOr};
+use crate::address::set_of;
+use crate::address::tag_of;
+use crate::lru::lru_way;
+
+// A way of a set that a test singles out.
+pub enum Found {
+    At(usize),
+    Nothing,
+}
+
+// The lowest way whose test holds.
+fn lowest_way(test0: bool, test1: bool, test2: bool, test3: bool) -> Found
+    ensures { λ r. ⌜ r ≡ lowest test0 test1 test2 test3 ⌝ }
+{
+    if test0 {
+        return Found::At(0);
+    }
+    if test1 {
+        return Found::At(1);
+    }
+    if test2 {
+        return Found::At(2);
+    }
+    if test3 {
+        return Found::At(3);
+    }
+    Found::Nothing
+}
+
+fn way_or(found: Found, other: usize) -> usize
+    ensures { λ r. ⌜ r ≡ wayOr found other ⌝ }
+{
+    match found {
+        Found::At(way) => way,
+        Found::Nothing => other,
+    }
+}
+
+// Whether a way of a set holds a tag.
+fn holds_tag<'a>(
+    tags: &'a [u32; 512],
+    valid: &'a [bool; 512],
+    set: usize,
+    way: usize,
+    tag: u32,
+) -> bool
+    requires { ⌜ (set < 128) × (way < 4) ⌝ }
+    ensures { λ r. ⌜ r ≡ holds (now (tags .entry)) (now (valid .entry)) set way tag ⌝ }
+{
+    let line = set * 4 + way;
+    valid[line] & (tags[line] == tag)
+}
+
+// The way that holds the line of an address.
+pub fn lookup<'a>(tags: &'a [u32; 512], valid: &'a [bool; 512], address: u32) -> Found
+    ensures { λ r. ⌜ r ≡ lookupIn (now (tags .entry)) (now (valid .entry)) address ⌝ }
+{
+    let set = set_of(address);
+    let tag = tag_of(address);
+    lowest_way(
+        holds_tag(tags, valid, set, 0, tag),
+        holds_tag(tags, valid, set, 1, tag),
+        holds_tag(tags, valid, set, 2, tag),
+        holds_tag(tags, valid, set, 3, tag),
+    )
+}
+
+fn is_invalid(valid: &[bool; 512], set: usize, way: usize) -> bool
+    requires { ⌜ (set < 128) × (way < 4) ⌝ }
+    ensures { λ r. ⌜ r ≡ not (validIn (now (valid .entry)) set way) ⌝ }
+{
+    let line = set * 4 + way;
+    !valid[line]
+}
+
+// The way of a set that a kept fill replaces.
+pub fn victim<'a>(valid: &'a [bool; 512], lru: &'a [u8; 128], set: usize) -> usize
+    requires { ⌜ set < 128 ⌝ }
+    ensures { λ r. ⌜ r ≡ victimIn (now (valid .entry)) (now (lru .entry)) set ⌝ }
+{
+    let invalid = lowest_way(
+        is_invalid(valid, set, 0),
+        is_invalid(valid, set, 1),
+        is_invalid(valid, set, 2),
+        is_invalid(valid, set, 3),
+    );
+    way_or(invalid, lru_way(lru[set]))
+}

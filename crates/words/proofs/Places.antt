@@ -1,0 +1,68 @@
+-- Bytes read from a list, and put into one from a place on, byte by byte.
+use Prim.Native.Nat.{ℕ, zero, suc, _+_, _-_, _≤_, _<_}
+use mathlib.Core.Path.{_≡_, refl, sym, _∙_, ap}
+use mathlib.Core.List.{List, [], _∷_}
+use native.Mathlib.Omega.{arith}
+use native.Mathlib.Nat.{add-zero}
+use lib.ListN.{length, getD, set, replicate, length-set}
+use lib.Seq.{sets, length-sets, getD-set-same, getD-set-other}
+use Rattle.words.specs.Bytes.{bytesAt}
+
+-- as many bytes as are read
+pub bytes-length : (l : List ℕ) (i n : ℕ) → length (bytesAt l i n) ≡ n
+unfolding bytesAt
+bytes-length l i zero = refl
+bytes-length l i (suc n) = ap suc (bytes-length l (suc i) n)
+
+-- a byte of those read
+pub bytes-at : (l : List ℕ) (i n o : ℕ) → o < n → getD (bytesAt l i n) o 0 ≡ getD l (i + o) 0
+unfolding bytesAt
+bytes-at l i zero o h = absurd (omega arith)
+bytes-at l i (suc n) zero h = rw (add-zero i)
+bytes-at l i (suc n) (suc o) h = let e : i + suc o ≡ suc i + o = omega arith in rw e (bytes-at l (suc i) n o (omega arith))
+
+-- below and above what is put in, nothing changes
+pub sets-below : (l : List ℕ) (i : ℕ) (x : List ℕ) (k : ℕ) → k < i → getD (sets l i x) k 0 ≡ getD l k 0
+sets-below l i [] k h = refl
+sets-below l i (b ∷ x) k h = sets-below (set l i b) (suc i) x k (omega arith) ∙ getD-set-other l i k b 0 (λ e. omega arith)
+
+pub sets-above : (l : List ℕ) (i : ℕ) (x : List ℕ) (k : ℕ) → i + length x ≤ k → getD (sets l i x) k 0 ≡ getD l k 0
+sets-above l i [] k h = refl
+sets-above l i (b ∷ x) k h = sets-above (set l i b) (suc i) x k (omega arith) ∙ getD-set-other l i k b 0 (λ e. omega arith)
+
+-- what is put in is there
+pub sets-in : (l : List ℕ) (i : ℕ) (x : List ℕ) (o : ℕ) → o < length x → i + o < length l → getD (sets l i x) (i + o) 0 ≡ getD x o 0
+sets-in l i [] o h b = absurd (omega arith)
+sets-in l i (v ∷ x) zero h b =
+    rw (add-zero i) (sets-below (set l i v) (suc i) x i (omega arith) ∙ getD-set-same l i v 0 (omega arith))
+sets-in l i (v ∷ x) (suc o) h b =
+    let e : i + suc o ≡ suc i + o = omega arith in
+    rw e (sets-in (set l i v) (suc i) x o (omega arith) (rw length-set (omega arith)))
+
+-- a list of zeros has 0 everywhere
+pub zeros-at : (n i : ℕ) → _≡_ {A = ℕ} (getD (replicate n 0) i 0) 0
+zeros-at zero i = refl
+zeros-at (suc n) zero = refl
+zeros-at (suc n) (suc i) = zeros-at n i
+
+-- the lanes of a doubleword that has some bytes from a lane on
+module _ (src : List ℕ) (at lane count : ℕ) where
+  abbrev lanes : List ℕ
+  lanes = sets (replicate 4 0) lane (bytesAt src at count)
+
+  pub lane-below : (of : ℕ) → of < lane → 0 ≡ getD lanes of 0
+  lane-below of h = sym (sets-below (replicate 4 0) lane (bytesAt src at count) of h ∙ zeros-at 4 of)
+
+  pub lane-above : (of : ℕ) → lane + count ≤ of → 0 ≡ getD lanes of 0
+  lane-above of h =
+      let n = bytes-length src at count in
+      sym (sets-above (replicate 4 0) lane (bytesAt src at count) of (rw n h) ∙ zeros-at 4 of)
+
+  pub lane-in : (of : ℕ) → lane ≤ of → of < lane + count → lane + count ≤ 4 → getD src (at + (of - lane)) 0 ≡ getD lanes of 0
+  lane-in of l h f =
+      let n = bytes-length src at count in
+      let e : lane + (of - lane) ≡ of = omega arith in
+      sym (rw e at (sets-in (replicate 4 0) lane (bytesAt src at count) (of - lane) (rw n (omega arith)) (omega arith) ∙ bytes-at src at count (of - lane) (omega arith)))
+
+  pub lanes-length : length lanes ≡ 4
+  lanes-length = length-sets (replicate 4 0) lane (bytesAt src at count)
