@@ -14,7 +14,7 @@ use Rattle.memory.specs.Parity.{Memory, stored}
 use Rattle.access_steps.specs.declared.cursor.AccessCursor.{AccessCursor}
 use Rattle.bus.specs.Groups.{groupCount}
 use Rattle.doubleword.specs.Doubleword.{Doubleword, Done, doublewordsOf}
-use Rattle.refusal.specs.Refusal.{orElse, memoryNumber, externalNumber, statesOf, lentNumber, argumentNumber, valueNumber}
+use Rattle.refusal.specs.Refusal.{orElse, memoryNumber, externalNumber, statesNumberOf, lentNumber, argumentNumber, valueNumber}
 use Rattle.access.specs.Access.{State, state, Progress, allOf, readOne, writeOne, after, outcome, refused, accepted, readNumber, writeNumber, readAll, writeAll, operandOf, readCall, writeCall}
 use Rattle.access.specs.Masters.{written, externalWriteNumber, externalCall}
 use Rattle.access_steps.specs.AccessLoop.{accessBegin, restOf, AccessNeeds}
@@ -33,11 +33,29 @@ unfolding bytesAt
 bytes-all [] = refl
 bytes-all (x ∷ l) = ap (λ (r : List ℕ). x ∷ r) (bytes-shift x l 0 (length l) ∙ bytes-all l)
 
+-- a read and a write by their numbers
+module _ (s : State) (address width : ℕ) where
+  pub read-refused : (pcd : Bool) (answers log : List ℕ) → (readNumber s address width answers log ≡ 0 → ⊥) → readCall s address width pcd answers log ≡ refused (readNumber s address width answers log) s log
+  unfolding readCall
+  read-refused pcd answers log h = cond-false _ _ _ (ne-eqb _ 0 h)
+
+  pub read-done : (pcd : Bool) (answers log : List ℕ) → readNumber s address width answers log ≡ 0 → readCall s address width pcd answers log ≡ accepted (valueOf (readAll s address width pcd answers .bytes)) (readAll s address width pcd answers) log
+  unfolding readCall
+  read-done pcd answers log z = cond-true _ _ _ (eq-eqb _ 0 z)
+
+  pub write-refused : (value : ℕ) (answers log : List ℕ) → (writeNumber s address width value answers log ≡ 0 → ⊥) → writeCall s address width value answers log ≡ refused (writeNumber s address width value answers log) s log
+  unfolding writeCall
+  write-refused value answers log h = cond-false _ _ _ (ne-eqb _ 0 h)
+
+  pub write-done : (value : ℕ) (answers log : List ℕ) → writeNumber s address width value answers log ≡ 0 → writeCall s address width value answers log ≡ accepted 0 (writeAll s address width value answers) log
+  unfolding writeCall
+  write-done value answers log z = cond-true _ _ _ (eq-eqb _ 0 z)
+
 -- an external write
 module _ (d : Directory) (m : Memory) (address : ℕ) (bytes : List ℕ) where
-  pub master-grouped : externalWriteNumber d m address bytes ≡ orElse (orElse (memoryNumber (length (m .ram)) (length (m .parity))) (externalNumber (length (m .ram)) address (length bytes))) (statesOf d address (length bytes))
+  pub external-write-grouped : externalWriteNumber d m address bytes ≡ orElse (orElse (memoryNumber (length (m .ram)) (length (m .parity))) (externalNumber (length (m .ram)) address (length bytes))) (statesNumberOf d address (length bytes))
   unfolding externalWriteNumber
-  master-grouped = sym (or-grouped (memoryNumber (length (m .ram)) (length (m .parity))) (externalNumber (length (m .ram)) address (length bytes)) (statesOf d address (length bytes)))
+  external-write-grouped = sym (or-grouped (memoryNumber (length (m .ram)) (length (m .parity))) (externalNumber (length (m .ram)) address (length bytes)) (statesNumberOf d address (length bytes)))
 
   pub external-refused : (n : ℕ) → externalWriteNumber d m address bytes ≡ n → (n ≡ 0 → ⊥) → externalCall d m address bytes ≡ written (outcome d n 0 0) m
   unfolding externalCall
@@ -49,8 +67,8 @@ module _ (d : Directory) (m : Memory) (address : ℕ) (bytes : List ℕ) where
 
   -- the same by the numbers that the code has: the input's, then the state's
   module _ (lent own : ℕ) (el : lent ≡ memoryNumber (length (m .ram)) (length (m .parity))) (eo : own ≡ externalNumber (length (m .ram)) address (length bytes)) (n : ℕ) (en : n ≡ orElse lent own) where
-    input-number : externalWriteNumber d m address bytes ≡ orElse n (statesOf d address (length bytes))
-    input-number = master-grouped ∙ rw (en, el, eo)
+    input-number : externalWriteNumber d m address bytes ≡ orElse n (statesNumberOf d address (length bytes))
+    input-number = external-write-grouped ∙ rw (en, el, eo)
 
     pub input-refused : (n ≡ 0 → ⊥) → written (outcome d n 0 0) m ≡ externalCall d m address bytes
     input-refused h = sym (external-refused n (input-number ∙ first-or n _ h) h)
@@ -60,7 +78,7 @@ module _ (d : Directory) (m : Memory) (address : ℕ) (bytes : List ℕ) where
         let p = or-zero lent own (sym en ∙ z) in
         (memory-accepted _ _ (sym el ∙ p .0), external-accepted _ _ _ (sym eo ∙ p .1))
 
-    module _ (z : n ≡ 0) (bad : ℕ) (eb : bad ≡ statesOf d address (length bytes)) where
+    module _ (z : n ≡ 0) (bad : ℕ) (eb : bad ≡ statesNumberOf d address (length bytes)) where
       whole-number : externalWriteNumber d m address bytes ≡ bad
       whole-number = input-number ∙ zero-or n _ z ∙ sym eb
 
@@ -117,27 +135,26 @@ module _ (d : Directory) (m : Memory) (array : List ℕ) (address width : ℕ) (
       }
 
   module _ (pcd : Bool) where
-    read-number : readNumber s address width answers log ≡ orElse n (statesOf d address width)
+    read-number : readNumber s address width answers log ≡ orElse n (statesNumberOf d address width)
     unfolding readNumber
-    read-number = numbered (statesOf d address width)
+    read-number = numbered (statesNumberOf d address width)
 
-    read-refused : (k : ℕ) → readNumber s address width answers log ≡ k → (k ≡ 0 → ⊥) → refused k s log ≡ readCall s address width pcd answers log
-    unfolding readCall
-    read-refused k e h = sym (rw e (cond-false _ _ _ (ne-eqb k 0 h)))
+    read-turned : (k : ℕ) → readNumber s address width answers log ≡ k → (k ≡ 0 → ⊥) → refused k s log ≡ readCall s address width pcd answers log
+    read-turned k e h = sym (rw e at (read-refused s address width pcd answers log (λ z. h (sym e ∙ z))))
 
     pub read-input-refused : (n ≡ 0 → ⊥) → refused n s log ≡ readCall s address width pcd answers log
-    read-input-refused h = read-refused n (read-number ∙ first-or n _ h) h
+    read-input-refused h = read-turned n (read-number ∙ first-or n _ h) h
 
-    module _ (z : n ≡ 0) (bad : ℕ) (eb : bad ≡ statesOf d address width) where
+    module _ (z : n ≡ 0) (bad : ℕ) (eb : bad ≡ statesNumberOf d address width) where
       pub read-state-refused : (bad ≡ 0 → ⊥) → refused bad s log ≡ readCall s address width pcd answers log
-      read-state-refused h = read-refused bad (read-number ∙ zero-or n _ z ∙ sym eb) h
+      read-state-refused h = read-turned bad (read-number ∙ zero-or n _ z ∙ sym eb) h
 
-      pub read-done : bad ≡ 0 → (cursor : AccessCursor) (d′ : Directory) (array′ log′ operand : List ℕ) (value : ℕ) → cursor .left ≡ 0 →
+      pub read-made : bad ≡ 0 → (cursor : AccessCursor) (d′ : Directory) (array′ log′ operand : List ℕ) (value : ℕ) → cursor .left ≡ 0 →
           ReadInvariant pcd answers (allOf (readOne pcd) s (restOf (accessBegin address width) answers)) log (replicate 4 0) cursor (state d′ m array′) log′ operand →
           value ≡ valueOf operand →
           after (outcome d′ 0 value (cursor .cycles)) m array′ log′ ≡ readCall s address width pcd answers log
       unfolding readCall readAll restOf
-      read-done b cursor d′ array′ log′ operand value e g ev =
+      read-made b cursor d′ array′ log′ operand value e g ev =
           let p = allOf (readOne pcd) s (doublewordsOf groupCount answers address width 0) in
           let l = all-length pcd groupCount answers address width 0 s in
           let four = needs-begin z .operands in
@@ -146,28 +163,27 @@ module _ (d : Directory) (m : Memory) (array : List ℕ) (address width : ℕ) (
           ∙ sym (cond-true _ _ _ (eq-eqb _ 0 (read-number ∙ zero-or n _ z ∙ sym eb ∙ b)))
 
   module _ (value : ℕ) where
-    write-number : writeNumber s address width value answers log ≡ orElse n (orElse (valueNumber width value) (statesOf d address width))
+    write-number : writeNumber s address width value answers log ≡ orElse n (orElse (valueNumber width value) (statesNumberOf d address width))
     unfolding writeNumber
-    write-number = numbered (orElse (valueNumber width value) (statesOf d address width))
+    write-number = numbered (orElse (valueNumber width value) (statesNumberOf d address width))
 
-    write-refused : (k : ℕ) → writeNumber s address width value answers log ≡ k → (k ≡ 0 → ⊥) → refused k s log ≡ writeCall s address width value answers log
-    unfolding writeCall
-    write-refused k e h = sym (rw e (cond-false _ _ _ (ne-eqb k 0 h)))
+    write-turned : (k : ℕ) → writeNumber s address width value answers log ≡ k → (k ≡ 0 → ⊥) → refused k s log ≡ writeCall s address width value answers log
+    write-turned k e h = sym (rw e at (write-refused s address width value answers log (λ z. h (sym e ∙ z))))
 
     pub write-input-refused : (n ≡ 0 → ⊥) → refused n s log ≡ writeCall s address width value answers log
-    write-input-refused h = write-refused n (write-number ∙ first-or n _ h) h
+    write-input-refused h = write-turned n (write-number ∙ first-or n _ h) h
 
-    module _ (z : n ≡ 0) (bad large states : ℕ) (el : large ≡ valueNumber width value) (es : states ≡ statesOf d address width) (eb : bad ≡ orElse large states) where
-      later : bad ≡ orElse (valueNumber width value) (statesOf d address width)
+    module _ (z : n ≡ 0) (bad large states : ℕ) (el : large ≡ valueNumber width value) (es : states ≡ statesNumberOf d address width) (eb : bad ≡ orElse large states) where
+      later : bad ≡ orElse (valueNumber width value) (statesNumberOf d address width)
       later = eb ∙ rw (el, es)
 
       pub write-later-refused : (bad ≡ 0 → ⊥) → refused bad s log ≡ writeCall s address width value answers log
-      write-later-refused h = write-refused bad (write-number ∙ zero-or n _ z ∙ sym later) h
+      write-later-refused h = write-turned bad (write-number ∙ zero-or n _ z ∙ sym later) h
 
-      pub write-done : bad ≡ 0 → (cursor : AccessCursor) (d′ : Directory) (m′ : Memory) (array′ log′ : List ℕ) → cursor .left ≡ 0 →
+      pub write-made : bad ≡ 0 → (cursor : AccessCursor) (d′ : Directory) (m′ : Memory) (array′ log′ : List ℕ) → cursor .left ≡ 0 →
           AccessInvariant (writeOne (operandOf value)) answers (allOf (writeOne (operandOf value)) s (restOf (accessBegin address width) answers)) log cursor (state d′ m′ array′) log′ →
           after (outcome d′ 0 0 (cursor .cycles)) m′ array′ log′ ≡ writeCall s address width value answers log
       unfolding writeCall writeAll restOf
-      write-done b cursor d′ m′ array′ log′ e g =
+      write-made b cursor d′ m′ array′ log′ e g =
           whole (writeOne (operandOf value)) answers (allOf (writeOne (operandOf value)) s (doublewordsOf groupCount answers address width 0)) cursor d′ m′ array′ log′ log 0 0 e g refl
           ∙ sym (cond-true _ _ _ (eq-eqb _ 0 (write-number ∙ zero-or n _ z ∙ sym later ∙ b)))

@@ -33,12 +33,12 @@ pub one-length : (pcd : Bool) (s : State) (w : Doubleword) → length (readOne p
 unfolding readOne
 one-length pcd s w = read-length _ _ _ _ _ w
 
--- and leaves memory as it was
+-- a doubleword of a read leaves memory as it was
 pub one-memory : (pcd : Bool) (s : State) (w : Doubleword) → readOne pcd s w .memory ≡ s .memory
 unfolding readOne
 one-memory pcd s w = read-memory _ _ _ _ _ w
 
--- and all of them no more than the access wants
+-- all doublewords of a read give no more bytes than the access wants
 pub all-length : (pcd : Bool) (g : ℕ) (xs : List ℕ) (address n place : ℕ) (s : State) →
     length (allOf (readOne pcd) s (doublewordsOf g xs address n place) .bytes) ≤ n
 unfolding doublewordsOf allOf

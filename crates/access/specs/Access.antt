@@ -12,7 +12,7 @@ use Rattle.memory.specs.Parity.{Memory}
 use Rattle.bus.specs.Record.{Record, logged}
 use Rattle.bus.specs.Groups.{groupCount}
 use Rattle.doubleword.specs.Doubleword.{Doubleword, doublewordsOf, changed, Done, readDone, writeDone}
-use Rattle.refusal.specs.Refusal.{orElse, lentNumber, argumentNumber, valueNumber, statesOf}
+use Rattle.refusal.specs.Refusal.{orElse, lentNumber, argumentNumber, valueNumber, statesNumberOf}
 use Rattle.access.specs.declared.outcome.Outcome.{Outcome}
 
 -- What a call is lent and changes: directory, RAM with its parity, data array (`array`).
@@ -89,14 +89,14 @@ unfoldable pub readNumber : State → ℕ → ℕ → List ℕ → List ℕ → 
 readNumber s address width answers log =
     orElse (lentNumber (length (s .memory .ram)) (length (s .memory .parity)) (length (s .array)))
     (orElse (argumentNumber (length (s .memory .ram)) address width answers (length log))
-    (statesOf (s .directory) address width))
+    (statesNumberOf (s .directory) address width))
 
 -- The number of a write, which has 8 as well.
 unfoldable pub writeNumber : State → ℕ → ℕ → ℕ → List ℕ → List ℕ → ℕ
 writeNumber s address width value answers log =
     orElse (lentNumber (length (s .memory .ram)) (length (s .memory .parity)) (length (s .array)))
     (orElse (argumentNumber (length (s .memory .ram)) address width answers (length log))
-    (orElse (valueNumber width value) (statesOf (s .directory) address width)))
+    (orElse (valueNumber width value) (statesNumberOf (s .directory) address width)))
 
 -- All doublewords of an accepted read.
 unfoldable pub readAll : State → ℕ → ℕ → Bool → List ℕ → Progress

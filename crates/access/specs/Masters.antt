@@ -8,7 +8,7 @@ use Rattle.directory.specs.declared.steps.Directory.{Directory}
 use Rattle.directory.specs.declared.steps.DirectoryResult.{DirectoryResult}
 use Rattle.directory.specs.Steps.{afterSnoop, afterReset, afterFlush, snoopCall, controlCall}
 use Rattle.memory.specs.Parity.{Memory, stored}
-use Rattle.refusal.specs.Refusal.{orElse, memoryNumber, externalNumber, statesOf}
+use Rattle.refusal.specs.Refusal.{orElse, memoryNumber, externalNumber, statesNumberOf}
 use Rattle.access.specs.declared.outcome.Outcome.{Outcome}
 use Rattle.access.specs.Access.{outcome}
 
@@ -24,7 +24,7 @@ written o m = record { outcome = o; memory = m }
 unfoldable pub externalWriteNumber : Directory → Memory → ℕ → List ℕ → ℕ
 externalWriteNumber d m address bytes =
     orElse (memoryNumber (length (m .ram)) (length (m .parity)))
-    (orElse (externalNumber (length (m .ram)) address (length bytes)) (statesOf d address (length bytes)))
+    (orElse (externalNumber (length (m .ram)) address (length bytes)) (statesNumberOf d address (length bytes)))
 
 -- "An external write puts 1 to 16 bytes of one line into RAM, sets their parity, then snoops. It leaves no record."
 unfoldable pub externalCall : Directory → Memory → ℕ → List ℕ → Written
@@ -36,7 +36,7 @@ externalCall d m address bytes =
 
 -- The calls on the directory alone: value 0, count 0.
 abbrev pub directoryOutcome : DirectoryResult → Outcome
-directoryOutcome a = outcome (a .directory) (a .number) 0 0
+directoryOutcome r = outcome (r .directory) (r .number) 0 0
 
 abbrev pub snoopOutcome : Directory → ℕ → Outcome
 snoopOutcome d address = directoryOutcome (snoopCall d address)

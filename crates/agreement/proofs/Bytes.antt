@@ -36,7 +36,7 @@ bytes-cons : (l : List ℕ) (i n : ℕ) → bytesAt l i (suc n) ≡ getD l i 0 �
 unfolding bytesAt
 bytes-cons l i n = refl
 
--- and is read back
+-- bytes that were put in are read back
 pub bytes-sets : (l : List ℕ) (i : ℕ) (x : List ℕ) → i + length x ≤ length l → bytesAt (sets l i x) i (length x) ≡ x
 bytes-sets l i [] h = bytes-none l i
 bytes-sets l i (b ∷ x) h =

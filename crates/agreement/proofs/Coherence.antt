@@ -49,7 +49,7 @@ pub record Coherent (s : State) (m : List ℕ) : Type 0 where
   pub agrees : Agrees (s .memory)
   pub rams : s .memory .ram ≡ m
   pub lines : Lines (s .directory) m (s .array)
-  pub off : NwInvariant (s .directory)
+  pub nw : NwInvariant (s .directory)
 
 -- fewer lines, and none
 pub fewer-lines : (d e : Directory) (m array : List ℕ) → ((s w tag : ℕ) → s < 128 → w < 4 → Held e s w tag → Held d s w tag) → Lines d m array → Lines e m array

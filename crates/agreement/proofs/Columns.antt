@@ -23,11 +23,11 @@ use Rattle.agreement.specs.Agreement.{Legal, setsNw}
 use Rattle.agreement.specs.Program.{plainEvent, plainLine, plainRows, countsOf, plainOutput, eventSetsNw, NoLineSetsNw, Columns}
 use Rattle.agreement.proofs.Coherence.{Coherent}
 use Rattle.agreement.proofs.Reading.{coherent-with}
-use Rattle.agreement.proofs.Steps.{call-good}
+use Rattle.agreement.proofs.Steps.{call-matches}
 use Rattle.agreement.proofs.Demand.{start-coherent}
 
 -- what a line leaves beside what the plain memory answers
-record LineGood (u : Performed) (p : Plain) : Type 0 where
+record LineMatches (u : Performed) (p : Plain) : Type 0 where
   coherent : Coherent (stateAfter u) (p .memory)
   numbers : u .outcome .number ≡ p .number
   values : u .outcome .value ≡ p .value
@@ -35,36 +35,36 @@ record LineGood (u : Performed) (p : Plain) : Type 0 where
 module _ (s : State) (m : List ℕ) (c : Coherent s m) where
   -- an event that makes a call
   made : (k : Call) → setsNw k ≡ false →
-      LineGood (performed (step s k .leaves .outcome) (step s k .leaves .memory) (step s k .leaves .array)) (plain m k)
+      LineMatches (performed (step s k .leaves .outcome) (step s k .leaves .memory) (step s k .leaves .array)) (plain m k)
   made k q =
-      let g = call-good s m c k q in
+      let g = call-matches s m c k q in
       record { coherent = g .coherent; numbers = g .numbers; values = g .values }
 
-  event-good : (line : List ℕ) (e : Event) → eventSetsNw e ≡ false → LineGood (eventDone s line e) (plainEvent m line e)
+  event-matches : (line : List ℕ) (e : Event) → eventSetsNw e ≡ false → LineMatches (eventDone s line e) (plainEvent m line e)
   unfolding eventDone plainEvent step
-  event-good line Malformed q =
+  event-matches line Malformed q =
       record {
-        coherent = coherent-with s m c (s .directory) (c .formed) (c .off) (s .array) (c .arrayLength) (c .lines);
+        coherent = coherent-with s m c (s .directory) (c .formed) (c .nw) (s .array) (c .arrayLength) (c .lines);
         numbers = refl;
         values = refl;
       }
-  event-good line (Read a w pcd) q = made (read a w pcd (boardAnswers a w) zeroLog) refl
-  event-good line (Write a w v) q = made (write a w v (boardAnswers a w) zeroLog) refl
-  event-good line (External a from) q = made (external a (pairBytes (drop from line))) refl
-  event-good line (Snoop a) q = made (snoop a) refl
-  event-good line Flush q = made flush refl
-  event-good line (Control cd nw) q = made (control cd nw) q
-  event-good line Reset q = made reset refl
+  event-matches line (Read a w pcd) q = made (read a w pcd (boardAnswers a w) zeroLog) refl
+  event-matches line (Write a w v) q = made (write a w v (boardAnswers a w) zeroLog) refl
+  event-matches line (External a from) q = made (external a (pairBytes (drop from line))) refl
+  event-matches line (Snoop a) q = made (snoop a) refl
+  event-matches line Flush q = made flush refl
+  event-matches line (Control cd nw) q = made (control cd nw) q
+  event-matches line Reset q = made reset refl
 
-  line-good : (line : List ℕ) → eventSetsNw (scanned line) ≡ false → LineGood (lineDone s line) (plainLine m line)
+  line-matches : (line : List ℕ) → eventSetsNw (scanned line) ≡ false → LineMatches (lineDone s line) (plainLine m line)
   unfolding lineDone
-  line-good line q = event-good line (scanned line) q
+  line-matches line q = event-matches line (scanned line) q
 
 rows-agree : (lines : List (List ℕ)) (s : State) (m : List ℕ) (event : ℕ) → Coherent s m → NoLineSetsNw lines → rowsOf s event lines ≡ plainRows m event lines (countsOf s lines)
 unfolding rowsOf plainRows countsOf
 rows-agree [] s m event c n = refl
 rows-agree (line ∷ lines) s m event c n =
-    let g = line-good s m c line (n .0) in
+    let g = line-matches s m c line (n .0) in
     rw (g .numbers, g .values, rows-agree lines (stateAfter (lineDone s line)) (plainLine m line .memory) (suc event) (g .coherent) (n .1))
 
 -- zeros have parity that agrees

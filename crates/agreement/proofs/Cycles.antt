@@ -239,17 +239,17 @@ cycles-within (x ∷ xs) (w ∷ ws) g = (moved-within x w (g .0), cycles-within 
 abbrev carries : Record → ℕ
 carries r = r .flags / 128 % 2
 
-abbrev pub Sound : List Record → Type 0
-Sound [] = Unit {0}
-Sound (r ∷ rs) = (carries r ≡ 0) × Sound rs
+abbrev pub NoParityErrors : List Record → Type 0
+NoParityErrors [] = Unit {0}
+NoParityErrors (r ∷ rs) = (carries r ≡ 0) × NoParityErrors rs
 
-pub sound-append : (a b : List Record) → Sound a → Sound b → Sound (a ++ b)
-sound-append [] b p q = q
-sound-append (r ∷ rs) b p q = (p .0, sound-append rs b (p .1) q)
+pub no-error-append : (a b : List Record) → NoParityErrors a → NoParityErrors b → NoParityErrors (a ++ b)
+no-error-append [] b p q = q
+no-error-append (r ∷ rs) b p q = (p .0, no-error-append rs b (p .1) q)
 
-sound-map : (make : Cycle → Record) → ((c : Cycle) → OneDoubleword (c .moved) → carries (make c) ≡ 0) → (cs : List Cycle) → EachCycle cs → Sound (map make cs)
-sound-map make h [] g = tt
-sound-map make h (c ∷ cs) g = (h c (g .0), sound-map make h cs (g .1))
+no-error-map : (make : Cycle → Record) → ((c : Cycle) → OneDoubleword (c .moved) → carries (make c) ≡ 0) → (cs : List Cycle) → EachCycle cs → NoParityErrors (map make cs)
+no-error-map make h [] g = tt
+no-error-map make h (c ∷ cs) g = (h c (g .0), no-error-map make h cs (g .1))
 
 -- the flags of moved bytes stay below 16
 lanes-power : (n lane : ℕ) → lanesOf lane n + 2 ^ lane ≡ 2 ^ (lane + n)
@@ -278,31 +278,31 @@ cond-most : (b : Bool) → cond b 64 0 ≤ 64
 cond-most true = omega arith
 cond-most false = omega arith
 
-sound-flags : (lane n kind : ℕ) → kind ≤ 32 → lane + n ≤ 4 → (last : Bool) → flagsOf lane n kind last false / 128 % 2 ≡ 0
+no-error-flags : (lane n kind : ℕ) → kind ≤ 32 → lane + n ≤ 4 → (last : Bool) → flagsOf lane n kind last false / 128 % 2 ≡ 0
 unfolding flagsOf
-sound-flags lane n kind k h last = omega (arith, lanes-below lane n h, cond-most last)
+no-error-flags lane n kind k h last = omega (arith, lanes-below lane n h, cond-most last)
 
-pub sound-reads : (kind : ℕ) → kind ≤ 32 → (m : Memory) → Agrees m → (line : ℕ) → line + 16 ≤ length (m .ram) → (cs : List Cycle) → EachCycle cs → Sound (map (readRecord kind m line) cs)
+pub no-error-reads : (kind : ℕ) → kind ≤ 32 → (m : Memory) → Agrees m → (line : ℕ) → line + 16 ≤ length (m .ram) → (cs : List Cycle) → EachCycle cs → NoParityErrors (map (readRecord kind m line) cs)
 unfolding readRecord
-sound-reads kind k m a line l =
-    sound-map (readRecord kind m line) λ c g.
+no-error-reads kind k m a line l =
+    no-error-map (readRecord kind m line) λ c g.
     rw (never-wrong m a (line + c .moved .from) (c .moved .count) (omega (arith, g .line)))
-    (sound-flags (c .moved .from % 4) (c .moved .count) kind k (g .lanes) (c .last))
+    (no-error-flags (c .moved .from % 4) (c .moved .count) kind k (g .lanes) (c .last))
 
-pub sound-writes : (buffer : List ℕ) (line : ℕ) (cs : List Cycle) → EachCycle cs → Sound (map (writeRecord buffer line) cs)
+pub no-error-writes : (buffer : List ℕ) (line : ℕ) (cs : List Cycle) → EachCycle cs → NoParityErrors (map (writeRecord buffer line) cs)
 unfolding writeRecord
-sound-writes buffer line =
-    sound-map (writeRecord buffer line) λ c g. sound-flags (c .moved .from % 4) (c .moved .count) writing (omega arith) (g .lanes) (c .last)
+no-error-writes buffer line =
+    no-error-map (writeRecord buffer line) λ c g. no-error-flags (c .moved .from % 4) (c .moved .count) writing (omega arith) (g .lanes) (c .last)
 
 -- the flags that a log has for the records put into it
-words-at : (rs : List Record) (k : ℕ) → Sound rs → getD (wordsOf rs) (3 * k + 1) 0 / 128 % 2 ≡ 0
+words-at : (rs : List Record) (k : ℕ) → NoParityErrors rs → getD (wordsOf rs) (3 * k + 1) 0 / 128 % 2 ≡ 0
 unfolding wordsOf
 words-at [] k h = refl
 words-at (r ∷ rs) zero h = h .0
 words-at (r ∷ rs) (suc k) h = let e : 3 * suc k + 1 ≡ suc (suc (suc (3 * k + 1))) = omega arith in rw e (words-at rs k (h .1))
 
-pub logged-sound : (log : List ℕ) (rs : List Record) → Sound rs → (k : ℕ) → k < length rs → getD (logged log 0 rs) (3 * k + 1) 0 / 128 % 2 ≡ 0
-logged-sound log rs h k l =
+pub logged-no-error : (log : List ℕ) (rs : List Record) → NoParityErrors rs → (k : ℕ) → k < length rs → getD (logged log 0 rs) (3 * k + 1) 0 / 128 % 2 ≡ 0
+logged-no-error log rs h k l =
     let n = words-length rs in
     elim (decLt (3 * k + 1) (length log)) [
       | yes p ↦ let e = sets-in log 0 (wordsOf rs) (3 * k + 1) (omega arith) (rw (zero-add (3 * k + 1)) p) in rw (zero-add (3 * k + 1)) at (ap (λ (x : ℕ). x / 128 % 2) e ∙ words-at rs k h)

@@ -12,11 +12,11 @@ use Rattle.memory.specs.Parity.{Memory}
 use Rattle.access.specs.Access.{State, state}
 use Rattle.refusal.proofs.Accepted.{lent-accepted}
 use Rattle.agreement.specs.Calls.{Call, read, write, external, snoop, flush, control, view, reset, step, nextState}
-use Rattle.agreement.specs.Plain.{plainNumber, plainDone, plain}
+use Rattle.agreement.specs.Plain.{plainNumber, plainDone, plainRefused, plain}
 use Rattle.agreement.specs.Agreement.{AgreesAll, NeverSetsNw, Legal, Demand3, Arises, ArisesAll, NumbersThatArise}
 use Rattle.agreement.proofs.Coherence.{Coherent, no-lines}
 use Rattle.agreement.proofs.Numbers.{plain-arises}
-use Rattle.agreement.proofs.Steps.{call-good}
+use Rattle.agreement.proofs.Steps.{call-matches}
 
 pub start-coherent : (m : Memory) (array : List ℕ) → Legal m array → Coherent (state afterReset m array) (m .ram)
 start-coherent m array g =
@@ -28,16 +28,16 @@ start-coherent m array g =
       agrees = g .agrees;
       rams = refl;
       lines = no-lines afterReset (m .ram) array reset-none;
-      off = record { disabled = λ _. reset-control .0; empty = λ _. reset-none };
+      nw = record { disabled = λ _. reset-control .0; empty = λ _. reset-none };
     }
 
 agrees-from : (cs : List Call) (s : State) (m : List ℕ) → Coherent s m → NeverSetsNw cs → AgreesAll s m cs
 unfolding AgreesAll
 agrees-from [] s m c n = tt
 agrees-from (x ∷ cs) s m c n =
-    let g = call-good s m c x (n .0) in
+    let g = call-matches s m c x (n .0) in
     let h = g .coherent in (
-      record { numbers = g .numbers; values = g .values; views = g .views; rams = h .rams; no-parity-error = g .sound },
+      record { numbers = g .numbers; values = g .values; views = g .views; rams = h .rams; no-parity-error = g .no-error },
       agrees-from cs (nextState (step s x)) (plain m x .memory) h (n .1),
     )
 
@@ -59,7 +59,7 @@ done-number m reset = refl
 answer-number : (m : List ℕ) (x : Call) → plain m x .number ≡ plainNumber m x
 unfolding plain
 answer-number m x =
-    by-test (λ b. eqb (plainNumber m x) 0 ≡ b → cond b (plainDone m x) (record { number = plainNumber m x; value = 0; shown = []; memory = m }) .number ≡ plainNumber m x)
+    by-test (λ b. eqb (plainNumber m x) 0 ≡ b → cond b (plainDone m x) (plainRefused (plainNumber m x) m) .number ≡ plainNumber m x)
     (eqb (plainNumber m x) 0)
     (λ _ e. done-number m x ∙ sym (eqb-true _ 0 e))
     (λ _ _. refl)
@@ -72,7 +72,7 @@ arises-from : (cs : List Call) (s : State) (m : List ℕ) → Coherent s m → N
 unfolding ArisesAll
 arises-from [] s m c n = tt
 arises-from (x ∷ cs) s m c n =
-    let g = call-good s m c x (n .0) in
+    let g = call-matches s m c x (n .0) in
     (rw (g .numbers) (answer-arises m x), arises-from cs (nextState (step s x)) (plain m x .memory) (g .coherent) (n .1))
 
 pub numbers-that-arise : NumbersThatArise

@@ -8,7 +8,8 @@ use Rattle.ways.specs.declared.ways.Found.the-variants.{Nothing}
 use Rattle.ways.specs.Address.{setOf}
 use Rattle.directory.specs.Steps.{lookupOf}
 use Rattle.directory.specs.WellFormed.{WellFormed}
-use Rattle.directory.proofs.Laws.{snoop-accepted, snoop-lookup, flush-lookup, reset-lookup, good-state-zero}
+use Rattle.directory.proofs.Laws.{snoop-accepted, snoop-lookup, flush-lookup, reset-lookup}
+use Rattle.directory.proofs.SetState.{good-state-zero}
 use Rattle.access.specs.Access.{State}
 use Rattle.agreement.specs.Calls.{Call, snoop, flush, reset, step, nextState}
 

@@ -88,11 +88,6 @@ unfolding stored
 stored-ram m a [] = refl
 stored-ram m a (b ∷ x) = stored-ram (put m a b) (suc a) x ∙ rw put-ram
 
-pub stored-parity : (m : Memory) (a : ℕ) (x : List ℕ) → length (stored m a x .parity) ≡ length (m .parity)
-unfolding stored
-stored-parity m a [] = refl
-stored-parity m a (b ∷ x) = stored-parity (put m a b) (suc a) x ∙ put-lengths m a b .1
-
 pub stored-agrees : (m : Memory) (a : ℕ) (x : List ℕ) → a + length x ≤ length (m .ram) → length (m .ram) ≤ 4 * length (m .parity) → Agrees m → Agrees (stored m a x)
 unfolding stored
 stored-agrees m a [] l z g = g

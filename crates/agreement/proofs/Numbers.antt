@@ -10,11 +10,11 @@ use lib.ListN.{length}
 use borrow.Author.Tests.{eq-eqb, le-ltb}
 use Rattle.laws.proofs.Tests.{same-or}
 use Rattle.ways.specs.Address.{setOf}
-use Rattle.directory.specs.Steps.{stateOf, controlRefused}
-use Rattle.directory.proofs.Laws.{good-state-zero}
+use Rattle.directory.specs.Steps.{stateNumberOf, controlRefused}
+use Rattle.directory.proofs.SetState.{good-state-zero}
 use Rattle.access.specs.Access.{State, readNumber, writeNumber}
 use Rattle.access.specs.Masters.{externalWriteNumber}
-use Rattle.refusal.specs.Refusal.{when, orElse, ramNumber, memoryNumber, arrayNumber, lentNumber, badWidth, badAnswers, argumentNumber, valueNumber, externalNumber, viewAddressNumber, viewInputNumber, statesIn, statesOf}
+use Rattle.refusal.specs.Refusal.{when, orElse, ramNumber, memoryNumber, arrayNumber, lentNumber, badWidth, badAnswers, argumentNumber, valueNumber, externalNumber, viewAddressNumber, viewInputNumber, statesNumberIn, statesNumberOf}
 use Rattle.refusal.proofs.Accepted.{zero-or, first-or, GoodMemory}
 use Rattle.views.specs.View.{viewNumberIn}
 use Rattle.agreement.specs.Calls.{Call, read, write, external, snoop, flush, control, view, reset, viewNumberOf}
@@ -44,12 +44,12 @@ module _ (ram parity : ℕ) (g : GoodMemory ram parity) where
 
 module _ (s : State) (m : List ℕ) (c : Coherent s m) where
   -- 21 to 23 are not met in any set
-  pub state-clear : (a : ℕ) → stateOf (s .directory) (setOf a) ≡ 0
+  pub state-clear : (a : ℕ) → stateNumberOf (s .directory) (setOf a) ≡ 0
   state-clear a = good-state-zero (s .directory) (setOf a) (c .formed .sets (setOf a) (omega arith))
 
-  states-clear : (a n : ℕ) → statesOf (s .directory) a n ≡ 0
-  unfolding statesIn
-  states-clear a n = zero-or (stateOf (s .directory) (setOf a)) _ (state-clear a) ∙ state-clear (a + n - 1)
+  states-clear : (a n : ℕ) → statesNumberOf (s .directory) a n ≡ 0
+  unfolding statesNumberIn
+  states-clear a n = zero-or (stateNumberOf (s .directory) (setOf a)) _ (state-clear a) ∙ state-clear (a + n - 1)
 
   pub read-number : (a w : ℕ) (xs log : List ℕ) → readNumber s a w xs log ≡ argumentNumber (length m) a w xs (length log)
   unfolding readNumber
@@ -65,9 +65,9 @@ module _ (s : State) (m : List ℕ) (c : Coherent s m) where
       ∙ ap (orElse (argumentNumber (length (s .memory .ram)) a w xs (length log))) (or-nothing (valueNumber w v) _ (states-clear a w))
       ∙ ap (λ (l : List ℕ). orElse (argumentNumber (length l) a w xs (length log)) (valueNumber w v)) (c .rams)
 
-  pub master-number : (a : ℕ) (x : List ℕ) → externalWriteNumber (s .directory) (s .memory) a x ≡ externalNumber (length m) a (length x)
+  pub external-write-number : (a : ℕ) (x : List ℕ) → externalWriteNumber (s .directory) (s .memory) a x ≡ externalNumber (length m) a (length x)
   unfolding externalWriteNumber
-  master-number a x =
+  external-write-number a x =
       zero-or (memoryNumber (length (s .memory .ram)) (length (s .memory .parity))) _ (memory-clear _ _ (c .lent))
       ∙ or-nothing (externalNumber (length (s .memory .ram)) a (length x)) _ (states-clear a (length x))
       ∙ ap (λ (l : List ℕ). externalNumber (length l) a (length x)) (c .rams)

@@ -17,12 +17,12 @@ use Rattle.agreement.proofs.Coherence.{addressOf, Lines, NwInvariant, C
 use Rattle.agreement.proofs.Writing.{coherent-stored}
 
 module _ (s : State) (m : List ℕ) (c : Coherent s m) (a : ℕ) where
-  pub snooped-off : NwInvariant (afterSnoop (s .directory) a)
-  snooped-off =
+  pub snooped-nw : NwInvariant (afterSnoop (s .directory) a)
+  snooped-nw =
       let k = snoop-control (s .directory) (c .formed .sized) a in
       record {
-        disabled = λ h. k .0 ∙ c .off .disabled (sym (k .1) ∙ h);
-        empty = λ h r v tag rl vl q. c .off .empty (sym (k .1) ∙ h) r v tag rl vl (snoop-held (s .directory) (c .formed .sized) a r v tag vl q);
+        disabled = λ h. k .0 ∙ c .nw .disabled (sym (k .1) ∙ h);
+        empty = λ h r v tag rl vl q. c .nw .empty (sym (k .1) ∙ h) r v tag rl vl (snoop-held (s .directory) (c .formed .sized) a r v tag vl q);
       }
 
   pub snooped-lines : Lines (afterSnoop (s .directory) a) m (s .array)
@@ -41,12 +41,12 @@ module _ (s : State) (m : List ℕ) (c : Coherent s m) (a : ℕ) where
   snooped-none : (r v tag : ℕ) → r < 128 → v < 4 → Held (afterSnoop (s .directory) a) r v tag → addressOf r tag ≡ a / 16 * 16 → ⊥
   snooped-none r v tag rl vl h e =
       by-test (λ b. s .directory .nw ≡ b → ⊥) (s .directory .nw)
-      (λ _ n. snooped-off .empty (snoop-control (s .directory) (c .formed .sized) a .1 ∙ n) r v tag rl vl h)
+      (λ _ n. snooped-nw .empty (snoop-control (s .directory) (c .formed .sized) a .1 ∙ n) r v tag rl vl h)
       (λ _ n. snoop-none (s .directory) (c .formed .sized) a (c .formed .sets (setOf a) (omega arith)) n v vl (rw (same-set tag r rl e, same-tag tag r rl e) at h))
       refl
 
   pub external-coherent : (x : List ℕ) → GoodExternal (length m) a (length x) → Coherent (state (afterSnoop (s .directory) a) (stored (s .memory) a x) (s .array)) (sets m a x)
   external-coherent x k =
       let e : a / 16 * 16 + a % 16 ≡ a = omega arith in
-      coherent-stored s m c a x (k .inside) (afterSnoop (s .directory) a) (snoop-well-formed (s .directory) (c .formed) a) snooped-off (s .array) (c .arrayLength)
+      coherent-stored s m c a x (k .inside) (afterSnoop (s .directory) a) (snoop-well-formed (s .directory) (c .formed) a) snooped-nw (s .array) (c .arrayLength)
       (rw e at (stored-miss (afterSnoop (s .directory) a) m (s .array) snooped-lines (a / 16 * 16) (a % 16) x (omega arith) (k .line) snooped-none))

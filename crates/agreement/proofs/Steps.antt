@@ -21,49 +21,49 @@ use Rattle.access.specs.Access.{State, after, outcome, refused, accepted, opera
 use Rattle.access.specs.Masters.{externalWriteNumber}
 use Rattle.refusal.specs.Refusal.{argumentNumber, valueNumber}
 use Rattle.refusal.proofs.Accepted.{or-zero, arguments-accepted, external-accepted}
-use Rattle.access.proofs.Calls.{external-refused, external-done}
+use Rattle.access.proofs.Calls.{read-refused, read-done, write-refused, write-done, external-refused, external-done}
 use Rattle.views.specs.View.{shown}
 use Rattle.views.proofs.Viewing.{view-refused, view-done}
 use Rattle.agreement.specs.Calls.{Call, read, write, external, snoop, flush, control, view, reset, Step, callStep, directoryStep, step, nextState, viewNumberOf}
-use Rattle.agreement.specs.Plain.{Plain, plainAccepted, plainNumber, plainDone, plain}
+use Rattle.agreement.specs.Plain.{Plain, plainAccepted, plainRefused, plainNumber, plainDone, plain}
 use Rattle.agreement.specs.Agreement.{NoParityError, setsNw}
 use Rattle.agreement.proofs.Bytes.{bytes-same, operand-bytes}
-use Rattle.agreement.proofs.Cycles.{logged-sound}
+use Rattle.agreement.proofs.Cycles.{logged-no-error}
 use Rattle.agreement.proofs.Coherence.{Lines, Empty, NwInvariant, Coherent, fewer-lines, no-lines, line-around}
 use Rattle.agreement.proofs.Parts.{parts-proper, parts-wanted, parts-written}
 use Rattle.agreement.proofs.Reading.{coherent-with, read-all}
 use Rattle.agreement.proofs.Writing.{write-all}
-use Rattle.agreement.proofs.Snooping.{snooped-off, snooped-lines, external-coherent}
-use Rattle.agreement.proofs.Numbers.{state-clear, read-number, write-number, master-number, view-number}
+use Rattle.agreement.proofs.Snooping.{snooped-nw, snooped-lines, external-coherent}
+use Rattle.agreement.proofs.Numbers.{state-clear, read-number, write-number, external-write-number, view-number}
 
 -- what a step leaves beside what the plain memory answers
-pub record Good (x : Step) (p : Plain) : Type 0 where
+pub record StepMatches (x : Step) (p : Plain) : Type 0 where
   pub coherent : Coherent (nextState x) (p .memory)
   pub numbers : x .leaves .outcome .number ≡ p .number
   pub values : x .leaves .outcome .value ≡ p .value
   pub views : x .shown ≡ p .shown
-  pub sound : NoParityError (x .leaves)
+  pub no-error : NoParityError (x .leaves)
 
 -- a call by its number: refused and nothing changed, or done
 module _ (s : State) (m : List ℕ) (c : Coherent s m) (x : Call) where
   abbrev unchanged : ℕ → List ℕ → Step
   unchanged n log = callStep (after (outcome (s .directory) n 0 0) (s .memory) (s .array) log)
 
-  by-number : (n : ℕ) → n ≡ plainNumber m x → (n ≡ 0 → Good (step s x) (plainDone m x)) → (log : List ℕ) → ((n ≡ 0 → ⊥) → step s x ≡ unchanged n log) →
-      Good (step s x) (plain m x)
+  by-number : (n : ℕ) → n ≡ plainNumber m x → (n ≡ 0 → StepMatches (step s x) (plainDone m x)) → (log : List ℕ) → ((n ≡ 0 → ⊥) → step s x ≡ unchanged n log) →
+      StepMatches (step s x) (plain m x)
   unfolding plain
   by-number n e g log f =
       same-or _ n 0
-      (λ z. let k : plainNumber m x ≡ 0 = sym e ∙ z in rw (cond-true _ (plainDone m x) (record { number = plainNumber m x; value = 0; shown = []; memory = m }) (eq-eqb _ 0 k)) (g z))
+      (λ z. let k : plainNumber m x ≡ 0 = sym e ∙ z in rw (cond-true _ (plainDone m x) (plainRefused (plainNumber m x) m) (eq-eqb _ 0 k)) (g z))
       (λ h.
       let k : plainNumber m x ≡ 0 → ⊥ = λ q. h (e ∙ q) in
-      rw (cond-false _ (plainDone m x) (record { number = plainNumber m x; value = 0; shown = []; memory = m }) (ne-eqb _ 0 k), f h)
+      rw (cond-false _ (plainDone m x) (plainRefused (plainNumber m x) m) (ne-eqb _ 0 k), f h)
       (record {
-        coherent = coherent-with s m c (s .directory) (c .formed) (c .off) (s .array) (c .arrayLength) (c .lines);
+        coherent = coherent-with s m c (s .directory) (c .formed) (c .nw) (s .array) (c .arrayLength) (c .lines);
         numbers = e;
         values = refl;
         views = refl;
-        sound = λ i l. absurd (omega arith);
+        no-error = λ i l. absurd (omega arith);
       }))
 
 module _ (s : State) (m : List ℕ) (c : Coherent s m) where
@@ -72,76 +72,60 @@ module _ (s : State) (m : List ℕ) (c : Coherent s m) where
 
   -- READ AND WRITE
 
-  read-refused : (a w : ℕ) (pcd : Bool) (xs log : List ℕ) → (readNumber s a w xs log ≡ 0 → ⊥) → readCall s a w pcd xs log ≡ refused (readNumber s a w xs log) s log
-  unfolding readCall
-  read-refused a w pcd xs log h = cond-false _ _ _ (ne-eqb _ 0 h)
-
-  read-done : (a w : ℕ) (pcd : Bool) (xs log : List ℕ) → readNumber s a w xs log ≡ 0 → readCall s a w pcd xs log ≡ accepted (valueOf (readAll s a w pcd xs .bytes)) (readAll s a w pcd xs) log
-  unfolding readCall
-  read-done a w pcd xs log z = cond-true _ _ _ (eq-eqb _ 0 z)
-
-  read-good : (a w : ℕ) (pcd : Bool) (xs log : List ℕ) → Good (step s (read a w pcd xs log)) (plain m (read a w pcd xs log))
+  read-matches : (a w : ℕ) (pcd : Bool) (xs log : List ℕ) → StepMatches (step s (read a w pcd xs log)) (plain m (read a w pcd xs log))
   unfolding step plainNumber plainDone readAll
-  read-good a w pcd xs log =
+  read-matches a w pcd xs log =
       by-number s m c (read a w pcd xs log) (readNumber s a w xs log) (read-number s m c a w xs log)
       (λ z.
       let k = arguments-accepted (length m) a w xs (length log) (sym (read-number s m c a w xs log) ∙ z) in
       let b : w ≤ 4 * groupCount - a % 4 = omega (arith, k .four) in
       let r = read-all (doublewordsOf groupCount xs a w 0) s m c pcd (parts-proper groupCount xs a w 0 (length m) (k .served) b (k .inside) whole) in
-      rw (read-done a w pcd xs log z)
+      rw (read-done s a w pcd xs log z)
       (record {
         coherent = r .coherent;
         numbers = refl;
         values = ap valueOf (r .gives ∙ parts-wanted groupCount m xs a w 0 b);
         views = refl;
-        sound = logged-sound log (readAll s a w pcd xs .records) (r .sound);
+        no-error = logged-no-error log (readAll s a w pcd xs .records) (r .no-error);
       }))
       log
-      (λ h. rw (read-refused a w pcd xs log h))
+      (λ h. rw (read-refused s a w pcd xs log h))
 
-  write-refused : (a w v : ℕ) (xs log : List ℕ) → (writeNumber s a w v xs log ≡ 0 → ⊥) → writeCall s a w v xs log ≡ refused (writeNumber s a w v xs log) s log
-  unfolding writeCall
-  write-refused a w v xs log h = cond-false _ _ _ (ne-eqb _ 0 h)
-
-  write-done : (a w v : ℕ) (xs log : List ℕ) → writeNumber s a w v xs log ≡ 0 → writeCall s a w v xs log ≡ accepted 0 (writeAll s a w v xs) log
-  unfolding writeCall
-  write-done a w v xs log z = cond-true _ _ _ (eq-eqb _ 0 z)
-
-  write-good : (a w v : ℕ) (xs log : List ℕ) → Good (step s (write a w v xs log)) (plain m (write a w v xs log))
+  write-matches : (a w v : ℕ) (xs log : List ℕ) → StepMatches (step s (write a w v xs log)) (plain m (write a w v xs log))
   unfolding step plainNumber plainDone writeAll
-  write-good a w v xs log =
+  write-matches a w v xs log =
       by-number s m c (write a w v xs log) (writeNumber s a w v xs log) (write-number s m c a w v xs log)
       (λ z.
       let q = or-zero (argumentNumber (length m) a w xs (length log)) (valueNumber w v) (sym (write-number s m c a w v xs log) ∙ z) in
       let k = arguments-accepted (length m) a w xs (length log) (q .0) in
       let b : w ≤ 4 * groupCount - a % 4 = omega (arith, k .four) in
       let r = write-all (operandOf v) (doublewordsOf groupCount xs a w 0) s m c (parts-proper groupCount xs a w 0 (length m) (k .served) b (k .inside) whole) in
-      rw (write-done a w v xs log z)
+      rw (write-done s a w v xs log z)
       (record {
         coherent = rw (parts-written groupCount (operandOf v) m xs a w 0 b, operand-bytes v w (k .four)) at (r .coherent);
         numbers = refl;
         values = refl;
         views = refl;
-        sound = logged-sound log (writeAll s a w v xs .records) (r .sound);
+        no-error = logged-no-error log (writeAll s a w v xs .records) (r .no-error);
       }))
       log
-      (λ h. rw (write-refused a w v xs log h))
+      (λ h. rw (write-refused s a w v xs log h))
 
   -- OTHER MASTERS
 
-  external-good : (a : ℕ) (x : List ℕ) → Good (step s (external a x)) (plain m (external a x))
+  external-matches : (a : ℕ) (x : List ℕ) → StepMatches (step s (external a x)) (plain m (external a x))
   unfolding step plainNumber plainDone
-  external-good a x =
+  external-matches a x =
       let n = externalWriteNumber (s .directory) (s .memory) a x in
-      by-number s m c (external a x) n (master-number s m c a x)
+      by-number s m c (external a x) n (external-write-number s m c a x)
       (λ z.
       rw (external-done (s .directory) (s .memory) a x z)
       (record {
-        coherent = external-coherent s m c a x (external-accepted (length m) a (length x) (sym (master-number s m c a x) ∙ z));
+        coherent = external-coherent s m c a x (external-accepted (length m) a (length x) (sym (external-write-number s m c a x) ∙ z));
         numbers = refl;
         values = refl;
         views = refl;
-        sound = λ i l. absurd (omega arith);
+        no-error = λ i l. absurd (omega arith);
       }))
       []
       (λ h. rw (external-refused (s .directory) (s .memory) a x n refl h))
@@ -149,55 +133,55 @@ module _ (s : State) (m : List ℕ) (c : Coherent s m) where
   -- THE DIRECTORY ALONE
 
   -- a call that changes nothing but the directory
-  changed-good : (d : Directory) → WellFormed d → NwInvariant d → Lines d m (s .array) → Good (directoryStep s (outcome d 0 0 0)) (plainAccepted 0 [] m)
-  changed-good d g o l =
+  changed-matches : (d : Directory) → WellFormed d → NwInvariant d → Lines d m (s .array) → StepMatches (directoryStep s (outcome d 0 0 0)) (plainAccepted 0 [] m)
+  changed-matches d g o l =
       record {
         coherent = coherent-with s m c d g o (s .array) (c .arrayLength) l;
         numbers = refl;
         values = refl;
         views = refl;
-        sound = λ i l. absurd (omega arith);
+        no-error = λ i l. absurd (omega arith);
       }
 
   -- a directory that holds no line
-  emptied-good : (d : Directory) → WellFormed d → (d .nw ≡ true → d .cd ≡ true) → Empty d → Good (directoryStep s (outcome d 0 0 0)) (plainAccepted 0 [] m)
-  emptied-good d g e n = changed-good d g (record { disabled = e; empty = λ _. n }) (no-lines d m (s .array) n)
+  emptied-matches : (d : Directory) → WellFormed d → (d .nw ≡ true → d .cd ≡ true) → Empty d → StepMatches (directoryStep s (outcome d 0 0 0)) (plainAccepted 0 [] m)
+  emptied-matches d g e n = changed-matches d g (record { disabled = e; empty = λ _. n }) (no-lines d m (s .array) n)
 
-  snoop-good : (a : ℕ) → Good (step s (snoop a)) (plain m (snoop a))
+  snoop-matches : (a : ℕ) → StepMatches (step s (snoop a)) (plain m (snoop a))
   unfolding step plain plainNumber plainDone
-  snoop-good a =
+  snoop-matches a =
       rw (snoop-accepted (s .directory) a (state-clear s m c a))
-      (changed-good (afterSnoop (s .directory) a) (snoop-well-formed (s .directory) (c .formed) a) (snooped-off s m c a) (snooped-lines s m c a))
+      (changed-matches (afterSnoop (s .directory) a) (snoop-well-formed (s .directory) (c .formed) a) (snooped-nw s m c a) (snooped-lines s m c a))
 
-  flush-good : Good (step s flush) (plain m flush)
+  flush-matches : StepMatches (step s flush) (plain m flush)
   unfolding step plain plainNumber plainDone
-  flush-good =
+  flush-matches =
       let k = flush-control (s .directory) in
-      emptied-good (afterFlush (s .directory)) (flush-well-formed (s .directory) (c .formed)) (λ h. k .0 ∙ c .off .disabled (sym (k .1) ∙ h)) (flush-none (s .directory))
+      emptied-matches (afterFlush (s .directory)) (flush-well-formed (s .directory) (c .formed)) (λ h. k .0 ∙ c .nw .disabled (sym (k .1) ∙ h)) (flush-none (s .directory))
 
-  reset-good : Good (step s reset) (plain m reset)
+  reset-matches : StepMatches (step s reset) (plain m reset)
   unfolding step plain plainNumber plainDone
-  reset-good = emptied-good afterReset reset-well-formed (λ _. reset-control .0) reset-none
+  reset-matches = emptied-matches afterReset reset-well-formed (λ _. reset-control .0) reset-none
 
   -- an accepted control call that does not set NW leaves NW = 0
-  control-good : (cd nw : Bool) → setsNw (control cd nw) ≡ false → Good (step s (control cd nw)) (plain m (control cd nw))
+  control-matches : (cd nw : Bool) → setsNw (control cd nw) ≡ false → StepMatches (step s (control cd nw)) (plain m (control cd nw))
   unfolding step plain plainNumber plainDone
-  control-good cd nw q =
-      by-test (λ b. controlRefused cd nw ≡ b → Good (step s (control cd nw)) (plain m (control cd nw))) (controlRefused cd nw)
+  control-matches cd nw q =
+      by-test (λ b. controlRefused cd nw ≡ b → StepMatches (step s (control cd nw)) (plain m (control cd nw))) (controlRefused cd nw)
       (λ _ e.
       rw (control-refused (s .directory) cd nw e, e)
       (record {
-        coherent = coherent-with s m c (s .directory) (c .formed) (c .off) (s .array) (c .arrayLength) (c .lines);
+        coherent = coherent-with s m c (s .directory) (c .formed) (c .nw) (s .array) (c .arrayLength) (c .lines);
         numbers = refl;
         values = refl;
         views = refl;
-        sound = λ i l. absurd (omega arith);
+        no-error = λ i l. absurd (omega arith);
       }))
       (λ _ e.
       let k = control-set (s .directory) cd nw in
       let never : afterControl (s .directory) cd nw .nw ≡ true → ⊥ = λ h. differ h (k .1 ∙ rw e at q) in
       rw (control-accepted (s .directory) cd nw e, e)
-      (changed-good (afterControl (s .directory) cd nw) (control-well-formed (s .directory) cd nw (c .formed))
+      (changed-matches (afterControl (s .directory) cd nw) (control-well-formed (s .directory) cd nw (c .formed))
       (record { disabled = λ h. absurd (never h); empty = λ h. absurd (never h) })
       (fewer-lines (s .directory) (afterControl (s .directory) cd nw) m (s .array) (λ r v tag rl vl h. control-held (s .directory) cd nw r v tag h) (c .lines))))
       refl
@@ -212,28 +196,28 @@ module _ (s : State) (m : List ℕ) (c : Coherent s m) where
       rw (line-around a) at (c .lines .same (setOf a) w (tagOf a) (omega arith) (k .0) (k .1) o b)
   shown-is a Nothing e = ap (λ (l : List ℕ). bytesAt l (a / 16 * 16) 16) (c .rams)
 
-  view-good : (a : ℕ) → Good (step s (view a)) (plain m (view a))
+  view-matches : (a : ℕ) → StepMatches (step s (view a)) (plain m (view a))
   unfolding step plainNumber plainDone
-  view-good a =
+  view-matches a =
       let n = viewNumberOf s a in
       by-number s m c (view a) n (view-number s m c a)
       (λ z.
       record {
-        coherent = coherent-with s m c (s .directory) (c .formed) (c .off) (s .array) (c .arrayLength) (c .lines);
+        coherent = coherent-with s m c (s .directory) (c .formed) (c .nw) (s .array) (c .arrayLength) (c .lines);
         numbers = z;
         values = refl;
         views = view-done (s .directory .tags) (s .directory .valid) (s .directory .lru) (s .memory .ram) (s .array) a n refl z ∙ shown-is a (lookupOf (s .directory) a) refl;
-        sound = λ i l. absurd (omega arith);
+        no-error = λ i l. absurd (omega arith);
       })
       []
       (λ h. rw (← view-refused (s .directory .tags) (s .directory .valid) (s .directory .lru) (s .memory .ram) (s .array) a n refl h))
 
-  pub call-good : (x : Call) → setsNw x ≡ false → Good (step s x) (plain m x)
-  call-good (read a w pcd xs log) q = read-good a w pcd xs log
-  call-good (write a w v xs log) q = write-good a w v xs log
-  call-good (external a x) q = external-good a x
-  call-good (snoop a) q = snoop-good a
-  call-good flush q = flush-good
-  call-good (control cd nw) q = control-good cd nw q
-  call-good (view a) q = view-good a
-  call-good reset q = reset-good
+  pub call-matches : (x : Call) → setsNw x ≡ false → StepMatches (step s x) (plain m x)
+  call-matches (read a w pcd xs log) q = read-matches a w pcd xs log
+  call-matches (write a w v xs log) q = write-matches a w v xs log
+  call-matches (external a x) q = external-matches a x
+  call-matches (snoop a) q = snoop-matches a
+  call-matches flush q = flush-matches
+  call-matches (control cd nw) q = control-matches cd nw q
+  call-matches (view a) q = view-matches a
+  call-matches reset q = reset-matches

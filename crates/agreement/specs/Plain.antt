@@ -46,7 +46,10 @@ plainDone m (view address) = plainAccepted 0 (bytesAt m (address / 16 * 16) 16) 
 plainDone m reset = plainAccepted 0 [] m
 
 -- "a call meeting 4 to 10 does nothing and answers that number."
+abbrev pub plainRefused : ℕ → List ℕ → Plain
+plainRefused number m = record { number = number; value = 0; shown = []; memory = m }
+
+-- A call, done or refused.
 unfoldable pub plain : List ℕ → Call → Plain
 plain m c =
-    cond (eqb (plainNumber m c) 0) (plainDone m c)
-    (record { number = plainNumber m c; value = 0; shown = []; memory = m })
+    cond (eqb (plainNumber m c) 0) (plainDone m c) (plainRefused (plainNumber m c) m)

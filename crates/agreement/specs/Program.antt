@@ -15,12 +15,12 @@ use Rattle.lines.specs.Row.{header, rowOf}
 use Rattle.events.specs.Perform.{zeroLog, lineDone}
 use Rattle.events.specs.Output.{stateAfter, start, outputOf}
 use Rattle.agreement.specs.Calls.{read, write, external, snoop, flush, control, reset}
-use Rattle.agreement.specs.Plain.{Plain, plain}
+use Rattle.agreement.specs.Plain.{Plain, plain, plainRefused}
 use Rattle.agreement.specs.Agreement.{setsNw}
 
 -- The plain memory's answer to an event: to the call that the event makes, and 11 to a malformed line, which "changes nothing".
 unfoldable pub plainEvent : List ℕ → List ℕ → Event → Plain
-plainEvent m line Malformed = record { number = 11; value = 0; shown = []; memory = m }
+plainEvent m line Malformed = plainRefused 11 m
 plainEvent m line (Read address width pcd) = plain m (read address width pcd (boardAnswers address width) zeroLog)
 plainEvent m line (Write address width value) = plain m (write address width value (boardAnswers address width) zeroLog)
 plainEvent m line (External address from) = plain m (external address (pairBytes (drop from line)))

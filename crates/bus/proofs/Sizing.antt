@@ -36,10 +36,10 @@ burst-whole : (start turn : ℕ) → start < 4 → turn < 4 → Whole (burstAt s
 unfolding burst
 burst-whole start turn sl tl =
     four (λ s. Whole (burstAt s turn))
-    (four (λ cursor. Whole (burstAt 0 cursor)) at0 at4 at8 at12 turn tl)
-    (four (λ cursor. Whole (burstAt 1 cursor)) at4 at0 at12 at8 turn tl)
-    (four (λ cursor. Whole (burstAt 2 cursor)) at8 at12 at0 at4 turn tl)
-    (four (λ cursor. Whole (burstAt 3 cursor)) at12 at8 at4 at0 turn tl)
+    (four (λ k. Whole (burstAt 0 k)) at0 at4 at8 at12 turn tl)
+    (four (λ k. Whole (burstAt 1 k)) at4 at0 at12 at8 turn tl)
+    (four (λ k. Whole (burstAt 2 k)) at8 at12 at0 at4 turn tl)
+    (four (λ k. Whole (burstAt 3 k)) at12 at8 at4 at0 turn tl)
     start
     sl
   where
@@ -180,9 +180,9 @@ pub burst-picked : (start turn a b c d : ℕ) → start < 4 → turn < 4 →
 unfolding burst
 burst-picked start turn a b c d sl tl ea eb ec ed =
     four (λ s. getD (a ∷ b ∷ c ∷ d ∷ []) s 0 ≡ burstAt s turn)
-    (ea ∙ four (λ cursor. getD (0 ∷ 4 ∷ 8 ∷ 12 ∷ []) cursor 0 ≡ burstAt 0 cursor) refl refl refl refl turn tl)
-    (eb ∙ four (λ cursor. getD (4 ∷ 0 ∷ 12 ∷ 8 ∷ []) cursor 0 ≡ burstAt 1 cursor) refl refl refl refl turn tl)
-    (ec ∙ four (λ cursor. getD (8 ∷ 12 ∷ 0 ∷ 4 ∷ []) cursor 0 ≡ burstAt 2 cursor) refl refl refl refl turn tl)
-    (ed ∙ four (λ cursor. getD (12 ∷ 8 ∷ 4 ∷ 0 ∷ []) cursor 0 ≡ burstAt 3 cursor) refl refl refl refl turn tl)
+    (ea ∙ four (λ k. getD (0 ∷ 4 ∷ 8 ∷ 12 ∷ []) k 0 ≡ burstAt 0 k) refl refl refl refl turn tl)
+    (eb ∙ four (λ k. getD (4 ∷ 0 ∷ 12 ∷ 8 ∷ []) k 0 ≡ burstAt 1 k) refl refl refl refl turn tl)
+    (ec ∙ four (λ k. getD (8 ∷ 12 ∷ 0 ∷ 4 ∷ []) k 0 ≡ burstAt 2 k) refl refl refl refl turn tl)
+    (ed ∙ four (λ k. getD (12 ∷ 8 ∷ 4 ∷ 0 ∷ []) k 0 ≡ burstAt 3 k) refl refl refl refl turn tl)
     start
     sl

@@ -10,12 +10,12 @@ use lib.ListN.{length, getD, drop}
 use lib.Seq.{drop-cons, sets, length-sets}
 use Rattle.bus.specs.declared.cycle.CycleCursor.{CycleCursor}
 use Rattle.words.specs.Bytes.{bytesAt, wordIn}
-use Rattle.memory.specs.Parity.{Memory, put, stored, wrongIn}
+use Rattle.memory.specs.Parity.{Memory, stored, wrongIn}
 use Rattle.bus.specs.Bus.{Run, run, sizeOf, Cycle, cyclesOf, lastAnswer, through, bufferAfter, memoryAfter}
 use Rattle.bus.specs.Record.{Record, flagsOf, readRecord, writeRecord, wordsOf, logged}
 use Rattle.bus.specs.Cursor.{wantedAt, cycleNext, cycleAt, CycleNeeds}
 use Rattle.cycles.specs.CycleLoop.{BufferNeeds, ReadCycle, ReadCycles, WriteCycle, WriteCycles}
-use Rattle.memory.proofs.Bits.{put-lengths}
+use Rattle.memory.proofs.Bits.{stored-lengths}
 use Rattle.bus.proofs.Sizing.{size-most, wanted-some, wanted-none, wanted-next, last-next, next-cycles, next-ready}
 
 -- one record, then the others
@@ -210,20 +210,11 @@ write-cycles-left buffer xs line first begin cursor m₀ log₀ m log u z k =
       most = omega (arith, k .ready .enough);
     }
 
--- a store leaves the lengths of memory
-stored-lengths : (bytes : List ℕ) (m : Memory) (a : ℕ) → (length (stored m a bytes .ram) ≡ length (m .ram)) × (length (stored m a bytes .parity) ≡ length (m .parity))
-unfolding stored
-stored-lengths [] m a = (refl, refl)
-stored-lengths (b ∷ bytes) m a =
-    let k = stored-lengths bytes (put m a b) (suc a) in
-    let e = put-lengths m a b in
-    (k .0 ∙ e .0, k .1 ∙ e .1)
-
 -- a write cycle leaves the lengths of memory
 pub write-cycle-lengths : {buffer : List ℕ} {line first : ℕ} {cursor : CycleCursor} {x : ℕ} {m₀ : Memory} {log₀ : List ℕ} {r : CycleCursor} {m : Memory} {log : List ℕ} →
     WriteCycle buffer line first cursor x m₀ log₀ r m log → (length (m .ram) ≡ length (m₀ .ram)) × (length (m .parity) ≡ length (m₀ .parity))
 write-cycle-lengths {buffer} {line} {cursor = cursor} {x} {m₀} c =
-    let k = stored-lengths (bytesAt buffer (cursor .from) (sizeOf x (run (cursor .from) (cursor .count)))) m₀ (line + cursor .from) in
+    let k = stored-lengths m₀ (line + cursor .from) (bytesAt buffer (cursor .from) (sizeOf x (run (cursor .from) (cursor .count)))) in
     (ap (λ (m : Memory). length (m .ram)) (c .sends) ∙ k .0, ap (λ (m : Memory). length (m .parity)) (c .sends) ∙ k .1)
 
 -- a read cycle leaves the length of the line buffer

@@ -5,7 +5,8 @@ use mathlib.Core.Bool.{Bool, true, false}
 use mathlib.Core.Logic.{_⊎_, inl, inr, ⊎-elim}
 use native.Mathlib.Omega.{arith}
 use lib.Dec.{eqb}
-use lib.ListN.{length-set, getD-replicate}
+use lib.ListN.{length, length-set, getD-replicate}
+use lib.Seq.{getD-set-same, getD-set-other}
 use borrow.Author.Tests.{eqb-true, eq-eqb, ne-eqb}
 use Rattle.directory.specs.declared.steps.Directory.{Directory}
 use Rattle.ways.specs.declared.ways.Found.{Found}
@@ -13,12 +14,11 @@ use Rattle.ways.specs.declared.ways.Found.the-variants.{At, Nothing}
 use Rattle.ways.specs.Address.{setOf, tagOf, lineIndex}
 use Rattle.ways.specs.Lru.{lruAfter}
 use Rattle.ways.specs.Ways.{holds, lookupIn}
-use Rattle.directory.specs.Steps.{validAt, tagAt, lruAt, lookupOf, stateOf, afterUse, afterFill, afterReset, afterControl, controlRefused, controlCall, afterFlush, invalidated, afterSnoop, snoopCall}
+use Rattle.directory.specs.Steps.{validAt, tagAt, lruAt, lookupOf, stateNumberOf, afterUse, afterFill, afterReset, afterControl, controlRefused, controlCall, directoryResult, afterFlush, invalidated, afterSnoop, snoopCall}
 use Rattle.directory.specs.WellFormed.{Held, Same, GoodSet, Sized, WellFormed}
-use Rattle.laws.proofs.Tests.{both, refuted, differ, cond-true, cond-false, by-test}
-use Rattle.ways.proofs.FourWays.{lowest-at, lowest-nothing, none-lowest, one-lowest}
-use Rattle.directory.proofs.Lines.{same-line, stored-line, stored-other, use-lru-here, use-lru-apart, use-lru-below, fewer-well-formed}
-use Rattle.directory.proofs.SetState.{state-good, good-state}
+use Rattle.laws.proofs.Tests.{both, refuted, differ, cond-true, cond-false, by-test, same-or}
+use Rattle.ways.proofs.FourWays.{lru-after-below, lowest-at, lowest-nothing, none-lowest, one-lowest}
+use Rattle.directory.proofs.Lines.{same-line, stored-line, stored-other, fewer-well-formed}
 
 -- LOOKUP
 
@@ -92,15 +92,19 @@ module _ (d : Directory) (s w : ℕ) where
   unfolding afterUse
   use-kept r v tag h = h
 
-  pub use-lookup : (a : ℕ) → lookupOf (afterUse d s w) a ≡ lookupOf d a
-  unfolding afterUse
-  use-lookup a = refl
-
   pub use-lru : Sized d → s < 128 → lruAt (afterUse d s w) s ≡ lruAfter (lruAt d s) w
-  use-lru z sl = use-lru-here d z s w sl
+  unfolding afterUse
+  use-lru z sl = let l : s < length (d .lru) = rw (z .lru) sl in rw getD-set-same
 
   pub use-lru-other : (r : ℕ) → (r ≡ s → ⊥) → lruAt (afterUse d s w) r ≡ lruAt d r
-  use-lru-other = use-lru-apart d s w
+  unfolding afterUse
+  use-lru-other r n = rw getD-set-other
+
+  use-lru-below : Sized d → s < 128 → w < 4 → (r : ℕ) → lruAt d r ≤ 7 → lruAt (afterUse d s w) r ≤ 7
+  use-lru-below z sl wl r h =
+      same-or _ r s
+      (λ e. let k = lru-after-below (lruAt d s) w wl in rw (e, use-lru z sl) (omega arith))
+      (λ n. rw (use-lru-other r n) h)
 
   pub use-control : (afterUse d s w .cd ≡ d .cd) × (afterUse d s w .nw ≡ d .nw)
   unfolding afterUse
@@ -114,7 +118,7 @@ pub use-well-formed : (d : Directory) → WellFormed d → (s w : ℕ) → s < 1
 use-well-formed d g s w sl wl =
     fewer-well-formed d (afterUse d s w) g (use-sized d (g .sized) s w)
     (λ r v tag rl vl. use-held d s w r v tag)
-    (λ r rl. use-lru-below d (g .sized) s w sl wl r (g .sets r rl .lru))
+    (λ r rl. use-lru-below d s w (g .sized) sl wl r (g .sets r rl .lru))
 
 -- FILL: one line becomes the new one, and every other stays as it was
 
@@ -174,7 +178,7 @@ fill-well-formed d g s w tag sl wl tl none =
                 (λ m. ⊎-elim (λ n. absurd (none x xl (rw (n .1, n .0 .0) at (m .1)))) (λ n. g .sets r rl .apart x y t xl yl (m .1) (n .1)) (held r y t yl k))
                 (held r x t xl h);
             tags = λ x t xl h. ⊎-elim (λ m. rw (m .1) tl) (λ m. g .sets r rl .tags x t xl (m .1)) (held r x t xl h);
-            lru = rw (fill-lru d s w tag r) (use-lru-below d (g .sized) s w sl wl r (g .sets r rl .lru));
+            lru = rw (fill-lru d s w tag r) (use-lru-below d s w (g .sized) sl wl r (g .sets r rl .lru));
           };
     }
 
@@ -214,11 +218,11 @@ module _ (d : Directory) (cd nw : Bool) where
       fewer-well-formed d _ g (record { tags = g .sized .tags; valid = g .sized .valid; lru = g .sized .lru })
       (λ r v tag rl vl h. h) (λ r rl. g .sets r rl .lru)
 
-  pub control-accepted : controlRefused cd nw ≡ false → controlCall d cd nw ≡ record { directory = afterControl d cd nw; number = 0 }
+  pub control-accepted : controlRefused cd nw ≡ false → controlCall d cd nw ≡ directoryResult (afterControl d cd nw) 0
   unfolding controlCall
   control-accepted e = cond-false _ _ _ e
 
-  pub control-refused : controlRefused cd nw ≡ true → controlCall d cd nw ≡ record { directory = d; number = 9 }
+  pub control-refused : controlRefused cd nw ≡ true → controlCall d cd nw ≡ directoryResult d 9
   unfolding controlCall
   control-refused e = cond-true _ _ _ e
 
@@ -261,51 +265,51 @@ unfolding afterSnoop
 snoop-on d a e = cond-false (d .nw) _ _ e
 
 module _ (d : Directory) (z : Sized d) (a : ℕ) where
-  abbrev gone : Found → Directory
-  gone f = invalidated d (setOf a) f
+  abbrev dropped : Found → Directory
+  dropped f = invalidated d (setOf a) f
 
-  gone-held : (f : Found) → lookupOf d a ≡ f → (r v t : ℕ) → v < 4 → Held (gone f) r v t → Held d r v t
+  dropped-held : (f : Found) → lookupOf d a ≡ f → (r v t : ℕ) → v < 4 → Held (dropped f) r v t → Held d r v t
   unfolding invalidated
-  gone-held (At w) e r v t vl h =
+  dropped-held (At w) e r v t vl h =
       let wl = lookup-at d a w e .0 in
       same-line (setOf a) w r v wl vl _
       (λ m. absurd (differ (h .0) (rw (m .0, m .1) (stored-line (d .valid) false false (setOf a) w (z .valid) (omega arith) wl))))
       (λ n. (sym (stored-other (setOf a) w r v wl vl (d .valid) false false n) ∙ h .0, h .1))
-  gone-held Nothing e r v t vl h = h
+  dropped-held Nothing e r v t vl h = h
 
-  gone-kept : (f : Found) → lookupOf d a ≡ f → (r v t : ℕ) → v < 4 → (Same r t (setOf a) (tagOf a) → ⊥) → Held d r v t → Held (gone f) r v t
+  dropped-kept : (f : Found) → lookupOf d a ≡ f → (r v t : ℕ) → v < 4 → (Same r t (setOf a) (tagOf a) → ⊥) → Held d r v t → Held (dropped f) r v t
   unfolding invalidated
-  gone-kept (At w) e r v t vl n h =
+  dropped-kept (At w) e r v t vl n h =
       let k = lookup-at d a w e in
       let o : Same r v (setOf a) w → ⊥ = λ m. n (m .0, sym (h .1) ∙ rw (m .0, m .1) (k .1 .1)) in
       (stored-other (setOf a) w r v (k .0) vl (d .valid) false false o ∙ h .0, h .1)
-  gone-kept Nothing e r v t vl n h = h
+  dropped-kept Nothing e r v t vl n h = h
 
-  gone-none : GoodSet d (setOf a) → (f : Found) → lookupOf d a ≡ f → (v : ℕ) → v < 4 → Held (gone f) (setOf a) v (tagOf a) → ⊥
+  dropped-none : GoodSet d (setOf a) → (f : Found) → lookupOf d a ≡ f → (v : ℕ) → v < 4 → Held (dropped f) (setOf a) v (tagOf a) → ⊥
   unfolding invalidated
-  gone-none g (At w) e v vl h =
+  dropped-none g (At w) e v vl h =
       let k = lookup-at d a w e in
-      let j : v ≡ w = g .apart v w (tagOf a) vl (k .0) (gone-held (At w) e (setOf a) v (tagOf a) vl h) (k .1) in
+      let j : v ≡ w = g .apart v w (tagOf a) vl (k .0) (dropped-held (At w) e (setOf a) v (tagOf a) vl h) (k .1) in
       differ (h .0) (rw j (stored-line (d .valid) false false (setOf a) w (z .valid) (omega arith) (k .0)))
-  gone-none g Nothing e v vl h = lookup-nothing d a e v vl h
+  dropped-none g Nothing e v vl h = lookup-nothing d a e v vl h
 
-  gone-control : (f : Found) → (gone f .cd ≡ d .cd) × (gone f .nw ≡ d .nw)
+  dropped-control : (f : Found) → (dropped f .cd ≡ d .cd) × (dropped f .nw ≡ d .nw)
   unfolding invalidated
-  gone-control (At w) = (refl, refl)
-  gone-control Nothing = (refl, refl)
+  dropped-control (At w) = (refl, refl)
+  dropped-control Nothing = (refl, refl)
 
-  gone-sized : (f : Found) → Sized (gone f)
+  dropped-sized : (f : Found) → Sized (dropped f)
   unfolding invalidated
-  gone-sized (At w) = record { tags = z .tags; valid = rw length-set (z .valid); lru = z .lru }
-  gone-sized Nothing = z
+  dropped-sized (At w) = record { tags = z .tags; valid = rw length-set (z .valid); lru = z .lru }
+  dropped-sized Nothing = z
 
-  gone-lru : (f : Found) (r : ℕ) → lruAt (gone f) r ≡ lruAt d r
+  dropped-lru : (f : Found) (r : ℕ) → lruAt (dropped f) r ≡ lruAt d r
   unfolding invalidated
-  gone-lru (At w) r = refl
-  gone-lru Nothing r = refl
+  dropped-lru (At w) r = refl
+  dropped-lru Nothing r = refl
 
   -- what holds of the directory, and of the directory without the line of the address, holds after a snoop
-  by-nw : (P : Directory → Type 0) → (d .nw ≡ true → P d) → (d .nw ≡ false → P (gone (lookupOf d a))) → P (afterSnoop d a)
+  by-nw : (P : Directory → Type 0) → (d .nw ≡ true → P d) → (d .nw ≡ false → P (dropped (lookupOf d a))) → P (afterSnoop d a)
   by-nw P p q =
       by-test (λ b. d .nw ≡ b → P (afterSnoop d a)) (d .nw)
       (λ _ e. rw (snoop-off d a e) (p e))
@@ -314,21 +318,18 @@ module _ (d : Directory) (z : Sized d) (a : ℕ) where
 
   -- a line that is held after a snoop was held before
   pub snoop-held : (r v t : ℕ) → v < 4 → Held (afterSnoop d a) r v t → Held d r v t
-  snoop-held r v t vl = by-nw (λ x. Held x r v t → Held d r v t) (λ _ h. h) (λ _. gone-held _ refl r v t vl)
+  snoop-held r v t vl = by-nw (λ x. Held x r v t → Held d r v t) (λ _ h. h) (λ _. dropped-held _ refl r v t vl)
 
   -- a line of another address stays held
   pub snoop-kept : (r v t : ℕ) → v < 4 → (Same r t (setOf a) (tagOf a) → ⊥) → Held d r v t → Held (afterSnoop d a) r v t
-  snoop-kept r v t vl n = by-nw (λ x. Held d r v t → Held x r v t) (λ _ h. h) (λ _. gone-kept _ refl r v t vl n)
-
-  pub snoop-lru : (r : ℕ) → lruAt (afterSnoop d a) r ≡ lruAt d r
-  snoop-lru r = by-nw (λ x. lruAt x r ≡ lruAt d r) (λ _. refl) (λ _. gone-lru _ r)
+  snoop-kept r v t vl n = by-nw (λ x. Held d r v t → Held x r v t) (λ _ h. h) (λ _. dropped-kept _ refl r v t vl n)
 
   pub snoop-control : (afterSnoop d a .cd ≡ d .cd) × (afterSnoop d a .nw ≡ d .nw)
-  snoop-control = by-nw (λ x. (x .cd ≡ d .cd) × (x .nw ≡ d .nw)) (λ _. (refl, refl)) (λ _. gone-control _)
+  snoop-control = by-nw (λ x. (x .cd ≡ d .cd) × (x .nw ≡ d .nw)) (λ _. (refl, refl)) (λ _. dropped-control _)
 
   -- with NW = 0 no way holds a snooped address
   pub snoop-none : GoodSet d (setOf a) → d .nw ≡ false → (v : ℕ) → v < 4 → Held (afterSnoop d a) (setOf a) v (tagOf a) → ⊥
-  snoop-none g e v vl h = gone-none g _ refl v vl (rw (snoop-on d a e) at h)
+  snoop-none g e v vl h = dropped-none g _ refl v vl (rw (snoop-on d a e) at h)
 
   pub snoop-lookup : GoodSet d (setOf a) → d .nw ≡ false → lookupOf (afterSnoop d a) a ≡ Nothing
   snoop-lookup g e = none-lookup (afterSnoop d a) a (snoop-none g e)
@@ -337,25 +338,16 @@ pub snoop-well-formed : (d : Directory) → WellFormed d → (a : ℕ) → WellF
 snoop-well-formed d g a =
     by-nw d (g .sized) a WellFormed (λ _. g)
     (λ _.
-    fewer-well-formed d _ g (gone-sized d (g .sized) a _)
-    (λ r v t rl vl h. gone-held d (g .sized) a _ refl r v t vl h)
-    (λ r rl. rw (gone-lru d (g .sized) a _ r) (g .sets r rl .lru)))
-
--- STATE NUMBERS
-
--- a set meets no number exactly where it is good
-pub state-zero-good : (d : Directory) (s : ℕ) → stateOf d s ≡ 0 → GoodSet d s
-state-zero-good = state-good
-
-pub good-state-zero : (d : Directory) (s : ℕ) → GoodSet d s → stateOf d s ≡ 0
-good-state-zero = good-state
+    fewer-well-formed d _ g (dropped-sized d (g .sized) a _)
+    (λ r v t rl vl h. dropped-held d (g .sized) a _ refl r v t vl h)
+    (λ r rl. rw (dropped-lru d (g .sized) a _ r) (g .sets r rl .lru)))
 
 -- a snoop call is refused for the state of its set, and else accepted
 module _ (d : Directory) (a : ℕ) where
-  pub snoop-accepted : stateOf d (setOf a) ≡ 0 → snoopCall d a ≡ record { directory = afterSnoop d a; number = 0 }
+  pub snoop-accepted : stateNumberOf d (setOf a) ≡ 0 → snoopCall d a ≡ directoryResult (afterSnoop d a) 0
   unfolding snoopCall
   snoop-accepted e = cond-true _ _ _ (eq-eqb _ 0 e)
 
-  pub snoop-refused : (stateOf d (setOf a) ≡ 0 → ⊥) → snoopCall d a ≡ record { directory = d; number = stateOf d (setOf a) }
+  pub snoop-refused : (stateNumberOf d (setOf a) ≡ 0 → ⊥) → snoopCall d a ≡ directoryResult d (stateNumberOf d (setOf a))
   unfolding snoopCall
   snoop-refused n = cond-false _ _ _ (ne-eqb _ 0 n)

@@ -7,7 +7,7 @@ use lib.ListN.{set}
 use Rattle.directory.specs.declared.steps.Directory.{Directory}
 use Rattle.ways.specs.declared.ways.Found.the-variants.{At, Nothing}
 use Rattle.ways.specs.Address.{setOf, lineIndex}
-use Rattle.ways.specs.State.{stateIn}
+use Rattle.ways.specs.State.{stateNumberIn}
 use Rattle.directory.specs.Steps.{directoryOf, directoryResult, afterSnoop, invalidated, snoopCall}
 use Rattle.ways.specs.Ways.{lookupIn}
 use Rattle.directory.proofs.Laws.{snoop-off, snoop-on, snoop-accepted, snoop-refused}
@@ -29,9 +29,9 @@ module _ (tags : List ℕ) (valid : List Bool) (lru : List ℕ) (cd nw : Bool) (
     invalidate-at s w es e = sym (snoop-on d a on ∙ rw (e, es))
 
   -- the snoop call by the number of the set's state
-  module _ (n s : ℕ) (es : s ≡ setOf a) (en : n ≡ stateIn tags valid lru s) where
-    number-is : n ≡ stateIn tags valid lru (setOf a)
-    number-is = en ∙ ap (stateIn tags valid lru) es
+  module _ (n s : ℕ) (es : s ≡ setOf a) (en : n ≡ stateNumberIn tags valid lru s) where
+    number-is : n ≡ stateNumberIn tags valid lru (setOf a)
+    number-is = en ∙ ap (stateNumberIn tags valid lru) es
 
     pub snoop-refused-in-place : (n ≡ 0 → ⊥) → directoryResult d n ≡ snoopCall d a
     snoop-refused-in-place h = ap (directoryResult d) number-is ∙ sym (snoop-refused d a (λ z. h (number-is ∙ z)))

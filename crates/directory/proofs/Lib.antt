@@ -1,5 +1,5 @@
--- Laws that several proofs cite. A crate above works from `Laws`; the others are their proofs.
+-- Laws that several proofs cite. A crate above works from `Laws` and `SetState`; the others are their proofs.
 mod Lines
-mod SetState
+pub mod SetState
 pub mod Laws
 mod Lent

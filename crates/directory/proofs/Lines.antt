@@ -1,4 +1,4 @@
--- What the steps do to single lines and LRU numbers.
+-- What a store does to single lines, and what fewer lines keep well formed.
 use Prim.Native.Nat.{ℕ, _≤_, _<_}
 use mathlib.Core.Path.{_≡_}
 use mathlib.Core.List.{List}
@@ -7,11 +7,9 @@ use lib.ListN.{length, getD, set}
 use lib.Seq.{getD-set-same, getD-set-other}
 use Rattle.directory.specs.declared.steps.Directory.{Directory}
 use Rattle.ways.specs.Address.{lineIndex}
-use Rattle.ways.specs.Lru.{lruAfter}
-use Rattle.directory.specs.Steps.{lruAt, afterUse}
+use Rattle.directory.specs.Steps.{lruAt}
 use Rattle.directory.specs.WellFormed.{Held, Same, Sized, WellFormed}
 use Rattle.laws.proofs.Tests.{same-or}
-use Rattle.ways.proofs.FourWays.{lru-after-below}
 
 -- a line is named by one set and one way
 module _ (s w r v : ℕ) (wl : w < 4) (vl : v < 4) where
@@ -35,25 +33,10 @@ module _ (s w r v : ℕ) (wl : w < 4) (vl : v < 4) where
     pub stored-other : (Same r v s w → ⊥) → getD (set l (lineIndex s w) x) (lineIndex r v) z ≡ getD l (lineIndex r v) z
     stored-other n = let o = line-other n in rw getD-set-other
 
--- and the stored line the new one
+-- the stored line has the new element
 pub stored-line : {A : Type 0} (l : List A) (x z : A) (s w : ℕ) → length l ≡ 512 → s < 128 → w < 4 →
     getD (set l (lineIndex s w) x) (lineIndex s w) z ≡ x
 stored-line l x z s w e sl wl = let i : lineIndex s w < length l = rw e (omega arith) in rw getD-set-same
-
--- a set's LRU number after a use of one of its ways, or of another set's
-pub use-lru-here : (d : Directory) → Sized d → (s w : ℕ) → s < 128 → lruAt (afterUse d s w) s ≡ lruAfter (lruAt d s) w
-unfolding afterUse
-use-lru-here d z s w sl = let l : s < length (d .lru) = rw (z .lru) sl in rw getD-set-same
-
-pub use-lru-apart : (d : Directory) (s w r : ℕ) → (r ≡ s → ⊥) → lruAt (afterUse d s w) r ≡ lruAt d r
-unfolding afterUse
-use-lru-apart d s w r n = rw getD-set-other
-
-pub use-lru-below : (d : Directory) → Sized d → (s w : ℕ) → s < 128 → w < 4 → (r : ℕ) → lruAt d r ≤ 7 → lruAt (afterUse d s w) r ≤ 7
-use-lru-below d z s w sl wl r h =
-    same-or _ r s
-    (λ e. let k = lru-after-below (lruAt d s) w wl in rw (e, use-lru-here d z s w sl) (omega arith))
-    (λ n. rw (use-lru-apart d s w r n) h)
 
 -- a directory that holds no line which a well-formed one doesn't, with LRU numbers up to 7, is well formed
 pub fewer-well-formed :

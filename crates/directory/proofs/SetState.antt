@@ -6,8 +6,8 @@ use native.Mathlib.Omega.{arith}
 use lib.Dec.{ltb}
 use borrow.Author.Tests.{eqb-true, eq-eqb, ltb-true, ltb-false, le-ltb}
 use Rattle.directory.specs.declared.steps.Directory.{Directory}
-use Rattle.ways.specs.State.{samePair, sameTags, tagAbove, tagsAbove, firstNumber, stateIn}
-use Rattle.directory.specs.Steps.{validAt, tagAt, lruAt, stateOf}
+use Rattle.ways.specs.State.{samePair, sameTags, tagAbove, tagsAbove, firstNumber, stateNumberIn}
+use Rattle.directory.specs.Steps.{validAt, tagAt, lruAt, stateNumberOf}
 use Rattle.directory.specs.WellFormed.{Held, GoodSet}
 use Rattle.laws.proofs.Below.{four}
 use Rattle.laws.proofs.Tests.{both, neither, refuted, differ}
@@ -72,9 +72,9 @@ module _ (d : Directory) (s : ℕ) where
       (λ o. differ (held-pair w v tag h k) (apart-pairs e w v o m))
       (λ o. differ (held-pair v w tag k h) (apart-pairs e v w o l))
 
-  pub state-good : stateOf d s ≡ 0 → GoodSet d s
-  unfolding stateIn tagsAbove
-  state-good e =
+  pub state-zero-good : stateNumberOf d s ≡ 0 → GoodSet d s
+  unfolding stateNumberIn tagsAbove
+  state-zero-good e =
       let n = number-zero _ _ (lruAt d s) e in
       let t3 = neither _ (above 3) (n .1) in
       let t2 = neither _ (above 2) (t3 .0) in
@@ -85,9 +85,9 @@ module _ (d : Directory) (s : ℕ) where
         lru = n .2;
       }
 
-  pub good-state : GoodSet d s → stateOf d s ≡ 0
-  unfolding stateIn firstNumber sameTags tagsAbove
-  good-state g =
+  pub good-state-zero : GoodSet d s → stateNumberOf d s ≡ 0
+  unfolding stateNumberIn firstNumber sameTags tagsAbove
+  good-state-zero g =
       let same : (w v : ℕ) → w < v → v < 4 → pair w v ≡ false =
       λ w v l m. refuted _ λ e. let p = pair-held w v e in let k = g .apart w v _ (omega arith) m (p .0) (p .1) in omega arith in
       let low : (w : ℕ) → w < 4 → above w ≡ false = λ w l. tag-above w λ tag. g .tags w tag l in

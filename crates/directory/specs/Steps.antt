@@ -11,7 +11,7 @@ use Rattle.ways.specs.declared.ways.Found.the-variants.{At, Nothing}
 use Rattle.ways.specs.Address.{setOf, lineIndex}
 use Rattle.ways.specs.Lru.{lruAfter}
 use Rattle.ways.specs.Ways.{validIn, tagIn, lookupIn, victimIn}
-use Rattle.ways.specs.State.{stateIn}
+use Rattle.ways.specs.State.{stateNumberIn}
 
 -- "The directory holds 512 tags, 512 valid marks and 128 LRU numbers, with CD and NW.": a directory of these.
 abbrev pub directoryOf : List ℕ → List Bool → List ℕ → Bool → Bool → Directory
@@ -37,8 +37,8 @@ lookupOf d address = lookupIn (d .tags) (d .valid) address
 abbrev pub victimOf : Directory → ℕ → ℕ
 victimOf d s = victimIn (d .valid) (d .lru) s
 
-abbrev pub stateOf : Directory → ℕ → ℕ
-stateOf d s = stateIn (d .tags) (d .valid) (d .lru) s
+abbrev pub stateNumberOf : Directory → ℕ → ℕ
+stateNumberOf d s = stateNumberIn (d .tags) (d .valid) (d .lru) s
 
 -- A use of a way changes the LRU number of its set. "Read hits, write hits and kept fills are uses". (001, 002)
 unfoldable pub afterUse : Directory → ℕ → ℕ → Directory
@@ -86,8 +86,8 @@ controlRefused cd nw = not cd && nw
 unfoldable pub controlCall : Directory → Bool → Bool → DirectoryResult
 controlCall d cd nw =
     cond (controlRefused cd nw)
-    (record { directory = d; number = 9 })
-    (record { directory = afterControl d cd nw; number = 0 })
+    (directoryResult d 9)
+    (directoryResult (afterControl d cd nw) 0)
 
 -- "A flush (FLUSH#, INVD and WBINVD alike) clears valid marks and nothing else (H)."
 unfoldable pub afterFlush : Directory → Directory
@@ -119,6 +119,6 @@ afterSnoop d address = cond (d .nw) d (invalidated d (setOf address) (lookupOf d
 -- A snoop is turned away because of the state of its set, whatever NW is.
 unfoldable pub snoopCall : Directory → ℕ → DirectoryResult
 snoopCall d address =
-    cond (eqb (stateOf d (setOf address)) 0)
-    (record { directory = afterSnoop d address; number = 0 })
-    (record { directory = d; number = stateOf d (setOf address) })
+    cond (eqb (stateNumberOf d (setOf address)) 0)
+    (directoryResult (afterSnoop d address) 0)
+    (directoryResult d (stateNumberOf d (setOf address)))

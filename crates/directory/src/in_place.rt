@@ -34,9 +34,9 @@ pub fn fill_in_place(
     ensures { λ _. ⌜ ((cd nw : Bool) → directoryOf (now (tags .exit)) (now (valid .exit)) (now (lru .exit)) cd nw
         ≡ afterFill (directoryOf (now (tags .entry)) (now (valid .entry)) (now (lru .entry)) cd nw) set way tag) ⌝ }
 {
-    let line = set * 4 + way;
-    tags[line] = tag;
-    valid[line] = true;
+    let index = set * 4 + way;
+    tags[index] = tag;
+    valid[index] = true;
     use_in_place(lru, set, way);
 }
 
@@ -63,8 +63,8 @@ pub fn invalidate_in_place<'a>(
     let Found::At(way) = lookup(tags, valid, address) else {
         return;
     };
-    let line = set_of(address) * 4 + way;
-    valid[line] = false;
+    let index = set_of(address) * 4 + way;
+    valid[index] = false;
 }
 
 // The snoop call: the state of the address's set is checked first, whatever NW is.

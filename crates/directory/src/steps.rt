@@ -56,9 +56,9 @@ impl Directory {
         requires { ⌜ (set < 128) × (way < 4) ⌝ }
         ensures { λ r. ⌜ r ≡ afterFill self set way tag ⌝ }
     {
-        let line = set * 4 + way;
-        self.tags[line] = tag;
-        self.valid[line] = true;
+        let index = set * 4 + way;
+        self.tags[index] = tag;
+        self.valid[index] = true;
         self.used(set, way)
     }
 
@@ -88,8 +88,8 @@ impl Directory {
         let Found::At(way) = lookup(&self.tags, &self.valid, address) else {
             return self;
         };
-        let line = set_of(address) * 4 + way;
-        self.valid[line] = false;
+        let index = set_of(address) * 4 + way;
+        self.valid[index] = false;
         self
     }
 

@@ -22,10 +22,10 @@ fn control_row(cd: bool, nw: bool) {
     label(b"control");
     flag(cd);
     flag(nw);
-    let answer = Directory::reset().control(cd, nw);
-    number(answer.number as u64);
-    flag(answer.directory.cd);
-    flag(answer.directory.nw);
+    let result = Directory::reset().control(cd, nw);
+    number(result.number as u64);
+    flag(result.directory.cd);
+    flag(result.directory.nw);
     end_row();
 }
 
@@ -41,9 +41,9 @@ fn snoop_row(cd: bool, nw: bool) {
     label(b"snoop");
     flag(cd);
     flag(nw);
-    let answer = two_lines(cd, nw).snoop(address(7, 11));
-    number(answer.number as u64);
-    let d = answer.directory;
+    let result = two_lines(cd, nw).snoop(address(7, 11));
+    number(result.number as u64);
+    let d = result.directory;
     flag(is_held(d, address(7, 11)));
     flag(is_held(d, address(9, 0)));
     end_row();

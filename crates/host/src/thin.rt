@@ -1,12 +1,12 @@
 // The one call on a directory by `&mut`; its proof is by hand, since the prover walks no reference to a struct by itself.
 ghost use mathlib.Core.Path.{_≡_};
-ghost use Rattle.directory.specs.Steps.{snoopCall};
+ghost use Rattle.directory.specs.Steps.{directoryResult, snoopCall};
 use directory::Directory;
 
 // The thin call: drops one snooped line of the directory in the caller's hands, and answers the snoop's number.
 #[no_mangle]
 pub extern "C" fn unit486_drop_line(directory: &mut Directory, address: u32) -> u32
-    ensures { λ r. ⌜ record { directory = now (directory .exit); number = r } ≡ snoopCall (now (directory .entry)) address ⌝ }
+    ensures { λ r. ⌜ directoryResult (now (directory .exit)) r ≡ snoopCall (now (directory .entry)) address ⌝ }
 {
     let given = *directory;
     let result = given.snoop(address);

@@ -1,8 +1,8 @@
 -- Laws of parity bits, and of the loops over bytes with their parity.
 use Prim.Native.Nat.{ℕ, zero, suc, _+_, _*_, _-_, _%_, _/_, _^_, _≤_, _<_}
-use mathlib.Core.Path.{_≡_, sym, _∙_, ap}
+use mathlib.Core.Path.{_≡_, refl, sym, _∙_, ap}
 use mathlib.Core.Bool.{Bool, true, false, not, _&&_, _||_, or-assoc}
-use mathlib.Core.List.{List}
+use mathlib.Core.List.{List, [], _∷_}
 use native.Mathlib.Omega.{arith}
 use native.Mathlib.Nat.{add-zero, pow-suc}
 use lib.Count.{ones, ones-step}
@@ -31,6 +31,15 @@ dp-below b = omega arith
 pub put-lengths : (m : Memory) (a b : ℕ) → (length (put m a b .ram) ≡ length (m .ram)) × (length (put m a b .parity) ≡ length (m .parity))
 unfolding put
 put-lengths m a b = (length-set (m .ram) a b, length-set (m .parity) (a / 4) _)
+
+-- bytes stored leave the lengths
+pub stored-lengths : (m : Memory) (a : ℕ) (bytes : List ℕ) → (length (stored m a bytes .ram) ≡ length (m .ram)) × (length (stored m a bytes .parity) ≡ length (m .parity))
+unfolding stored
+stored-lengths m a [] = (refl, refl)
+stored-lengths m a (b ∷ bytes) =
+    let k = stored-lengths (put m a b) (suc a) bytes in
+    let e = put-lengths m a b in
+    (k .0 ∙ e .0, k .1 ∙ e .1)
 
 -- a store goes on: the k-th byte is put, the others are left to put
 pub store-next : (src : List ℕ) (m : Memory) (s a n k : ℕ) → k < n →

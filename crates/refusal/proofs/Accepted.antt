@@ -18,7 +18,7 @@ or-zero a b e =
     (λ z. (z, sym (cond-true _ _ _ (eq-eqb a 0 z)) ∙ e))
     (λ n. absurd (n (sym (cond-false _ _ _ (ne-eqb a 0 n)) ∙ e)))
 
--- where both are 0, so is the first that is met
+-- where the first is not met, the second counts; where it is, it alone
 pub zero-or : (a b : ℕ) → a ≡ 0 → orElse a b ≡ b
 zero-or a b z = cond-true _ _ _ (eq-eqb a 0 z)
 

@@ -13,12 +13,12 @@ use borrow.Author.Tests.{ltb-true, ltb-false, lt-ltb, le-ltb}
 use Rattle.laws.proofs.Tests.{by-test}
 use Rattle.refusal.specs.Refusal.{anyAbove}
 
--- one answer more is looked at,
+-- the k-th answer is looked at, the others are left
 pub above-step : (limit : ℕ) (l : List ℕ) (k : ℕ) (above : Bool) → k < length l → (above || ltb limit (getD l k 0) || anyAbove limit (drop (k + 1) l)) ≡ (above || anyAbove limit (drop k l))
 unfolding anyAbove
 above-step limit l k above h = rw (add-one k, drop-cons l k 0, or-assoc)
 
--- and none is left
+-- no answer is left
 pub above-end : (limit : ℕ) (l : List ℕ) (k : ℕ) (above : Bool) → length l ≤ k → (above || anyAbove limit (drop k l)) ≡ above
 unfolding anyAbove
 above-end limit l k above h = rw (drop-of-length-le l h) (or-false above)

@@ -6,7 +6,7 @@ use lib.Dec.{eqb, ltb}
 use lib.ListN.{length}
 use Rattle.directory.specs.declared.steps.Directory.{Directory}
 use Rattle.ways.specs.Address.{setOf}
-use Rattle.ways.specs.State.{stateIn}
+use Rattle.ways.specs.State.{stateNumberIn}
 use Rattle.bus.specs.Groups.{groupSize, groupCount}
 
 -- A number where a test holds; and "Lowest number first": the first of two that is met.
@@ -73,10 +73,10 @@ externalNumber ram address n =
     when (eqb n 0 || ltb 16 n || ltb 16 (address % 16 + n) || ltb ram (address + n)) 10
 
 -- "Checked in every touched set, the lower address's set first": of the first and the last byte of an access. "All of one set comes before the next set."
-unfoldable pub statesIn : List ℕ → List Bool → List ℕ → ℕ → ℕ → ℕ
-statesIn tags valid lru address n =
-    orElse (stateIn tags valid lru (setOf address)) (stateIn tags valid lru (setOf (address + n - 1)))
+unfoldable pub statesNumberIn : List ℕ → List Bool → List ℕ → ℕ → ℕ → ℕ
+statesNumberIn tags valid lru address n =
+    orElse (stateNumberIn tags valid lru (setOf address)) (stateNumberIn tags valid lru (setOf (address + n - 1)))
 
 -- The same, of a directory.
-abbrev pub statesOf : Directory → ℕ → ℕ → ℕ
-statesOf d address n = statesIn (d .tags) (d .valid) (d .lru) address n
+abbrev pub statesNumberOf : Directory → ℕ → ℕ → ℕ
+statesNumberOf d address n = statesNumberIn (d .tags) (d .valid) (d .lru) address n

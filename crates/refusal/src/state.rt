@@ -2,7 +2,7 @@
 ghost use mathlib.Core.Path.{_≡_};
 ghost use Prim.Native.Nat.{_+_, _-_, _<_};
 ghost use Rattle.ways.specs.Address.{setOf};
-ghost use Rattle.refusal.specs.Refusal.{statesIn};
+ghost use Rattle.refusal.specs.Refusal.{statesNumberIn};
 
 // The set of the last of so many bytes.
 fn last_set(address: u32, count: u32) -> usize
@@ -21,7 +21,7 @@ pub fn states_number<'a>(
     address: u32,
     count: u32,
 ) -> u32
-    ensures { λ r. ⌜ r ≡ statesIn (now (tags .entry)) (now (valid .entry)) (now (lru .entry)) address count ⌝ }
+    ensures { λ r. ⌜ r ≡ statesNumberIn (now (tags .entry)) (now (valid .entry)) (now (lru .entry)) address count ⌝ }
 {
     let first = ways::set_of(address);
     let last = last_set(address, count);

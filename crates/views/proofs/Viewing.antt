@@ -12,7 +12,7 @@ use Rattle.laws.proofs.Tests.{cond-true, cond-false, by-test}
 use Rattle.ways.specs.declared.ways.Found.{Found}
 use Rattle.ways.specs.declared.ways.Found.the-variants.{At, Nothing}
 use Rattle.ways.specs.Address.{setOf}
-use Rattle.ways.specs.State.{stateIn}
+use Rattle.ways.specs.State.{stateNumberIn}
 use Rattle.ways.specs.Ways.{lookupIn}
 use Rattle.words.specs.Bytes.{bytesAt}
 use Rattle.doubleword.specs.Doubleword.{dataOffset}
@@ -44,7 +44,7 @@ empty-at p = let e : 0 + p .1 ≡ p .1 = omega arith in ap (λ (o : ℕ). (p .0,
 module _ (tags : List ℕ) (valid : List Bool) (lru : List ℕ) (ram array address n : ℕ) (en : n ≡ viewNumberIn tags valid lru ram array address) (z : n ≡ 0) where
   good : GoodView ram array address
   unfolding viewNumberIn
-  good = view-accepted _ _ _ (or-zero (viewInputNumber ram array address) (stateIn tags valid lru (setOf address)) (sym en ∙ z) .0)
+  good = view-accepted _ _ _ (or-zero (viewInputNumber ram array address) (stateNumberIn tags valid lru (setOf address)) (sym en ∙ z) .0)
 
   pub data-inside : (offset : ℕ) → offset + 16 ≤ 8192 → offset + 16 ≤ array
   data-inside offset h = omega (arith, good .arrayLength)

@@ -8,7 +8,7 @@ use Rattle.ways.specs.declared.ways.Found.{Found}
 use Rattle.ways.specs.declared.ways.Found.the-variants.{At, Nothing}
 use Rattle.ways.specs.Address.{setOf}
 use Rattle.ways.specs.Ways.{lookupIn}
-use Rattle.ways.specs.State.{stateIn}
+use Rattle.ways.specs.State.{stateNumberIn}
 use Rattle.words.specs.Bytes.{bytesAt}
 use Rattle.doubleword.specs.Doubleword.{dataOffset}
 use Rattle.refusal.specs.Refusal.{orElse, viewInputNumber}
@@ -16,7 +16,7 @@ use Rattle.refusal.specs.Refusal.{orElse, viewInputNumber}
 -- "a companion question on the same inputs gives the view's number": 1, 3 and 5, then the state of its set.
 unfoldable pub viewNumberIn : List ℕ → List Bool → List ℕ → ℕ → ℕ → ℕ → ℕ
 viewNumberIn tags valid lru ram array address =
-    orElse (viewInputNumber ram array address) (stateIn tags valid lru (setOf address))
+    orElse (viewInputNumber ram array address) (stateNumberIn tags valid lru (setOf address))
 
 -- "A line view is a part of the data array where the line is held, otherwise a part of RAM, always the sixteen bytes around the address": for each case of a lookup's answer.
 unfoldable pub shown : Found → List ℕ → List ℕ → ℕ → List ℕ

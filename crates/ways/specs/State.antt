@@ -38,6 +38,6 @@ unfoldable pub firstNumber : Bool → Bool → ℕ → ℕ
 firstNumber same above lru = cond same 21 (cond above 22 (cond (ltb 7 lru) 23 0))
 
 -- The number of a set.
-unfoldable pub stateIn : List ℕ → List Bool → List ℕ → ℕ → ℕ
-stateIn tags valid lru set =
+unfoldable pub stateNumberIn : List ℕ → List Bool → List ℕ → ℕ → ℕ
+stateNumberIn tags valid lru set =
     firstNumber (sameTags tags valid set) (tagsAbove tags valid set) (getD lru set 0)

@@ -1,7 +1,7 @@
 // What is wrong with a set: the numbers 21 to 23.
 ghost use mathlib.Core.Path.{_≡_};
 ghost use Prim.Native.Nat.{_<_};
-ghost use Rattle.ways.specs.State.{firstNumber, samePair, sameTags, stateIn, tagAbove, tagsAbove};
+ghost use Rattle.ways.specs.State.{firstNumber, samePair, sameTags, stateNumberIn, tagAbove, tagsAbove};
 
 // Whether two ways of a set are valid and have one tag.
 fn same_pair<'a>(
@@ -14,9 +14,9 @@ fn same_pair<'a>(
     requires { ⌜ (set < 128) × (way < 4) × (other < 4) ⌝ }
     ensures { λ r. ⌜ r ≡ samePair (now (tags .entry)) (now (valid .entry)) set way other ⌝ }
 {
-    let line = set * 4 + way;
-    let line2 = set * 4 + other;
-    valid[line] & valid[line2] & (tags[line] == tags[line2])
+    let index = set * 4 + way;
+    let other_index = set * 4 + other;
+    valid[index] & valid[other_index] & (tags[index] == tags[other_index])
 }
 
 fn same_tags<'a>(tags: &'a [u32; 512], valid: &'a [bool; 512], set: usize) -> bool
@@ -36,8 +36,8 @@ fn tag_above<'a>(tags: &'a [u32; 512], valid: &'a [bool; 512], set: usize, way: 
     requires { ⌜ (set < 128) × (way < 4) ⌝ }
     ensures { λ r. ⌜ r ≡ tagAbove (now (tags .entry)) (now (valid .entry)) set way ⌝ }
 {
-    let line = set * 4 + way;
-    valid[line] & (2097151 < tags[line])
+    let index = set * 4 + way;
+    valid[index] & (2097151 < tags[index])
 }
 
 fn tags_above<'a>(tags: &'a [u32; 512], valid: &'a [bool; 512], set: usize) -> bool
@@ -73,7 +73,7 @@ pub fn state_number<'a>(
     set: usize,
 ) -> u32
     requires { ⌜ set < 128 ⌝ }
-    ensures { λ r. ⌜ r ≡ stateIn (now (tags .entry)) (now (valid .entry)) (now (lru .entry)) set ⌝ }
+    ensures { λ r. ⌜ r ≡ stateNumberIn (now (tags .entry)) (now (valid .entry)) (now (lru .entry)) set ⌝ }
 {
     first_number(
         same_tags(tags, valid, set),

@@ -52,8 +52,8 @@ fn holds_tag<'a>(
     requires { ⌜ (set < 128) × (way < 4) ⌝ }
     ensures { λ r. ⌜ r ≡ holds (now (tags .entry)) (now (valid .entry)) set way tag ⌝ }
 {
-    let line = set * 4 + way;
-    valid[line] & (tags[line] == tag)
+    let index = set * 4 + way;
+    valid[index] & (tags[index] == tag)
 }
 
 // The way that holds the line of an address.
@@ -74,8 +74,8 @@ fn is_invalid(valid: &[bool; 512], set: usize, way: usize) -> bool
     requires { ⌜ (set < 128) × (way < 4) ⌝ }
     ensures { λ r. ⌜ r ≡ not (validIn (now (valid .entry)) set way) ⌝ }
 {
-    let line = set * 4 + way;
-    !valid[line]
+    let index = set * 4 + way;
+    !valid[index]
 }
 
 // The way of a set that a kept fill replaces.

@@ -1,4 +1,4 @@
-use Rattle.access.proofs.Calls.{needs-begin, read-input-refused, read-state-refused, read-done}
+use Rattle.access.proofs.Calls.{needs-begin, read-input-refused, read-state-refused, read-made}
 use Rattle.access_steps.proofs.Steps.{needs-lengths, needs-more, cursor-less, cursor-needs, cursor-steps}
 use Rattle.access.proofs.AccessLoop.{ReadInvariant, reading-begin, reading-next, keep-changed}
 use Rattle.access_steps.specs.AccessLoop.{accessBegin, restOf, AccessNeeds}
@@ -90,7 +90,7 @@ same-length-6 : tie.Need-same-length-6 Inv-loop μ-loop
 same-length-6 c = c .before .before .before .before .loop .inv .3
 
 returns-3 : tie.Need-returns-3 Inv-loop μ-loop
-returns-3 c = let a = c .before .before .before .before .before .before .before .before .before .before .before .before .before .before .before .before .before .before .before .before .before .args in read-done (a .t1) (memory (now (a .ram)) (now (a .parity))) (now (a .«data»)) (a .address) (a .width) (now (a .answers)) (now (a .log)) _ (c .before .before .before .before .before .before .before .before .before .before .before .before .before .input-number .ensures) (a .pcd) (c .before .before .before .before .before .before .before .before .before .before .before .before .if1 .left) _ (c .before .before .before .before .before .before .before .states-number .ensures) (c .before .before .before .before .before .before .if2 .left) _ _ _ _ _ _ (omega arith) (c .before .before .before .before .loop .inv .0) (c .before .word-of .ensures)
+returns-3 c = let a = c .before .before .before .before .before .before .before .before .before .before .before .before .before .before .before .before .before .before .before .before .before .args in read-made (a .t1) (memory (now (a .ram)) (now (a .parity))) (now (a .«data»)) (a .address) (a .width) (now (a .answers)) (now (a .log)) _ (c .before .before .before .before .before .before .before .before .before .before .before .before .before .input-number .ensures) (a .pcd) (c .before .before .before .before .before .before .before .before .before .before .before .before .if1 .left) _ (c .before .before .before .before .before .before .before .states-number .ensures) (c .before .before .before .before .before .before .if2 .left) _ _ _ _ _ _ (omega arith) (c .before .before .before .before .loop .inv .0) (c .before .word-of .ensures)
 
 pub read-spec : {M : Type 1} → statement M
 read-spec =

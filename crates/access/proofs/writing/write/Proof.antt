@@ -1,4 +1,4 @@
-use Rattle.access.proofs.Calls.{needs-begin, write-input-refused, write-later-refused, write-done}
+use Rattle.access.proofs.Calls.{needs-begin, write-input-refused, write-later-refused, write-made}
 use Rattle.access_steps.proofs.Steps.{needs-lengths, needs-more, cursor-less, cursor-needs, cursor-steps}
 use Rattle.access.proofs.AccessLoop.{AccessInvariant, access-invariant-begin, writing-next, keep-changed}
 use Rattle.access_steps.specs.AccessLoop.{accessBegin, restOf, AccessNeeds}
@@ -116,7 +116,7 @@ same-length-12 : tie.Need-same-length-12 Inv-loop μ-loop
 same-length-12 c = c .before .before .before .loop .inv .3
 
 returns-3 : tie.Need-returns-3 Inv-loop μ-loop
-returns-3 c = let a = c .before .before .before .before .before .before .before .before .before .before .before .before .before .before .before .before .before .before .before .before .before .before .before .before .before .args in write-done (a .t1) (memory (now (a .ram)) (now (a .parity))) (now (a .«data»)) (a .address) (a .width) (now (a .answers)) (now (a .log)) _ (c .before .before .before .before .before .before .before .before .before .before .before .before .before .before .before .input-number .ensures) (a .value) (c .before .before .before .before .before .before .before .before .before .before .before .before .before .before .if1 .left) _ _ _ (c .before .before .before .before .before .before .before .before .value-number .ensures) (c .before .before .before .before .before .before .before .before .before .states-number .ensures) (c .before .before .before .before .before .before .before .or-else .ensures) (c .before .before .before .before .before .before .if2 .left) _ _ _ _ _ (omega arith) (rw (c .before .before .before .before .before .bytes-of .ensures) at (c .before .before .before .loop .inv .0))
+returns-3 c = let a = c .before .before .before .before .before .before .before .before .before .before .before .before .before .before .before .before .before .before .before .before .before .before .before .before .before .args in write-made (a .t1) (memory (now (a .ram)) (now (a .parity))) (now (a .«data»)) (a .address) (a .width) (now (a .answers)) (now (a .log)) _ (c .before .before .before .before .before .before .before .before .before .before .before .before .before .before .before .input-number .ensures) (a .value) (c .before .before .before .before .before .before .before .before .before .before .before .before .before .before .if1 .left) _ _ _ (c .before .before .before .before .before .before .before .before .value-number .ensures) (c .before .before .before .before .before .before .before .before .before .states-number .ensures) (c .before .before .before .before .before .before .before .or-else .ensures) (c .before .before .before .before .before .before .if2 .left) _ _ _ _ _ (omega arith) (rw (c .before .before .before .before .before .bytes-of .ensures) at (c .before .before .before .loop .inv .0))
 
 pub write-spec : {M : Type 1} → statement M
 write-spec =

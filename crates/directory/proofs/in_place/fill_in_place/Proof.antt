@@ -3,11 +3,11 @@ use borrow.Author.Needs.{needs}
 use Rattle.directory.proofs.in_place.fill_in_place.Statement.{statement}
 use Rattle.directory.proofs.in_place.fill_in_place.Tie as tie
 
-mul-line : tie.Need-mul-line
-mul-line c = search needs
+mul-index : tie.Need-mul-index
+mul-index c = search needs
 
-add-line : tie.Need-add-line
-add-line c = search needs
+add-index : tie.Need-add-index
+add-index c = search needs
 
 mul-tags : tie.Need-mul-tags
 mul-tags c = search needs
@@ -29,8 +29,8 @@ pub fill-in-place-spec : {M : Type 1} → statement M
 fill-in-place-spec =
     tie.close
     (tie.spec
-    mul-line
-    add-line
+    mul-index
+    add-index
     mul-tags
     element-write-tags
     element-write-valid

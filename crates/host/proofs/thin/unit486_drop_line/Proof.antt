@@ -1,5 +1,5 @@
 -- A walk of the thin call's code by hand: the prover's own walk does not cover a struct behind `&mut`.
--- The borrow is opened and the directory behind it is copied for `snoop`. The answer's directory is stored behind the borrow, which is closed at it.
+-- The borrow is opened and the directory behind it is copied for `snoop`. The result's directory is stored behind the borrow, which is closed at it.
 -- Of `snoop` only its contract is known.
 use mathlib.Core.Path.{_≡_, refl, ap}
 use Prim.Native.Nat.{ℕ, _<_, _^_}
@@ -45,8 +45,8 @@ use Rattle.directory.specs.declared.steps.Directory.{Directory}
 use Rattle.directory.specs.declared.steps.DirectoryResult.{DirectoryResult}
 use Rattle.directory.proofs.steps.Directory as Dir
 use Rattle.directory.proofs.steps.Directory.Laws as Dir′
-use Rattle.directory.proofs.steps.DirectoryResult as Ans
-use Rattle.directory.proofs.steps.DirectoryResult.Laws as Ans′
+use Rattle.directory.proofs.steps.DirectoryResult as Res
+use Rattle.directory.proofs.steps.DirectoryResult.Laws as Res′
 use Rattle.directory.proofs.steps.Directory.snoop as snoop
 use Rattle.directory.proofs.steps.Directory.snoop.Symbol as snoop-def
 use Rattle.directory.proofs.steps.Directory.snoop.Symbol.{name as #snoop}
@@ -63,28 +63,28 @@ Arg = RefT Directory × (ℕ × Unit {0})
 abbrev stayed : Stays (drop′.ended .signature .params) (drop′.ended .kept)
 stayed = (stay-ref (0 ∷ []) tt (plain (λ _. Dir.the-row)), (stay-none (λ _. u32) yes, tt))
 
--- A directory and an answer as machine values, and that a machine value is theirs.
+-- A directory and a result as machine values, and that a machine value is theirs.
 abbrev dir-val : Directory → Val
 dir-val = LL.val Dir.the-type Dir′.the-laws
 
-abbrev ans-val : DirectoryResult → Val
-ans-val = LL.val Ans.the-type Ans′.the-laws
+abbrev res-val : DirectoryResult → Val
+res-val = LL.val Res.the-type Res′.the-laws
 
 abbrev IsDir : Directory → Type 0
 IsDir d = Is Dir.the-row d (dir-val d ∷ [])
 
-abbrev IsAns : DirectoryResult → Val → Type 0
-IsAns r v = Is Ans.the-row r (v ∷ [])
+abbrev IsRes : DirectoryResult → Val → Type 0
+IsRes r v = Is Res.the-row r (v ∷ [])
 
--- What a call that returned an answer leaves known of it.
-spelt-out : (r : DirectoryResult) (v : Val) → IsAns r v → v ≡ ans-val r
-spelt-out r v is = ap only (LL.tells Ans.the-type Ans′.the-laws r (v ∷ []) is)
+-- What a call that returned a result leaves known of it.
+spelt-out : (r : DirectoryResult) (v : Val) → IsRes r v → v ≡ res-val r
+spelt-out r v is = ap only (LL.tells Res.the-type Res′.the-laws r (v ∷ []) is)
 
-its-directory : (r : DirectoryResult) (v : Val) → IsAns r v → IsDir (r .directory)
-its-directory r v is = LL.owed Ans.the-type Ans′.the-laws r (v ∷ []) is .0
+its-directory : (r : DirectoryResult) (v : Val) → IsRes r v → IsDir (r .directory)
+its-directory r v is = LL.owed Res.the-type Res′.the-laws r (v ∷ []) is .0
 
-its-number : (r : DirectoryResult) (v : Val) → IsAns r v → r .number < 2 ^ 32
-its-number r v is = LL.owed Ans.the-type Ans′.the-laws r (v ∷ []) is .1 .0 .1
+its-number : (r : DirectoryResult) (v : Val) → IsRes r v → r .number < 2 ^ 32
+its-number r v is = LL.owed Res.the-type Res′.the-laws r (v ∷ []) is .1 .0 .1
 
 module _ {M : Type 1} (𝓤 : URA M) (H : Heap 𝓤) (A : Atoms 𝓤) (at-mem : Memory → SProp 𝓤) (run : Routine → Fun 𝓤) where
   abbrev Snoop : Contract 𝓤
@@ -109,7 +109,7 @@ module _ {M : Type 1} (𝓤 : URA M) (H : Heap 𝓤) (A : Atoms 𝓤) (W : Given
   abbrev Post : Val → SProp 𝓤
   Post = walkOf 𝓤 H A drop′.ended stayed (drop′.clauses 𝓤 H A at-mem run) .post (((κ, tt), (q, tt), tt, x, at), tt)
 
-  -- The exit, with the borrow closed at the answer's directory and the answer's number returned.
+  -- The exit, with the borrow closed at the result's directory and the result's number returned.
   exits : (r : DirectoryResult) → r ≡ snoopCall h n → r .number < 2 ^ 32 → n < 2 ^ 32
       → ent 𝓤 (sep 𝓤 (A .obs γ (Dir.the-row .coded .code (r .directory))) (sep 𝓤 (A .bor κ (Body (mem Dir.the-row) b o γ)) (A .lft κ q))) (Post (vint w32 (r .number)))
   exits r e fits-r fits-n =
@@ -129,12 +129,12 @@ module _ {M : Type 1} (𝓤 : URA M) (H : Heap 𝓤) (A : Atoms 𝓤) (W : Given
       qed W (‵ ftrue ∷ []) ∵ nothing ! $ owned ! u32 (Is u32) (uint-makes 𝓤 H A W w32) n _ (refl, fits) $ join ! $
       owned ! Dir.the-row (Is Dir.the-row) (LL.makes Dir.the-type Dir′.the-plain 𝓤 H A) h _ is $ join ! $ nothing ! $ join ! $ frame ! $ done !
 
-  -- What a store of a directory and of an answer asks.
+  -- What a store of a directory and of a result asks.
   dir-typed : (d : Directory) → IsDir d → Holds (hasTy Dir′.mir (dir-val d)) × WT (dir-val d)
   dir-typed d is = LL.lawful Dir.the-type Dir′.the-laws 𝓤 H A W .typed d _ is .0
 
-  ans-typed : (r : DirectoryResult) (v : Val) → IsAns r v → Holds (hasTy Ans′.mir v) × WT v
-  ans-typed r v is = LL.lawful Ans.the-type Ans′.the-laws 𝓤 H A W .typed r _ is .0
+  res-typed : (r : DirectoryResult) (v : Val) → IsRes r v → Holds (hasTy Res′.mir v) × WT v
+  res-typed r v is = LL.lawful Res.the-type Res′.the-laws 𝓤 H A W .typed r _ is .0
 
   module _ (C : Calls 𝓤 H) (Λ : Loops 𝓤 H) (fm : FmC 𝓤 H (W .laws) C) (known : Triple 𝓤 (C #snoop) (Snoop 𝓤 H A at-mem run)) where
     walk : ent 𝓤 (onEntry 𝓤 H A drop′.signature (κ, tt) (q, tt) x at) (WpFn 𝓤 H C Λ code.function (vptr b o ∷ vint w32 n ∷ []) Post)
@@ -147,24 +147,24 @@ module _ {M : Type 1} (𝓤 : URA M) (H : Heap 𝓤) (A : Atoms 𝓤) (W : Given
         move ! (10 ∷ 11 ∷ 12 ∷ []) $ opens ! tt Dir.the-row {h = h} b o (λ vs.
         spelt ! Dir.the-row (Is Dir.the-row) (shows 𝓤 H A Dir.the-row) (LL.vals Dir.the-type Dir′.the-laws) (LL.tells Dir.the-type Dir′.the-laws) fullShare h vs b o $
         move ! (1 ∷ []) $ facts ! Dir.the-row (Is Dir.the-row) (shows 𝓤 H A Dir.the-row) h (dir-val h ∷ []) (λ is.
-        -- [the directory's cell; the open borrow; obs; auth; answer; …; given; …; address; …; directory; …; result; …; true; true]
+        -- [the directory's cell; the open borrow; obs; auth; result; …; given; …; address; …; directory; …; the returned number; …; true; true]
         -- let given = *directory;
         assigns ! (of-opd ! (load ! (from ! (hop ! (look ! 10 refl) (stop !))) (look-raw ! 0 refl))) (from ! (stop !)) (init ! 6 refl (dir-typed h is)) $
-        -- let answer = given.snoop(address); its value is spelt out for the reads of its fields
+        -- let result = given.snoop(address); its value is spelt out for the reads of its fields
         use0 W (raw (Snoop 𝓤 H A at-mem run .pre to-snoop)) (asked is (gn .1)) $
         calls-at ! fm (Snoop 𝓤 H A at-mem run) known to-snoop (and-then ! (load ! (from ! (stop !)) (look ! 7 refl)) (and-then ! (load ! (from ! (stop !)) (look ! 9 refl)) (no-more !))) (λ v.
-        use1 W (later (some (λ (r : DirectoryResult). (‵ ftrue ⊛ ‵ (Ans.the-row .own r (v ∷ []))) ⊛ raw (Ensured 𝓤 H A at-mem run h n r)))) (id⊢ 𝓤 _) $ await ! tt $ pick ! (λ r.
+        use1 W (later (some (λ (r : DirectoryResult). (‵ ftrue ⊛ ‵ (Res.the-row .own r (v ∷ []))) ⊛ raw (Ensured 𝓤 H A at-mem run h n r)))) (id⊢ 𝓤 _) $ await ! tt $ pick ! (λ r.
         split ! $ move ! (1 ∷ []) $ use1 W (raw (fact 𝓤 (r ≡ snoopCall h n))) (snooped 𝓤 H A at-mem run h n r) $ heard ! (r ≡ snoopCall h n) (λ e. split ! $ drop ! $
-        facts ! Ans.the-row (Is Ans.the-row) (shows 𝓤 H A Ans.the-row) r (v ∷ []) (λ is′.
-        land ! (from ! (stop !)) (init ! 4 refl (ans-typed r v is′)) $ rewrite ! 4 (λ (u : Val). ‵ (fat fullShare Ans′.mir l₄ 0 u)) (spelt-out r v is′) refl $
-        -- *directory = answer.directory;
+        facts ! Res.the-row (Is Res.the-row) (shows 𝓤 H A Res.the-row) r (v ∷ []) (λ is′.
+        land ! (from ! (stop !)) (init ! 4 refl (res-typed r v is′)) $ rewrite ! 4 (λ (u : Val). ‵ (fat fullShare Res′.mir l₄ 0 u)) (spelt-out r v is′) refl $
+        -- *directory = result.directory;
         assigns ! (of-opd ! (load ! (from ! (fld ! refl (stop !))) (look-in ! 4 (sub ! 0 refl (whole !))))) (from ! (hop ! (look ! 10 refl) (stop !)))
         (store-raw ! 0 refl (dir-typed (r .directory) (its-directory r v is′))) $
-        -- answer.number
+        -- result.number
         assigns ! (of-opd ! (load ! (from ! (fld ! refl (stop !))) (look-in ! 4 (sub ! 1 refl (whole !))))) (from ! (stop !)) (init ! 12 refl (tt, record { fits = its-number r v is′ })) $
         owned ! Dir.the-row (Is Dir.the-row) (LL.makes Dir.the-type Dir′.the-plain 𝓤 H A) (r .directory) _ (its-directory r v is′) $ move ! (1 ∷ 0 ∷ []) $
         closes ! tt Dir.the-row (r .directory) (dir-val (r .directory) ∷ []) b o $
-        -- [obs; the borrow; the token; answer; …; given; …; address; …; directory; …; result; …; true; true]
+        -- [obs; the borrow; the token; result; …; given; …; address; …; directory; …; the returned number; …; true; true]
         returns ! (look ! 11 refl) $ forget ! 3 refl $ forget ! 5 refl $ forget ! 7 refl $ forget ! 9 refl $ forget ! 11 refl $
         move ! (11 ∷ 12 ∷ []) $ free1 ! $ move ! (9 ∷ 10 ∷ []) $ free1 ! $ move ! (7 ∷ 8 ∷ []) $ free1 ! $ move ! (5 ∷ 6 ∷ []) $ free1 ! $ move ! (3 ∷ 4 ∷ []) $ free1 ! $ free0 ! $
         keep ! (0 ∷ 1 ∷ 2 ∷ []) $ by ! (exits r e (its-number r v is′) (gn .1))))))))))))))

@@ -1,6 +1,6 @@
 use denote.Ref.{now}
-use Rattle.ways.specs.State.{stateIn}
-use Rattle.refusal.specs.Refusal.{statesIn}
+use Rattle.ways.specs.State.{stateNumberIn}
+use Rattle.refusal.specs.Refusal.{statesNumberIn}
 use Rattle.refusal.proofs.Accepted.{states-first, states-last}
 use borrow.Author.Needs.{needs}
 use Rattle.refusal.proofs.state.states_number.Statement.{statement}
@@ -16,15 +16,15 @@ state-number-requires : tie.Need-state-number-requires
 state-number-requires c κs = search needs
 
 returns : tie.Need-returns
-unfolding statesIn
-returns c = rw (← c .before .before .before .set-of .ensures, ← c .before .before .last-set .ensures .0) (let a = c .before .before .before .before .args in states-first (stateIn (now (a .tags)) (now (a .valid)) (now (a .lru))) _ _ _ (c .before .state-number .ensures) (c .if1 .taken))
+unfolding statesNumberIn
+returns c = rw (← c .before .before .before .set-of .ensures, ← c .before .before .last-set .ensures .0) (let a = c .before .before .before .before .args in states-first (stateNumberIn (now (a .tags)) (now (a .valid)) (now (a .lru))) _ _ _ (c .before .state-number .ensures) (c .if1 .taken))
 
 state-number-requires-2 : tie.Need-state-number-requires-2
 state-number-requires-2 c κs = search needs
 
 returns-2 : tie.Need-returns-2
-unfolding statesIn
-returns-2 c = rw (← c .before .before .before .before .set-of .ensures, ← c .before .before .before .last-set .ensures .0) (let a = c .before .before .before .before .before .args in states-last (stateIn (now (a .tags)) (now (a .valid)) (now (a .lru))) _ _ _ (c .before .before .state-number .ensures) (c .before .if1 .left) _ (c .state-number2 .ensures))
+unfolding statesNumberIn
+returns-2 c = rw (← c .before .before .before .before .set-of .ensures, ← c .before .before .before .last-set .ensures .0) (let a = c .before .before .before .before .before .args in states-last (stateNumberIn (now (a .tags)) (now (a .valid)) (now (a .lru))) _ _ _ (c .before .before .state-number .ensures) (c .before .if1 .left) _ (c .state-number2 .ensures))
 
 pub states-number-spec : {M : Type 1} → statement M
 states-number-spec =

@@ -1,4 +1,4 @@
-use Rattle.ways.specs.State.{stateIn}
+use Rattle.ways.specs.State.{stateNumberIn}
 use borrow.Author.Needs.{needs}
 use Rattle.ways.proofs.state.state_number.Statement.{statement}
 use Rattle.ways.proofs.state.state_number.Tie as tie
@@ -16,7 +16,7 @@ first-number-requires : tie.Need-first-number-requires
 first-number-requires c κs = search needs
 
 returns : tie.Need-returns
-unfolding stateIn
+unfolding stateNumberIn
 returns c = rw (c .first-number .ensures, c .before .before .before .same-tags .ensures, c .before .before .tags-above .ensures)
 
 pub state-number-spec : {M : Type 1} → statement M

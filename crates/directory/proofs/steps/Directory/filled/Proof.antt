@@ -3,11 +3,11 @@ use borrow.Author.Needs.{needs}
 use Rattle.directory.proofs.steps.Directory.filled.Statement.{statement}
 use Rattle.directory.proofs.steps.Directory.filled.Tie as tie
 
-mul-line : tie.Need-mul-line
-mul-line c = search needs
+mul-index : tie.Need-mul-index
+mul-index c = search needs
 
-add-line : tie.Need-add-line
-add-line c = search needs
+add-index : tie.Need-add-index
+add-index c = search needs
 
 mul-self : tie.Need-mul-self
 mul-self c = search needs
@@ -29,8 +29,8 @@ pub filled-spec : {M : Type 1} → statement M
 filled-spec =
     tie.close
     (tie.spec
-    mul-line
-    add-line
+    mul-index
+    add-index
     mul-self
     element-write-self
     element-write-self-2

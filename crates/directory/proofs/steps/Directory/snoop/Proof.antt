@@ -1,13 +1,13 @@
 use borrow.Author.Tests.{eq-eqb, ne-eqb}
 use mathlib.Core.Path.{_≡_}
 use Rattle.ways.specs.Address.{setOf}
-use Rattle.directory.specs.Steps.{snoopCall, stateOf}
+use Rattle.directory.specs.Steps.{snoopCall, stateNumberOf}
 use borrow.Author.Needs.{needs}
 use Rattle.directory.proofs.steps.Directory.snoop.Statement.{statement}
 use Rattle.directory.proofs.steps.Directory.snoop.Tie as tie
 
 -- the number of the set's state
-number : (c : tie.After-state-number) → c .state-number .result ≡ stateOf (c .before .before .before .before .before .before .args .t1) (setOf (c .before .before .before .before .before .before .args .address))
+number : (c : tie.After-state-number) → c .state-number .result ≡ stateNumberOf (c .before .before .before .before .before .before .args .t1) (setOf (c .before .before .before .before .before .before .args .address))
 number c = rw (c .state-number .ensures, c .before .set-of .ensures)
 
 set-of-requires : tie.Need-set-of-requires

@@ -36,11 +36,11 @@ returns-2 c = let a = c .before .before .before .before .before .before .before 
 set-of-requires : tie.Need-set-of-requires
 set-of-requires c κs = search needs
 
-mul-line : tie.Need-mul-line
-mul-line c = search needs
+mul-index : tie.Need-mul-index
+mul-index c = search needs
 
-add-line : tie.Need-add-line
-add-line c = let h = inside c in omega arith
+add-index : tie.Need-add-index
+add-index c = let h = inside c in omega arith
 
 element-write-self : tie.Need-element-write-self
 element-write-self c = inside c
@@ -59,7 +59,7 @@ snooped-spec =
     enum-told
     returns-2
     set-of-requires
-    mul-line
-    add-line
+    mul-index
+    add-index
     element-write-self
     returns-3)
