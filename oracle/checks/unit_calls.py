@@ -84,7 +84,7 @@ def external(unit: Unit, address: int, written: bytes) -> Result:
 
 def view(unit: Unit, address: int) -> tuple[int, Part]:
     lent = (unit.directory, unit.ram, unit.data)
-    return access.view_number(*lent, address), access.line_view(*lent, address)
+    return access.view_number(*lent, address), access.view(*lent, address)
 
 
 def store_line(unit: Unit, set_index: int, way: int, tag: int) -> None:
@@ -98,9 +98,10 @@ def valid_and_tags(directory: Directory) -> list[tuple[bool, int]]:
 
 def snapshot(unit: Unit) -> tuple[Any, ...]:
     """A copy of all that a unit is lent, to compare with later."""
-    lines = unit.directory
-    kept = (list(lines.tags), list(lines.valid), list(lines.lru), lines.cd, lines.nw)
-    return (*kept, bytes(unit.ram), bytes(unit.parity), bytes(unit.data))
+    directory = unit.directory
+    arrays = (list(directory.tags), list(directory.valid), list(directory.lru))
+    buffers = (bytes(unit.ram), bytes(unit.parity), bytes(unit.data))
+    return (*arrays, directory.cd, directory.nw, *buffers)
 
 
 def number_with_ram(length: int) -> int:
