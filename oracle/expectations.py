@@ -6,6 +6,7 @@
 
 import sys
 from collections.abc import Callable
+from itertools import zip_longest
 from pathlib import Path
 
 import event_files
@@ -35,16 +36,23 @@ def bytes_of(generated: str | bytes) -> bytes:
     return generated.encode() if isinstance(generated, str) else generated
 
 
+def first_difference(stored: bytes, generated: bytes) -> int:
+    """The first line in which the two differ, from 1."""
+    pairs = zip_longest(stored.split(b"\n"), generated.split(b"\n"))
+    return next(line for line, (old, new) in enumerate(pairs, start=1) if old != new)
+
+
 def agrees(path: str, generated: bytes) -> bool:
     """Say where the stored file is not what the model generates."""
     stored = ROOT / path
     if not stored.is_file():
         print(f"{path}: missing")
         return False
-    same = stored.read_bytes() == generated
-    if not same:
-        print(f"{path}: differs")
-    return same
+    found = stored.read_bytes()
+    if found == generated:
+        return True
+    print(f"{path}: differs, first in line {first_difference(found, generated)}")
+    return False
 
 
 def write(path: str, generated: bytes) -> bool:

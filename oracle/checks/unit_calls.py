@@ -14,6 +14,7 @@ from unit486_model.directory import Directory, line_index
 from unit486_model.events import Unit
 from unit486_model.refusal import DATA_BYTES
 
+ORACLE = Path(__file__).resolve().parent.parent
 RAM_BYTES = 0x4000
 ALL_KEN = [KEN] * ANSWERS
 NO_KEN = [0] * ANSWERS
@@ -31,7 +32,8 @@ def check(what: str, got: Any, expected: Any) -> None:
     done["checks"] += 1
     if got != expected:
         caller = sys._getframe(1)
-        place = f"{Path(caller.f_code.co_filename).name}:{caller.f_lineno}"
+        file = Path(caller.f_code.co_filename).resolve().relative_to(ORACLE)
+        place = f"{file}:{caller.f_lineno}"
         raise Mismatch(f"{place}: {what}: got {got!r}, expected {expected!r}")
 
 
