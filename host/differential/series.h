@@ -150,12 +150,12 @@ private:
     {
         const bool cd = random.percent(40), nw = random.percent(40);
         sides.both([&](Side &side) { side.directory.cd = cd, side.directory.nw = nw; });
-        plant_set(call.address);
+        make_set(call.address);
         if (call.address % 16 + call.width > 16)
-            plant_set(call.address + call.width - 1);
+            make_set(call.address + call.width - 1);
     }
 
-    void plant_set(uint32_t at)
+    void make_set(uint32_t at)
     {
         const uint32_t first = at / 16 % 128 * 4;
         uint32_t tags[4] = {at / 2048, at / 2048 + 1, 2097151 - random.below(2), random.word() % 2097152};
@@ -166,7 +166,7 @@ private:
         }
         uint8_t lru = static_cast<uint8_t>(random.below(8));
         for (uint32_t faults = random.percent(70) ? 0 : random.between(1, 2); faults > 0; --faults)
-            plant_fault(tags, valid, lru);
+            add_state_fault(tags, valid, lru);
         sides.both([&](Side &side) {
             std::memcpy(side.directory.tags + first, tags, sizeof tags);
             std::memcpy(side.directory.valid + first, valid, sizeof valid);
@@ -175,7 +175,7 @@ private:
     }
 
     // A fault, or what only looks like one: a stale tag.
-    void plant_fault(uint32_t *tags, bool *valid, uint8_t &lru)
+    void add_state_fault(uint32_t *tags, bool *valid, uint8_t &lru)
     {
         const uint32_t way = random.below(4), other = random.below(4);
         switch (random.below(3)) {
