@@ -77,9 +77,9 @@ struct Library {
     {
         return unit486_write(&side.directory, &side.lent, address, 4, value, &side.board);
     }
-    static uint32_t external_write(Side &side, uint32_t address, const uint8_t *bytes, size_t length)
+    static uint32_t external_write(Side &side, uint32_t address, const uint8_t *bytes, size_t count)
     {
-        return unit486_external_write(&side.directory, &side.lent, address, bytes, length);
+        return unit486_external_write(&side.directory, &side.lent, address, bytes, count);
     }
     static uint32_t view(Side &side, uint32_t address, uint8_t *shown)
     {
@@ -111,9 +111,9 @@ struct Baseline {
     {
         return baseline::write(side.directory, side.lent, address, 4, value, side.board);
     }
-    static uint32_t external_write(Side &side, uint32_t address, const uint8_t *bytes, size_t length)
+    static uint32_t external_write(Side &side, uint32_t address, const uint8_t *bytes, size_t count)
     {
-        return baseline::external_write(side.directory, side.lent, address, bytes, length);
+        return baseline::external_write(side.directory, side.lent, address, bytes, count);
     }
     static uint32_t view(Side &side, uint32_t address, uint8_t *shown)
     {
@@ -179,7 +179,7 @@ void require(bool same, const char *name)
 }
 
 // A row: one turn's calls on each side, given as a function of a side's state. So many cycles for each
-// call show that the calls are what the row says: hits, fills, uncached.
+// call show that the calls are what the row says: hits, fills, plain reads.
 template <class Turn> void row(const char *name, uint32_t cycles, Turn turn, uint8_t answer = UNIT486_KEN)
 {
     Side library, baseline;
@@ -222,7 +222,7 @@ void read_rows()
     row("read miss with fill, 32-bit bus (4 cycles)", 4, fills);
     row("read miss with fill, BS16# (8 cycles)", 8, fills, UNIT486_KEN | UNIT486_BS16);
     row("read miss with fill, BS8# (16 cycles)", 16, fills, UNIT486_KEN | UNIT486_BS8);
-    row("uncached read (PCD = 1, 1 cycle)", 1, [](Side &side, auto unit) {
+    row("plain read (PCD = 1, 1 cycle)", 1, [](Side &side, auto unit) {
         for (uint32_t k = 0; k < calls; ++k)
             side.note(unit.read(side, UNIT486_DATA_BYTES + k * 4 % UNIT486_DATA_BYTES, true));
     });
@@ -266,13 +266,13 @@ void master_rows()
         for (uint32_t k = 0; k < calls; ++k)
             side.sum += unit.snoop(side, UNIT486_DATA_BYTES + k * UNIT486_LINE_BYTES);
     });
-    const auto external = [](uint32_t length) {
-        return [length](Side &side, auto unit) {
+    const auto external = [](uint32_t count) {
+        return [count](Side &side, auto unit) {
             uint8_t bytes[UNIT486_LINE_BYTES];
             for (uint32_t k = 0; k < calls; ++k) {
                 std::memset(bytes, static_cast<int>(k), sizeof bytes);
-                side.sum += unit.external_write(
-                    side, UNIT486_DATA_BYTES + k * 16 % UNIT486_DATA_BYTES, bytes, length);
+                side.sum +=
+                    unit.external_write(side, UNIT486_DATA_BYTES + k * 16 % UNIT486_DATA_BYTES, bytes, count);
             }
         };
     };
@@ -334,8 +334,12 @@ void program_row()
 
 } // namespace
 
-int main()
+int main(int argc, char **)
 {
+    if (argc > 1) {
+        std::fprintf(stderr, "usage: benchmark\n");
+        return 2;
+    }
     std::printf("Median of %d turns of %u calls, nanoseconds for each call.\n\n", turns, calls);
     std::printf("| %-44s | %9s | %9s | %6s |\n", "call", "library", "baseline", "ratio");
     std::printf("|---|---|---|---|\n");

@@ -3,6 +3,12 @@
 #
 #     host/build.sh [LIBRARY]     default: target/staticlib/libhost.a, which `rt staticlib host` writes
 set -eu
+usage() {
+    echo "usage: host/build.sh [LIBRARY]" >&2
+    exit 2
+}
+[ $# -le 1 ] || usage
+case ${1:-} in -*) usage ;; esac
 root=$(cd "$(dirname "$0")/.." && pwd)
 library=${1:-$root/target/staticlib/libhost.a}
 if [ ! -f "$library" ]; then

@@ -4,14 +4,19 @@
 //     rows events FILE..     each file's name, then the program's output for it
 //     rows calls FILE..      each file's name, then the row of each line of the call script
 //
-// The lines of a script, and what a row has, are described in oracle/scripts/script_unit.py.
+// The lines of a script, and what a row has, are described in oracle/scripts/script_unit.py. A file that
+// cannot be read, and a line that is no script line, end the program with 2.
+#include <algorithm>
 #include <cinttypes>
 #include <cstdio>
+#include <cstdlib>
 #include <cstring>
 #include <fstream>
 #include <iterator>
+#include <map>
 #include <sstream>
 #include <string>
+#include <utility>
 #include <vector>
 
 #include "baseline/unit.h"
@@ -34,11 +39,11 @@ void print_events(const std::string &name)
     std::fwrite(output.data(), 1, length, stdout);
 }
 
-uint32_t adler32(const void *start, size_t length)
+uint32_t adler32(const void *start, size_t count)
 {
     const uint8_t *bytes = static_cast<const uint8_t *>(start);
     uint32_t low = 1, high = 0;
-    for (size_t k = 0; k < length; ++k) {
+    for (size_t k = 0; k < count; ++k) {
         low = (low + bytes[k]) % 65521;
         high = (high + low) % 65521;
     }
@@ -54,6 +59,35 @@ Bytes contents(uint32_t seed, size_t length)
         byte = static_cast<uint8_t>(seed >> 24);
     }
     return made;
+}
+
+// The log's words before a call, so that words which the call leaves alone show.
+std::vector<uint32_t> fresh_log(size_t words)
+{
+    std::vector<uint32_t> made(words);
+    for (size_t k = 0; k < words; ++k)
+        made[k] = 0xC0DE0000 + static_cast<uint32_t>(k);
+    return made;
+}
+
+// How many fields a letter has, at least and at most. R and W may come with no answers.
+const std::map<char, std::pair<size_t, size_t>> field_counts{{'N', {6, 6}}, {'T', {2, 2}}, {'K', {2, 2}},
+    {'L', {2, 2}}, {'M', {2, 2}}, {'P', {2, 2}}, {'R', {3, 4}}, {'W', {3, 4}}, {'r', {3, 3}}, {'w', {3, 3}},
+    {'X', {1, 65}}, {'S', {1, 1}}, {'F', {0, 0}}, {'C', {2, 2}}, {'Z', {0, 0}}, {'V', {1, 1}}, {'B', {2, 2}}};
+
+bool is_digits(const std::string &field) { return field.find_first_not_of("0123456789") == field.npos; }
+
+// A letter and its fields, which are digits.
+bool has_form(const std::string &text)
+{
+    std::istringstream line(text);
+    const std::vector<std::string> words{std::istream_iterator<std::string>(line), {}};
+    if (words.empty() || words[0] != text.substr(0, 1))
+        return false;
+    const auto found = field_counts.find(text[0]);
+    const size_t fields = words.size() - 1;
+    return found != field_counts.end() && fields >= found->second.first && fields <= found->second.second &&
+           std::all_of(words.begin() + 1, words.end(), is_digits);
 }
 
 // A unit with its log, on which the lines of a script are run.
@@ -78,14 +112,20 @@ struct ScriptUnit {
         parity.assign(lengths[1], 0);
         for (size_t k = 0; k < ram.size() && k / 4 < parity.size(); ++k)
             parity[k / 4] |= static_cast<uint8_t>(__builtin_parity(ram[k]) << k % 4);
-        log.resize(lengths[3]);
-        refill();
+        log = fresh_log(lengths[3]);
     }
 
-    void refill()
+    // Whether what a line stores has a place.
+    bool has_place(const std::string &text) const
     {
-        for (size_t k = 0; k < log.size(); ++k)
-            log[k] = 0xC0DE0000 + static_cast<uint32_t>(k);
+        const size_t index = std::strtoull(text.c_str() + 1, nullptr, 10);
+        switch (text[0]) {
+        case 'T':
+        case 'K': return index < UNIT486_LINES;
+        case 'L': return index < UNIT486_SETS;
+        case 'P': return index < parity.size();
+        default: return true;
+        }
     }
 
     void print_digests() const
@@ -177,7 +217,7 @@ struct ScriptUnit {
         if (letter == 'B')
             return print_board(line);
         if (letter != 'N')
-            refill();
+            log = fresh_log(log.size());
         if (letter == 'V')
             return print_view(line);
         if (letter != 'N')
@@ -204,25 +244,33 @@ void print_calls(const std::string &name)
 {
     ScriptUnit unit;
     std::ifstream file(name);
-    for (std::string line; std::getline(file, line);)
+    size_t line_number = 0;
+    for (std::string line; std::getline(file, line);) {
+        ++line_number;
+        // A script begins with a new unit.
+        if (!has_form(line) || !unit.has_place(line) || (line_number == 1 && line[0] != 'N')) {
+            std::fprintf(stderr, "rows: %s:%zu: no script line\n", name.c_str(), line_number);
+            std::exit(2);
+        }
         unit.run_line(line);
+    }
 }
 
 } // namespace
 
-int main(int count, char **words)
+int main(int argc, char **argv)
 {
-    if (count < 2 || (std::strcmp(words[1], "events") && std::strcmp(words[1], "calls"))) {
+    if (argc < 3 || (std::strcmp(argv[1], "events") && std::strcmp(argv[1], "calls"))) {
         std::fprintf(stderr, "usage: rows events FILE.. | rows calls FILE..\n");
         return 2;
     }
-    for (int k = 2; k < count; ++k) {
-        const std::string name = words[k];
+    for (int k = 2; k < argc; ++k) {
+        const std::string name = argv[k];
         if (!std::ifstream(name)) {
             std::fprintf(stderr, "rows: cannot read %s\n", name.c_str());
             return 2;
         }
         std::printf("%s\n", name.substr(name.rfind('/') + 1).c_str());
-        std::strcmp(words[1], "events") == 0 ? print_events(name) : print_calls(name);
+        std::strcmp(argv[1], "events") == 0 ? print_events(name) : print_calls(name);
     }
 }

@@ -6,6 +6,7 @@
 
 import sys
 from collections.abc import Callable
+from itertools import zip_longest
 from pathlib import Path
 
 import event_files
@@ -22,17 +23,24 @@ def sample_rows() -> bytes:
     return events.run((ROOT / "samples/batch.events").read_bytes())
 
 
-# An event file may have any bytes; the others are text.
-EXPECTATIONS: list[tuple[str, Callable[[], str | bytes]]] = [
-    ("crates/directory_tables/stdout", tables.directory_tables),
-    *replay.expectations(),
-    *event_files.expectations(),
-    ("samples/batch.rows", sample_rows),
-]
+def expectations() -> list[tuple[str, Callable[[], str | bytes]]]:
+    """The stored files, each with what it must hold: any bytes in an event file, text elsewhere."""
+    return [
+        ("crates/directory_tables/stdout", tables.directory_tables),
+        *replay.expectations(),
+        *event_files.expectations(),
+        ("samples/batch.rows", sample_rows),
+    ]
 
 
 def bytes_of(generated: str | bytes) -> bytes:
     return generated.encode() if isinstance(generated, str) else generated
+
+
+def first_difference(stored: bytes, generated: bytes) -> int:
+    """The first line in which the two differ, from 1."""
+    pairs = zip_longest(stored.split(b"\n"), generated.split(b"\n"))
+    return next(line for line, (old, new) in enumerate(pairs, start=1) if old != new)
 
 
 def agrees(path: str, generated: bytes) -> bool:
@@ -41,10 +49,11 @@ def agrees(path: str, generated: bytes) -> bool:
     if not stored.is_file():
         print(f"{path}: missing")
         return False
-    same = stored.read_bytes() == generated
-    if not same:
-        print(f"{path}: differs")
-    return same
+    found = stored.read_bytes()
+    if found == generated:
+        return True
+    print(f"{path}: differs, first in line {first_difference(found, generated)}")
+    return False
 
 
 def write(path: str, generated: bytes) -> bool:
@@ -56,7 +65,7 @@ def write(path: str, generated: bytes) -> bool:
 
 def extra_files() -> list[str]:
     """Files that stand among a program's data and are not generated."""
-    listed = {ROOT / path for path, _ in EXPECTATIONS}
+    listed = {ROOT / path for path, _ in expectations()}
     folders = {path.parent for path in listed if path.parent.name == "data"}
     found = [path for folder in folders for path in folder.glob("*") if path not in listed]
     return sorted(str(path.relative_to(ROOT)) for path in found)
@@ -67,7 +76,7 @@ def main(words: list[str]) -> int:
         print("usage: expectations.py [--write]", file=sys.stderr)
         return 2
     step = write if words else agrees
-    done = [step(path, bytes_of(generate())) for path, generate in EXPECTATIONS]
+    done = [step(path, bytes_of(generate())) for path, generate in expectations()]
     print(f"{sum(done)} of {len(done)} files {'written' if words else 'as generated'}")
     for path in extra_files():
         print(f"{path}: not generated")

@@ -63,7 +63,7 @@ def full_set(set_index: int, tags: tuple[int, ...], lru: int) -> Directory:
 
 def _lru_rows() -> Iterator[Row]:
     for lru in LRU_NUMBERS:
-        after = [steps.lru_after_use(lru, way) for way in range(WAYS)]
+        after = [steps.lru_after(lru, way) for way in range(WAYS)]
         directory = full_set(SET, (10, 11, 12, 13), lru)
         yield ("lru", lru, *after, steps.victim(directory, SET))
 

@@ -25,11 +25,11 @@ struct Records {
     uint32_t *next;
     uint32_t count = 0;
 
-    void put(uint32_t address, uint32_t flags, uint32_t data)
+    void put(uint32_t address, uint32_t flags, uint32_t word)
     {
         next[0] = address;
         next[1] = flags;
-        next[2] = data;
+        next[2] = word;
         next += 3;
         ++count;
     }

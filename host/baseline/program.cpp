@@ -21,7 +21,7 @@ struct Event {
     bool first = false;  // PCD or CD
     bool second = false; // NW
     uint8_t bytes[pairs_limit];
-    size_t length = 0;
+    size_t count = 0; // of the bytes
 };
 
 // The fields of one line, read from left to right. A field takes what it can; whatever is left then
@@ -62,14 +62,14 @@ struct Scanner {
     }
 
     // "uppercase hex pairs; an empty field is well formed and gets 10"
-    bool pairs(uint8_t *bytes, size_t &length)
+    bool pairs(uint8_t *bytes, size_t &count)
     {
-        for (length = 0; end - at >= 2; at += 2) {
+        for (count = 0; end - at >= 2; at += 2) {
             const int high = hex_digit(at[0]);
             const int low = hex_digit(at[1]);
             if (high < 0 || low < 0)
                 return false;
-            bytes[length++] = static_cast<uint8_t>(high * 16 + low);
+            bytes[count++] = static_cast<uint8_t>(high * 16 + low);
         }
         return true;
     }
@@ -86,8 +86,7 @@ static bool fields_of(Scanner &scan, Event &event)
         return scan.tab() && scan.number(event.address) && scan.tab() && scan.number(event.width) &&
                scan.tab() && scan.number(event.value);
     case 'X':
-        return scan.tab() && scan.number(event.address) && scan.tab() &&
-               scan.pairs(event.bytes, event.length);
+        return scan.tab() && scan.number(event.address) && scan.tab() && scan.pairs(event.bytes, event.count);
     case 'S': return scan.tab() && scan.number(event.address);
     case 'C': return scan.tab() && scan.bit(event.first) && scan.tab() && scan.bit(event.second);
     case 'F':
@@ -130,7 +129,7 @@ struct Unit {
     uint32_t external(const Event &event)
     {
         const unit486_buffers lent{ram, sizeof ram, parity, sizeof parity, data, sizeof data};
-        return external_write(directory, lent, event.address, event.bytes, event.length);
+        return external_write(directory, lent, event.address, event.bytes, event.count);
     }
 
     unit486_result perform(const Event &event)

@@ -63,14 +63,14 @@ inline uint32_t value_number(uint32_t width, uint32_t value)
 }
 
 // 1, 2, 10. "External write empty, over 16 bytes, across lines or beyond RAM."
-inline uint32_t external_input_number(const unit486_buffers &lent, uint32_t address, size_t length)
+inline uint32_t external_input_number(const unit486_buffers &lent, uint32_t address, size_t count)
 {
     const uint32_t number = memory_number(lent);
     if (number != 0)
         return number;
-    if (length == 0 || length > UNIT486_LINE_BYTES || address % 16 + length > UNIT486_LINE_BYTES)
+    if (count == 0 || count > UNIT486_LINE_BYTES || address % 16 + count > UNIT486_LINE_BYTES)
         return 10;
-    return address + length > lent.ram_length ? 10 : 0;
+    return address + count > lent.ram_length ? 10 : 0;
 }
 
 // 1, 3, 5. "view: address not in RAM"

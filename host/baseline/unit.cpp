@@ -143,16 +143,16 @@ unit486_result write(Directory &directory, const unit486_buffers &lent, uint32_t
 // "An external write puts 1 to 16 bytes of one line into RAM, sets their parity, then snoops. It leaves
 // no record."
 uint32_t external_write(
-    Directory &directory, const unit486_buffers &lent, uint32_t address, const uint8_t *bytes, size_t length)
+    Directory &directory, const unit486_buffers &lent, uint32_t address, const uint8_t *bytes, size_t count)
 {
-    uint32_t number = external_input_number(lent, address, length);
+    uint32_t number = external_input_number(lent, address, count);
     if (number == 0)
         number = state_number(directory, set_of(address));
     if (number != 0)
         return number;
-    std::memcpy(lent.ram + address, bytes, length);
+    std::memcpy(lent.ram + address, bytes, count);
     // The written lanes of the line's sixteen, four for each doubleword.
-    const unsigned written = ((1u << length) - 1) << address % 16;
+    const unsigned written = ((1u << count) - 1) << address % 16;
     const uint32_t line = line_address(address);
     for (unsigned k = 0; k < 4; ++k) {
         const unsigned lanes = written >> 4 * k & all_lanes;

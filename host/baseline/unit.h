@@ -17,7 +17,7 @@ unit486_result read(Directory &directory, const unit486_buffers &lent, uint32_t 
 unit486_result write(Directory &directory, const unit486_buffers &lent, uint32_t address, uint32_t width,
     uint32_t value, const unit486_board &board);
 uint32_t external_write(
-    Directory &directory, const unit486_buffers &lent, uint32_t address, const uint8_t *bytes, size_t length);
+    Directory &directory, const unit486_buffers &lent, uint32_t address, const uint8_t *bytes, size_t count);
 
 uint32_t view_number(const Directory &directory, const unit486_buffers &lent, uint32_t address);
 uint32_t view(const Directory &directory, const unit486_buffers &lent, uint32_t address, uint8_t *shown);

@@ -107,3 +107,10 @@ inline void print_call(const Call &call, const Side &side)
     print_bytes("answers", side.answers);
     print_bytes("bytes of an external write", side.bytes);
 }
+
+// Which call differed, and where.
+inline void print_mismatch(uint64_t call, uint64_t seed, const char *series, const std::string &found)
+{
+    std::printf("MISMATCH in call %" PRIu64 " of seed %" PRIu64 " (%s series)\n", call, seed, series);
+    std::printf("  first difference: %s\n", found.c_str());
+}

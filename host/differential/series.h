@@ -9,6 +9,7 @@
 #include "calls.h"
 #include "coverage.h"
 #include "event_text.h"
+#include "runs.h"
 #include "sides.h"
 
 class Series {
@@ -75,9 +76,9 @@ public:
     // The event program on random lines.
     void events(uint32_t runs)
     {
-        name = "events";
+        Runs made(seed, random, coverage);
         for (uint32_t k = 0; k < runs; ++k)
-            check_run(EventText(random).text());
+            made.check(EventText(random).text());
     }
 
 private:
@@ -149,12 +150,12 @@ private:
     {
         const bool cd = random.percent(40), nw = random.percent(40);
         sides.both([&](Side &side) { side.directory.cd = cd, side.directory.nw = nw; });
-        plant_set(call.address);
+        make_set(call.address);
         if (call.address % 16 + call.width > 16)
-            plant_set(call.address + call.width - 1);
+            make_set(call.address + call.width - 1);
     }
 
-    void plant_set(uint32_t at)
+    void make_set(uint32_t at)
     {
         const uint32_t first = at / 16 % 128 * 4;
         uint32_t tags[4] = {at / 2048, at / 2048 + 1, 2097151 - random.below(2), random.word() % 2097152};
@@ -165,7 +166,7 @@ private:
         }
         uint8_t lru = static_cast<uint8_t>(random.below(8));
         for (uint32_t faults = random.percent(70) ? 0 : random.between(1, 2); faults > 0; --faults)
-            plant_fault(tags, valid, lru);
+            add_state_fault(tags, valid, lru);
         sides.both([&](Side &side) {
             std::memcpy(side.directory.tags + first, tags, sizeof tags);
             std::memcpy(side.directory.valid + first, valid, sizeof valid);
@@ -174,7 +175,7 @@ private:
     }
 
     // A fault, or what only looks like one: a stale tag.
-    void plant_fault(uint32_t *tags, bool *valid, uint8_t &lru)
+    void add_state_fault(uint32_t *tags, bool *valid, uint8_t &lru)
     {
         const uint32_t way = random.below(4), other = random.below(4);
         switch (random.below(3)) {
@@ -308,12 +309,12 @@ private:
         } else {
             // Most external writes stay in their line; some are empty or too long.
             const uint32_t room = 16 - call.address % 16;
-            const size_t length = random.percent(90) ? random.between(1, room) : random.below(20);
+            const size_t count = random.percent(90) ? random.between(1, room) : random.below(20);
             const uint64_t bytes[2] = {random.next(), random.next()};
             Lent<uint8_t> Side::*buffer = call.kind == Kind::view ? &Side::shown : &Side::bytes;
             sides.both([&](Side &side) {
                 std::memcpy((side.*buffer).start(), bytes, sizeof bytes);
-                side.bytes.length = length;
+                side.bytes.length = count;
             });
         }
     }
@@ -345,7 +346,7 @@ private:
         const std::string found =
             std::memcmp(&library, &baseline, sizeof baseline) ? "the result" : sides.difference();
         if (!found.empty()) {
-            print_mismatch(found);
+            print_mismatch(coverage.calls, seed, name, found);
             print_call(call, sides.baseline);
             std::printf("  CD %d, NW %d before the call\n", before.cd, before.nw);
             std::printf("  library:  number %u, value %u, cycles %u\n", library.number, library.value,
@@ -355,73 +356,5 @@ private:
             std::exit(1);
         }
         coverage.note_call(before, call, baseline, sides.baseline);
-    }
-
-    void print_mismatch(const std::string &found) const
-    {
-        std::printf(
-            "MISMATCH in call %" PRIu64 " of seed %" PRIu64 " (%s series)\n", coverage.calls, seed, name);
-        std::printf("  first difference: %s\n", found.c_str());
-    }
-
-    struct Texts {
-        Lent<uint8_t> input, output;
-        size_t whole = 0;
-    };
-
-    // One run of the event program into a buffer that may be too short.
-    void check_run(const std::string &text)
-    {
-        Texts baseline;
-        baseline.input.make(text.size(), random);
-        std::memcpy(baseline.input.start(), text.data(), text.size());
-        const size_t lines = static_cast<size_t>(std::count(text.begin(), text.end(), '\n')) + 1;
-        const size_t enough = 26 + 44 * lines;
-        baseline.output.make(enough, random);
-        if (random.percent(30))
-            baseline.output.length =
-                random.below(static_cast<uint32_t>(random.percent(50) ? enough / 4 : 60));
-        baseline.output.length = std::min(baseline.output.length, enough);
-        Texts library = baseline;
-        library.whole = unit486_run(
-            library.input.start(), library.input.length, library.output.start(), library.output.length);
-        baseline.whole = baseline::run(
-            baseline.input.start(), baseline.input.length, baseline.output.start(), baseline.output.length);
-        ++coverage.calls;
-        compare_run(library, baseline);
-        note_run(text, baseline);
-    }
-
-    void compare_run(const Texts &library, const Texts &baseline) const
-    {
-        std::string found = library.output.difference(baseline.output);
-        if (found.empty())
-            found = library.input.difference(baseline.input);
-        if (found.empty() && library.whole == baseline.whole)
-            return;
-        print_mismatch(found.empty() ? "length of the output" : found);
-        std::printf("  whole output: library %zu, baseline %zu; lent %zu bytes\n", library.whole,
-            baseline.whole, baseline.output.length);
-        std::printf("  input of %zu bytes:\n", baseline.input.length);
-        std::fwrite(baseline.input.start(), 1, baseline.input.length, stdout);
-        std::printf("\n");
-        std::exit(1);
-    }
-
-    void note_run(const std::string &text, const Texts &baseline)
-    {
-        const bool cut = baseline.whole > baseline.output.length;
-        coverage.note(cut ? run_output_cut : run_whole_output);
-        if (!text.empty() && text.back() != '\n')
-            coverage.note(run_without_last_newline);
-        // The second field of each whole row is its answer.
-        const std::string output(baseline.output.start(),
-            baseline.output.start() + std::min(baseline.whole, baseline.output.length));
-        size_t line = output.find('\n');
-        while (line != std::string::npos && output.find('\n', line + 1) != std::string::npos) {
-            coverage.note_number(
-                Kind::run, static_cast<uint32_t>(std::atoi(output.c_str() + output.find('\t', line) + 1)));
-            line = output.find('\n', line + 1);
-        }
     }
 };

@@ -58,7 +58,7 @@ struct Side {
     unit486_board board() { return {answers.start(), answers.length, log.start(), log.length}; }
 };
 
-// The first difference of two directories; padding after NW is nobody's.
+// The first difference of two directories. What follows NW is padding, which no rule names.
 inline std::string directory_difference(const unit486_directory &library, const unit486_directory &baseline)
 {
     if (std::memcmp(&library, &baseline, offsetof(unit486_directory, nw) + 1) == 0)

@@ -1,5 +1,5 @@
 // A host's first steps: fill a line, hit it, let another master write, read the new byte.
-// Returns 1 if a step is not as unit486.h says.
+// Ends with 1 if a step is not as unit486.h says.
 #include <cstdio>
 #include <vector>
 
@@ -76,8 +76,12 @@ static void another_master(Host &host)
     expect("read beyond RAM: number", result.number, 5);
 }
 
-int main()
+int main(int argc, char **)
 {
+    if (argc > 1) {
+        std::fprintf(stderr, "usage: example\n");
+        return 2;
+    }
     Host host;
     fill_and_hit(host);
     another_master(host);

@@ -130,7 +130,8 @@ unit486_outcome unit486_reset(void);
 unit486_outcome unit486_control(unit486_directory given, bool cd, bool nw);
 
 /* A snoop on the whole directory in the caller's hands: the line that holds the address becomes invalid
-   unless NW = 1. Any address is taken. 0, or 21 to 23. */
+   unless NW = 1. Any address is taken. 0, or 21 to 23. It copies the directory; unit486_snoop, below,
+   changes it in place. */
 uint32_t unit486_drop_line(unit486_directory *directory, uint32_t address);
 
 /* A read of 1, 2 or 4 bytes, little-endian; they may lie in two doublewords or two lines. A miss fills its
@@ -176,20 +177,23 @@ uint32_t unit486_view(
     const uint8_t *ram, size_t ram_length, const uint8_t *data, size_t data_length, uint32_t address,
     uint8_t *shown);
 
-/* The board table's 32 answers for an access, into answers. */
+/* The board table's 32 answers for an access, into answers, which has room for 32. Never refused; an access
+   of a width other than 1, 2 and 4 has no upper doubleword. */
 void unit486_board_answers(uint32_t address, uint32_t width, uint8_t *answers);
 
 /* The event program on lines in memory: puts as much of the output as fits, answers its whole length
    (at most UNIT486_OUTPUT_MOST). Bytes past the output are unchanged. The program's own RAM, parity and
-   data array are on the stack: some 100 KB. */
+   data array and copies of the directory are on the stack, some 112 KB: give a thread 128 KB or more. */
 size_t unit486_run(const uint8_t *input, size_t input_length, uint8_t *output, size_t output_length);
 
 #ifdef __cplusplus
 }
 #endif
 
-/* ---- The same calls on a whole directory. Only unit486_reset_directory and unit486_control_directory
-   copy it. ---- */
+/* ---- The same calls on a whole directory. unit486_X makes the call unit486_X_in_place, but
+   unit486_line_view and unit486_line_view_number make unit486_view and unit486_view_number, and
+   unit486_reset_directory and unit486_control_directory make unit486_reset and unit486_control. Only
+   these two copy the directory. ---- */
 
 /* The buffers that a host lends again and again. */
 typedef struct unit486_buffers {

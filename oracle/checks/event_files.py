@@ -101,10 +101,10 @@ def _plain_answers(file: EventFile) -> None:
     """Answers and values are the plain memory's, until a line may come to differ from RAM."""
     plain = PlainMemory(bytearray(events.RAM_BYTES))
     for line, row in zip(file.lines, file.rows):
-        parsed = events.parse(line)
-        if parsed is None:
+        scanned = events.scan(line)
+        if scanned is None:
             continue
-        letter, values = parsed
+        letter, values = scanned
         _, number, value, _ = row.split(b"\t")
         got = (int(number), int(value))
         check(f"{file.name} {line!r}", got, _plain_answer(plain, letter, values))

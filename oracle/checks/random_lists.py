@@ -32,7 +32,7 @@ CALLS = 80
 
 
 def replaced(before: list[tuple[bool, int]], after: list[tuple[bool, int]]) -> bool:
-    """Whether a valid line gave way to another."""
+    """Whether a valid line was replaced."""
     return before != after and any(old[0] and old != new for old, new in zip(before, after))
 
 

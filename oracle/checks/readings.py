@@ -153,7 +153,7 @@ def invalidate_step() -> None:
     steps.invalidate(unit.directory, 6 * 2048 + 3 * 16)
     got = [unit.directory.valid[line_index(3, way)] for way in range(WAYS)]
     check("lowest match", got, [False, False, True, False])
-    check("bits of a number above 7", steps.lru_after_use(8 + 4, 0), 7)
+    check("bits of a number above 7", steps.lru_after(8 + 4, 0), 7)
 
 
 def uses() -> None:
@@ -198,7 +198,7 @@ def cycle_examples() -> None:
     check("each line its own", flags(result), [4, 72, 47, 47, 47, 111])
     check("KEN# means nothing to a write", flags(write(unit_of(), 0, 4, 1)), [95])
     result = write(unit_of(), 1, 2, 0xBBAA, [4] * ANSWERS)
-    check("lanes of a write", [r.data for r in result.records], [0xAA00, 0xBB0000])
+    check("lanes of a write", [r.word for r in result.records], [0xAA00, 0xBB0000])
     log = list(range(100, 200))
     result = read(unit_of(), 0, 2, [2] * ANSWERS, log=log)
     words = [word for record in result.records for word in record]

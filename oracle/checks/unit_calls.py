@@ -14,6 +14,7 @@ from unit486_model.directory import Directory, line_index
 from unit486_model.events import Unit
 from unit486_model.refusal import DATA_BYTES
 
+ORACLE = Path(__file__).resolve().parent.parent
 RAM_BYTES = 0x4000
 ALL_KEN = [KEN] * ANSWERS
 NO_KEN = [0] * ANSWERS
@@ -31,7 +32,8 @@ def check(what: str, got: Any, expected: Any) -> None:
     done["checks"] += 1
     if got != expected:
         caller = sys._getframe(1)
-        place = f"{Path(caller.f_code.co_filename).name}:{caller.f_lineno}"
+        file = Path(caller.f_code.co_filename).resolve().relative_to(ORACLE)
+        place = f"{file}:{caller.f_lineno}"
         raise Mismatch(f"{place}: {what}: got {got!r}, expected {expected!r}")
 
 
@@ -84,7 +86,7 @@ def external(unit: Unit, address: int, written: bytes) -> Result:
 
 def view(unit: Unit, address: int) -> tuple[int, Part]:
     lent = (unit.directory, unit.ram, unit.data)
-    return access.view_number(*lent, address), access.line_view(*lent, address)
+    return access.view_number(*lent, address), access.view(*lent, address)
 
 
 def store_line(unit: Unit, set_index: int, way: int, tag: int) -> None:
@@ -98,9 +100,10 @@ def valid_and_tags(directory: Directory) -> list[tuple[bool, int]]:
 
 def snapshot(unit: Unit) -> tuple[Any, ...]:
     """A copy of all that a unit is lent, to compare with later."""
-    lines = unit.directory
-    kept = (list(lines.tags), list(lines.valid), list(lines.lru), lines.cd, lines.nw)
-    return (*kept, bytes(unit.ram), bytes(unit.parity), bytes(unit.data))
+    directory = unit.directory
+    arrays = (list(directory.tags), list(directory.valid), list(directory.lru))
+    buffers = (bytes(unit.ram), bytes(unit.parity), bytes(unit.data))
+    return (*arrays, directory.cd, directory.nw, *buffers)
 
 
 def number_with_ram(length: int) -> int:

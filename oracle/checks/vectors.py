@@ -41,7 +41,7 @@ LRU_TABLE = {
 def lru_table() -> None:
     """Uses, victims and four kept fills by steps, and the fills again by reads."""
     for lru, (uses, victim, fills, after) in LRU_TABLE.items():
-        got = tuple(steps.lru_after_use(lru, way) for way in range(WAYS))
+        got = tuple(steps.lru_after(lru, way) for way in range(WAYS))
         check(f"uses from {lru}", got, uses)
         unit = unit_of(0x6000)
         for way in range(WAYS):
@@ -183,7 +183,7 @@ def _flags_of_calls(width: int, offset: int, answer: int, parts: list[list[int]]
     check("value", result.value, int.from_bytes(unit.ram[offset : offset + width], "little"))
     for record in result.records:
         lanes = memory.read_lanes(unit.ram, record.address, record.flags & 15)
-        check("data", record.data, lanes)
+        check("word", record.word, lanes)
     written = write(unit, offset, width, 256**width - 1, [answer] * ANSWERS)
     expected = [(address, flag + 16) for address, flag in expected]
     check(f"write {width} at {offset} answer {answer}", address_flags(written), expected)

@@ -1,4 +1,4 @@
-"""Six lines and more of one set, so that lines give way in the order of their uses."""
+"""Six lines and more of one set, so that lines are replaced in the order of their uses."""
 
 from collections.abc import Iterator, Sequence
 from itertools import permutations
@@ -70,7 +70,7 @@ def _fifth_line(file: EventFile, set_index: int, victim: int) -> None:
     others = [way for way in range(WAYS) if way != victim]
     for way in others:
         check("still held", file.read(address_of(way, set_index), 4), HIT)
-    check("given way", file.read(address_of(victim, set_index), 4), FILL)
+    check("replaced", file.read(address_of(victim, set_index), 4), FILL)
 
 
 def use_files() -> Iterator[EventFile]:

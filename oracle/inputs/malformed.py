@@ -71,7 +71,7 @@ def letter_files() -> Iterator[EventFile]:
     lines += [b"FZ", b"ZF", b"RW\t0\t4\t0", b"INVD", b"FLUSH", b"Z0", b"0Z", b"F0", b"S0"]
     yield probed("letters-more", lines)
     yield probed("letters-none", [good[1:] for good in GOOD.values()])
-    # Bit 7 set: the letter itself to who looks at seven bits only.
+    # Bit 7 set: the lower seven bits are the letter's.
     yield probed("letters-high", [bytes([good[0] + 128]) + good[1:] for good in GOOD.values()])
 
 

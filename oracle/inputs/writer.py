@@ -37,8 +37,8 @@ class EventFile:
     def line(self, line: bytes) -> Result:
         """Any bytes but a newline. The result is what the row shows, without records."""
         assert b"\n" not in line
-        parsed = events.parse(line)
-        result = self._performed(*parsed) if parsed else MALFORMED
+        scanned = events.scan(line)
+        result = self._performed(*scanned) if scanned else MALFORMED
         self.lines.append(line)
         self.rows.append(events.row(len(self.lines), result))
         return result

@@ -143,7 +143,7 @@ class ScriptUnit:
         """A view and its companion question, asked on the same inputs."""
         lent = (self.unit.directory, self.unit.ram, self.unit.data)
         number = access.view_number(*lent, address)
-        shown = access.part_bytes(access.line_view(*lent, address), self.unit.ram, self.unit.data)
+        shown = access.part_bytes(access.view(*lent, address), self.unit.ram, self.unit.data)
         return Result(number), _row("V", number, len(shown), shown.hex(), *self.digests())
 
     def _access(

@@ -138,7 +138,7 @@ def _one_line_one_set(script: Script) -> None:
 
 
 def _lines_beyond_ram(script: Script) -> None:
-    """Lines that lie beyond RAM are legal: they count as valid, give way, and are snooped."""
+    """Lines that lie beyond RAM are legal: they count as valid, are replaced, and are snooped."""
     for lru in range(LRU_LIMIT + 1):
         script.new(ram=32, cd=False)
         for way in range(WAYS):

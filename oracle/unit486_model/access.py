@@ -89,7 +89,7 @@ def _read_doubleword(
         return _fill(directory, ram, parity, data, doubleword, group)
     # "Otherwise the wanted bytes only."
     records = _read_cycles(ram, parity, bus.plain_cycles(doubleword, group), 0)
-    return sum(record.data for record in records), records
+    return sum(record.word for record in records), records
 
 
 def _fill(
@@ -130,7 +130,7 @@ def _filled_line(records: list[Record]) -> bytearray:
     """The sixteen bytes that a fill's cycles brought in, "Bytes keep their own lanes"."""
     line = 0
     for record in records:
-        line |= record.data << 8 * (record.address % LINE_BYTES)
+        line |= record.word << 8 * (record.address % LINE_BYTES)
     return bytearray(line.to_bytes(LINE_BYTES, "little"))
 
 
@@ -183,7 +183,7 @@ def _write_doubleword(
     way = steps.lookup(directory, doubleword.address)
     if way is not None:
         steps.use(directory, steps.set_of(doubleword.address), way)
-        _store_lanes(data, _byte_offset(doubleword.address, way), doubleword.wanted, word)
+        _copy_lanes(data, _byte_offset(doubleword.address, way), doubleword.wanted, word)
         # "With CD = NW = 1 a hit changes the data array and, as a use, the LRU number; RAM
         # and parity stay, with no cycle."
         if directory.cd and directory.nw:
@@ -191,14 +191,14 @@ def _write_doubleword(
     cycles = bus.plain_cycles(doubleword, group)
     records = []
     for index, cycle in enumerate(cycles):
-        memory.write_lanes(ram, parity, cycle.address, cycle.lanes, word)
+        memory.store_lanes(ram, parity, cycle.address, cycle.lanes, word)
         flags = bus.flags(cycles, index, bus.WRITE)
         records.append(Record(cycle.address, flags, word & memory.LANE_BITS[cycle.lanes]))
     return records
 
 
-def _store_lanes(data: bytearray, offset: int, lanes: int, word: int) -> None:
-    """Put the written lanes of a doubleword into the held line."""
+def _copy_lanes(data: bytearray, offset: int, lanes: int, word: int) -> None:
+    """Copy the written lanes of a doubleword into the held line."""
     for lane in range(DOUBLEWORD_BYTES):
         if lanes >> lane & 1:
             data[offset + lane] = word >> 8 * lane & 255
@@ -217,7 +217,7 @@ def external_write(
     )
     if number:
         return Result(number)
-    memory.write_bytes(ram, parity, address, written)
+    memory.store_bytes(ram, parity, address, written)
     steps.invalidate(directory, address)
     return Result(0)
 
@@ -260,7 +260,7 @@ def view_number(directory: Directory, ram: bytearray, data: bytearray, address: 
     )
 
 
-def line_view(directory: Directory, ram: bytearray, data: bytearray, address: int) -> Part:
+def view(directory: Directory, ram: bytearray, data: bytearray, address: int) -> Part:
     """Rule: "A line view is a part of the data array where the line is held, otherwise a part of
     RAM, always the sixteen bytes around the address; a refused view is the empty part at
     RAM's start". A view is no use."""

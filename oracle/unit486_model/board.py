@@ -1,7 +1,5 @@
 """The board table: the answers that the board gives to an access."""
 
-from collections.abc import Sequence
-
 from .bus import DOUBLEWORDS, GROUP, WIDTHS, doublewords
 
 # "The answer by 1 MiB block 0 to 15"
@@ -14,13 +12,13 @@ def block_of(address: int) -> int:
     return address // BLOCK_BYTES % len(TABLE)
 
 
-def answers(address: int, width: int, table: Sequence[int] = TABLE) -> list[int]:
+def answers(address: int, width: int) -> list[int]:
     """Rule: "repeated 16 times for each doubleword; an absent upper doubleword takes the lower's"
 
     The block is that of each doubleword's own address. A width that the access will answer
     with 4 has no doubleword but the lower.
     """
     touched = doublewords(address, width if width in WIDTHS else 1)
-    given = [table[block_of(doubleword.address)] for doubleword in touched]
+    given = [TABLE[block_of(doubleword.address)] for doubleword in touched]
     given += [given[0]] * (DOUBLEWORDS - len(given))
     return [answer for answer in given for _ in range(GROUP)]

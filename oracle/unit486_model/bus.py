@@ -57,7 +57,7 @@ class Record(NamedTuple):
 
     address: int
     flags: int
-    data: int
+    word: int
 
 
 def doublewords(address: int, width: int) -> list[Doubleword]:

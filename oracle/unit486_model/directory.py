@@ -45,9 +45,9 @@ def line_address(address: int) -> int:
     return address - address % LINE_BYTES
 
 
-def sets_of(address: int, length: int) -> list[int]:
-    """The sets that `length` bytes from `address` touch, the lower address's set first."""
-    return [set_of(line) for line in range(line_address(address), address + length, LINE_BYTES)]
+def sets_of(address: int, count: int) -> list[int]:
+    """The sets that `count` bytes from `address` touch, the lower address's set first."""
+    return [set_of(line) for line in range(line_address(address), address + count, LINE_BYTES)]
 
 
 def line_index(set_index: int, way: int) -> int:
@@ -75,7 +75,7 @@ def lru_bits(lru: int) -> tuple[int, int, int]:
     return lru % 2, lru // 2 % 2, lru // 4 % 2
 
 
-def lru_after_use(lru: int, way: int) -> int:
+def lru_after(lru: int, way: int) -> int:
     """Rule: "Use of way 0 sets B0 and B1; way 1 sets B0, clears B1; way 2 clears B0, sets B2;
     way 3 clears B0 and B2. The other bit is kept"."""
     b0, b1, b2 = lru_bits(lru)
@@ -92,7 +92,7 @@ def lru_after_use(lru: int, way: int) -> int:
 
 def use(directory: Directory, set_index: int, way: int) -> None:
     """Rule: "Read hits, write hits and kept fills are uses; views are not (H)"."""
-    directory.lru[set_index] = lru_after_use(directory.lru[set_index], way)
+    directory.lru[set_index] = lru_after(directory.lru[set_index], way)
 
 
 def victim(directory: Directory, set_index: int) -> int:

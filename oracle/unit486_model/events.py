@@ -55,7 +55,7 @@ FORMS: dict[bytes, tuple[Callable[[bytes], Any], ...]] = {
 }
 
 
-def parse(line: bytes) -> tuple[str, list[Any]] | None:
+def scan(line: bytes) -> tuple[str, list[Any]] | None:
     """Rule: "tab-parted lines of at most 80 bytes before the newline"; None if malformed."""
     letter, *fields = line.split(b"\t")
     form = FORMS.get(letter)
@@ -104,9 +104,9 @@ class Unit:
         return access.write(*lent, address, width, value, answers, log)
 
 
-def program_unit(ram_bytes: int = RAM_BYTES) -> Unit:
+def program_unit() -> Unit:
     """Rule: "65,536 zero RAM bytes, zero parity, a zero data array, a reset directory"."""
-    ram, parity = bytearray(ram_bytes), bytearray(parity_length(ram_bytes))
+    ram, parity = bytearray(RAM_BYTES), bytearray(parity_length(RAM_BYTES))
     return Unit(steps.reset(), ram, parity, bytearray(DATA_BYTES))
 
 
@@ -130,8 +130,8 @@ def run(text: bytes) -> bytes:
     for event, line in enumerate(lines_of(text), start=1):
         # "A malformed line ... gives its row with 11, 0, 0, changes nothing, and the next
         # line is read."
-        parsed = parse(line)
-        rows.append(row(event, unit.perform(*parsed) if parsed else MALFORMED))
+        scanned = scan(line)
+        rows.append(row(event, unit.perform(*scanned) if scanned else MALFORMED))
     return b"".join(rows)
 
 

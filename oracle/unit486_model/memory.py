@@ -39,7 +39,7 @@ def parity_for(ram: bytearray) -> bytearray:
     return parity
 
 
-def write_byte(ram: bytearray, parity: bytearray, address: int, byte: int) -> None:
+def store_byte(ram: bytearray, parity: bytearray, address: int, byte: int) -> None:
     """Put one byte into RAM with its DP bit; the other lanes' DP bits stay as they are.
 
     "bits 0 to 3 are DP0 to DP3, the upper four are ignored and become 0 when that byte is
@@ -50,17 +50,17 @@ def write_byte(ram: bytearray, parity: bytearray, address: int, byte: int) -> No
     parity[index] = parity[index] & DP_BITS & ~(1 << lane) | dp_bit(byte) << lane
 
 
-def write_bytes(ram: bytearray, parity: bytearray, address: int, written: bytes) -> None:
+def store_bytes(ram: bytearray, parity: bytearray, address: int, written: bytes) -> None:
     """Put bytes into RAM from the address on and set their parity."""
     for offset, byte in enumerate(written):
-        write_byte(ram, parity, address + offset, byte)
+        store_byte(ram, parity, address + offset, byte)
 
 
-def write_lanes(ram: bytearray, parity: bytearray, doubleword: int, lanes: int, word: int) -> None:
+def store_lanes(ram: bytearray, parity: bytearray, doubleword: int, lanes: int, word: int) -> None:
     """Rule: "Write: to RAM and the moved lanes' parity"."""
     for lane in range(DOUBLEWORD_BYTES):
         if lanes >> lane & 1:
-            write_byte(ram, parity, doubleword + lane, word >> 8 * lane & 255)
+            store_byte(ram, parity, doubleword + lane, word >> 8 * lane & 255)
 
 
 def read_lanes(source: bytearray, doubleword: int, lanes: int) -> int:

@@ -1,0 +1,88 @@
+// Runs of the event program, each made on both sides and compared whole.
+#pragma once
+
+#include <algorithm>
+#include <cstdlib>
+#include <string>
+
+#include "calls.h"
+#include "coverage.h"
+#include "sides.h"
+
+class Runs {
+public:
+    Runs(uint64_t seed, Random &random, Coverage &coverage) : seed(seed), random(random), coverage(coverage)
+    {
+    }
+
+    // One run, into a buffer that may be too short.
+    void check(const std::string &text)
+    {
+        Texts baseline;
+        lend(text, baseline);
+        Texts library = baseline;
+        library.whole = unit486_run(
+            library.input.start(), library.input.length, library.output.start(), library.output.length);
+        baseline.whole = baseline::run(
+            baseline.input.start(), baseline.input.length, baseline.output.start(), baseline.output.length);
+        ++coverage.calls;
+        compare(library, baseline);
+        note(text, baseline);
+    }
+
+private:
+    uint64_t seed;
+    Random &random;
+    Coverage &coverage;
+
+    // What one side is lent, and the length of its whole output.
+    struct Texts {
+        Lent<uint8_t> input, output;
+        size_t whole = 0;
+    };
+
+    void lend(const std::string &text, Texts &texts)
+    {
+        texts.input.make(text.size(), random);
+        std::memcpy(texts.input.start(), text.data(), text.size());
+        const size_t lines = static_cast<size_t>(std::count(text.begin(), text.end(), '\n')) + 1;
+        const size_t enough = 26 + 44 * lines; // the header and the longest rows
+        texts.output.make(enough, random);
+        if (random.percent(30))
+            texts.output.length = random.below(static_cast<uint32_t>(random.percent(50) ? enough / 4 : 60));
+        texts.output.length = std::min(texts.output.length, enough);
+    }
+
+    void compare(const Texts &library, const Texts &baseline) const
+    {
+        std::string found = library.output.difference(baseline.output);
+        if (found.empty())
+            found = library.input.difference(baseline.input);
+        if (found.empty() && library.whole == baseline.whole)
+            return;
+        print_mismatch(coverage.calls, seed, "events", found.empty() ? "length of the output" : found);
+        std::printf("  whole output: library %zu, baseline %zu; lent %zu bytes\n", library.whole,
+            baseline.whole, baseline.output.length);
+        std::printf("  input of %zu bytes:\n", baseline.input.length);
+        std::fwrite(baseline.input.start(), 1, baseline.input.length, stdout);
+        std::printf("\n");
+        std::exit(1);
+    }
+
+    void note(const std::string &text, const Texts &baseline)
+    {
+        const bool cut = baseline.whole > baseline.output.length;
+        coverage.note(cut ? run_output_cut : run_whole_output);
+        if (!text.empty() && text.back() != '\n')
+            coverage.note(run_without_last_newline);
+        // The second field of each whole row is its answer.
+        const std::string output(baseline.output.start(),
+            baseline.output.start() + std::min(baseline.whole, baseline.output.length));
+        size_t line = output.find('\n');
+        while (line != std::string::npos && output.find('\n', line + 1) != std::string::npos) {
+            coverage.note_number(
+                Kind::run, static_cast<uint32_t>(std::atoi(output.c_str() + output.find('\t', line) + 1)));
+            line = output.find('\n', line + 1);
+        }
+    }
+};
