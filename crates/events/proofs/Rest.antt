@@ -53,7 +53,8 @@ pub line-done : (input : List ℕ) (s : State) (event place : ℕ) (rest : List 
     → printed ≡ sets out at (rowFor event done)
     → at + length (rowsLeft input s event place) ≡ total
     → sets out at (rowsLeft input s event place) ≡ whole
-    → (next + length (rowsLeft input (state (done .directory) m array) (event + 1) (place + e + 1)) ≡ total) × (sets printed next (rowsLeft input (state (done .directory) m array) (event + 1) (place + e + 1)) ≡ whole)
+    → (next + length (rowsLeft input (state (done .directory) m array) (event + 1) (place + e + 1)) ≡ total)
+    × (sets printed next (rowsLeft input (state (done .directory) m array) (event + 1) (place + e + 1)) ≡ whole)
 line-done input s event place rest e done m array out printed whole at next total h r i d n p t w =
     let row = rowFor event done in
     let after = rowsLeft input (state (done .directory) m array) (event + 1) (place + e + 1) in
