@@ -1,5 +1,4 @@
 use Rattle.rows.proofs.Decimal.{decimal-most}
-use Prim.Native.Nat.{_<_}
 use Rattle.rows.proofs.Printing.{digit-only, digit-last}
 use mathlib.Core.Path.{_∙_}
 use borrow.Author.Needs.{needs}
