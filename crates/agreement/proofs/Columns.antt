@@ -11,9 +11,9 @@ use Rattle.memory.specs.Parity.{memory, Agrees, dpAt, laneBit, dpOf, onesOf}
 use Rattle.access.specs.Access.{State}
 use Rattle.board.specs.Board.{boardAnswers}
 use Rattle.refusal.specs.Refusal.{lentNumber, memoryNumber}
-use Rattle.lines.specs.declared.scanning.Event.{Event}
-use Rattle.lines.specs.declared.scanning.Event.the-variants.{Malformed, Read, Write, External, Snoop, Flush, Control, Reset}
-use Rattle.lines.specs.Fields.{pairBytes, linesOf}
+use Rattle.lines.specs.declared.Event.{Event}
+use Rattle.lines.specs.declared.Event.the-variants.{Malformed, Read, Write, External, Snoop, Flush, Control, Reset}
+use Rattle.fields.specs.Fields.{pairBytes, linesOf}
 use Rattle.lines.specs.Scan.{scanned}
 use Rattle.events.specs.Perform.{Performed, performed, zeroLog, eventDone, lineDone}
 use Rattle.events.specs.Output.{stateAfter, rowsOf, start, outputOf}

@@ -7,11 +7,11 @@ use lib.Dec.{ltb}
 use lib.ListN.{length, getD, drop, replicate}
 use Rattle.access.specs.Access.{State}
 use Rattle.board.specs.Board.{boardAnswers}
-use Rattle.lines.specs.declared.scanning.Event.{Event}
-use Rattle.lines.specs.declared.scanning.Event.the-variants.{Malformed, Read, Write, External, Snoop, Flush, Control, Reset}
-use Rattle.lines.specs.Fields.{pairBytes, linesOf}
+use Rattle.lines.specs.declared.Event.{Event}
+use Rattle.lines.specs.declared.Event.the-variants.{Malformed, Read, Write, External, Snoop, Flush, Control, Reset}
+use Rattle.fields.specs.Fields.{pairBytes, linesOf}
 use Rattle.lines.specs.Scan.{scanned}
-use Rattle.lines.specs.Row.{header, rowOf}
+use Rattle.rows.specs.Row.{header, rowOf}
 use Rattle.events.specs.Perform.{zeroLog, lineDone}
 use Rattle.events.specs.Output.{stateAfter, start, outputOf}
 use Rattle.agreement.specs.Calls.{read, write, external, snoop, flush, control, reset}

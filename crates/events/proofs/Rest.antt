@@ -5,16 +5,16 @@ use mathlib.Core.List.{List, [], _++_}
 use native.Mathlib.Numerals.{add-one}
 use native.Mathlib.Omega.{arith}
 use lib.ListN.{length, take, drop, length-append, length-drop, drop-of-length-le}
-use lib.Seq.{sets, take-all, drop-drop}
+use lib.Seq.{sets, drop-drop}
 use borrow.Author.Tests.{lt-ltb, le-ltb}
 use Rattle.laws.proofs.Lists.{sets-append}
 use Rattle.bytes.specs.Bytes.{indexOf}
 use Rattle.memory.specs.Parity.{Memory}
 use Rattle.access.specs.declared.outcome.Outcome.{Outcome}
 use Rattle.access.specs.Access.{State, state}
-use Rattle.lines.specs.Fields.{newline, linesOf, withoutEmptyEnd, partsOf}
-use Rattle.lines.specs.Row.{header, rowOf}
-use Rattle.lines.proofs.Parts.{lines-next}
+use Rattle.fields.specs.Fields.{newline, linesOf, withoutEmptyEnd, partsOf}
+use Rattle.rows.specs.Row.{header, rowOf}
+use Rattle.fields.proofs.Parts.{drop-part, lines-next}
 use Rattle.events.specs.Perform.{performed, lineDone}
 use Rattle.events.specs.Output.{rowFor, rowsOf, start, outputOf}
 
@@ -27,10 +27,15 @@ unfolding rowsOf linesOf withoutEmptyEnd partsOf
 rows-left-none input s event place h = rw (drop-of-length-le input h)
 
 -- The next line's row comes first.
-rows-left-next : (input : List ℕ) (s : State) (event place : ℕ) (rest : List ℕ) (e : ℕ) (done : Outcome) (m : Memory) (array : List ℕ) → place < length input → rest ≡ take (length input - place) (drop place input) → e ≡ indexOf newline rest → performed done m array ≡ lineDone s (take e rest) → rowsLeft input s event place ≡ rowFor event done ++ rowsLeft input (state (done .directory) m array) (event + 1) (place + e + 1)
+rows-left-next : (input : List ℕ) (s : State) (event place : ℕ) (rest : List ℕ) (e : ℕ) (done : Outcome) (m : Memory) (array : List ℕ)
+    → place < length input
+    → rest ≡ take (length input - place) (drop place input)
+    → e ≡ indexOf newline rest
+    → performed done m array ≡ lineDone s (take e rest)
+    → rowsLeft input s event place ≡ rowFor event done ++ rowsLeft input (state (done .directory) m array) (event + 1) (place + e + 1)
 unfolding rowsOf
 rows-left-next input s event place rest e done m array h r i d =
-    let whole : rest ≡ drop place input = r ∙ take-all (length input - place) (drop place input) (omega (arith, length-drop place input)) in
+    let whole : rest ≡ drop place input = r ∙ drop-part place input in
     let some : 0 < length (drop place input) = omega (arith, length-drop place input) in
     let at : e ≡ indexOf newline (drop place input) = i ∙ ap (indexOf newline) whole in
     let sum : place + suc e ≡ place + e + 1 = omega arith in
@@ -38,8 +43,18 @@ rows-left-next input s event place rest e done m array h r i d =
     let line : lineDone s (take e (drop place input)) ≡ performed done m array = ap (λ l. lineDone s (take e l)) (sym whole) ∙ sym d in
     rw (lines-next (drop place input) e some at, far, line, add-one event)
 
--- Its row put, what is left after it gives what was left before it.
-pub line-done : (input : List ℕ) (s : State) (event place : ℕ) (rest : List ℕ) (e : ℕ) (done : Outcome) (m : Memory) (array out printed whole : List ℕ) (at next total : ℕ) → place < length input → rest ≡ take (length input - place) (drop place input) → e ≡ indexOf newline rest → performed done m array ≡ lineDone s (take e rest) → next ≡ at + length (rowFor event done) → printed ≡ sets out at (rowFor event done) → at + length (rowsLeft input s event place) ≡ total → sets out at (rowsLeft input s event place) ≡ whole → (next + length (rowsLeft input (state (done .directory) m array) (event + 1) (place + e + 1)) ≡ total) × (sets printed next (rowsLeft input (state (done .directory) m array) (event + 1) (place + e + 1)) ≡ whole)
+-- The next line's row put, what is left after it gives what was left before it.
+pub line-done : (input : List ℕ) (s : State) (event place : ℕ) (rest : List ℕ) (e : ℕ) (done : Outcome) (m : Memory) (array out printed whole : List ℕ) (at next total : ℕ)
+    → place < length input
+    → rest ≡ take (length input - place) (drop place input)
+    → e ≡ indexOf newline rest
+    → performed done m array ≡ lineDone s (take e rest)
+    → next ≡ at + length (rowFor event done)
+    → printed ≡ sets out at (rowFor event done)
+    → at + length (rowsLeft input s event place) ≡ total
+    → sets out at (rowsLeft input s event place) ≡ whole
+    → (next + length (rowsLeft input (state (done .directory) m array) (event + 1) (place + e + 1)) ≡ total)
+    × (sets printed next (rowsLeft input (state (done .directory) m array) (event + 1) (place + e + 1)) ≡ whole)
 line-done input s event place rest e done m array out printed whole at next total h r i d n p t w =
     let row = rowFor event done in
     let after = rowsLeft input (state (done .directory) m array) (event + 1) (place + e + 1) in
@@ -58,7 +73,12 @@ unfolding outputOf
 output-lines input h = rw (le-ltb 65536 (length input) h)
 
 -- the header and what stands after it
-pub after-header : (out rows o p : List ℕ) (at end : ℕ) → at ≡ length header → o ≡ sets out 0 header → end ≡ at + length rows → p ≡ sets o at rows → (end ≡ length (header ++ rows)) × (p ≡ sets out 0 (header ++ rows))
+pub after-header : (out rows o p : List ℕ) (at end : ℕ)
+    → at ≡ length header
+    → o ≡ sets out 0 header
+    → end ≡ at + length rows
+    → p ≡ sets o at rows
+    → (end ≡ length (header ++ rows)) × (p ≡ sets out 0 (header ++ rows))
 after-header out rows o p at end ea eo ee ep =
     let zero-at : 0 + length header ≡ at = omega (arith, ea) in
     (omega (arith, ea, ee, length-append header rows), ep ∙ rw (eo, ← zero-at) (sym (sets-append out 0 header rows)))

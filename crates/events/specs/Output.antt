@@ -8,8 +8,8 @@ use Rattle.directory.specs.Steps.{afterReset}
 use Rattle.memory.specs.Parity.{memory}
 use Rattle.access.specs.declared.outcome.Outcome.{Outcome}
 use Rattle.access.specs.Access.{State, state}
-use Rattle.lines.specs.Fields.{linesOf}
-use Rattle.lines.specs.Row.{header, rowOf}
+use Rattle.fields.specs.Fields.{linesOf}
+use Rattle.rows.specs.Row.{header, rowOf}
 use Rattle.events.specs.Perform.{Performed, lineDone}
 
 -- A row shows an event's answer.

@@ -8,9 +8,9 @@ use Rattle.access.specs.declared.outcome.Outcome.{Outcome}
 use Rattle.access.specs.Access.{State, After, outcome, readCall, writeCall}
 use Rattle.access.specs.Masters.{Written, externalCall, snoopOutcome, controlOutcome, flushOutcome, resetOutcome}
 use Rattle.board.specs.Board.{boardAnswers}
-use Rattle.lines.specs.declared.scanning.Event.{Event}
-use Rattle.lines.specs.declared.scanning.Event.the-variants.{Malformed, Read, Write, External, Snoop, Flush, Control, Reset}
-use Rattle.lines.specs.Fields.{pairBytes}
+use Rattle.lines.specs.declared.Event.{Event}
+use Rattle.lines.specs.declared.Event.the-variants.{Malformed, Read, Write, External, Snoop, Flush, Control, Reset}
+use Rattle.fields.specs.Fields.{pairBytes}
 use Rattle.lines.specs.Scan.{scanned}
 
 -- What an event leaves: its answer with the directory, memory, the data array.

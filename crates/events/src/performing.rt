@@ -6,12 +6,12 @@ ghost use Rattle.memory.specs.Parity.{memory};
 ghost use Rattle.access.specs.Access.{outcome, readCall, state, writeCall};
 ghost use Rattle.access.specs.Masters.{externalCall, written};
 ghost use Rattle.board.specs.Board.{boardAnswers};
-ghost use Rattle.lines.specs.Fields.{pairBytes};
+ghost use Rattle.fields.specs.Fields.{pairBytes};
 ghost use Rattle.events.specs.Perform.{accessEvent, lineDone, performed, zeroLog};
 use access::Outcome;
 use directory::Directory;
+use fields::pair_bytes;
 use lines::Event;
-use lines::pair_bytes;
 use lines::scan;
 
 // The line's event with the board's answers. A malformed line answers 11.
@@ -83,7 +83,7 @@ fn perform_read(
     )
 }
 
-// A write, likewise.
+// A write with the board's answers and a log that is not shown.
 fn perform_write(
     given: Directory,
     ram: &mut [u8],

@@ -3,13 +3,13 @@ ghost use mathlib.Core.Path.{_≡_};
 ghost use Prim.Native.Nat.{_+_, _≤_};
 ghost use lib.ListN.{length};
 ghost use lib.Seq.{sets};
-ghost use Rattle.lines.specs.Fields.{linesOf};
+ghost use Rattle.fields.specs.Fields.{linesOf};
 ghost use Rattle.events.specs.Output.{outputOf, rowsOf, start};
 use crate::performing::perform;
 use directory::Directory;
-use lines::end_of;
-use lines::put_header;
-use lines::put_row;
+use fields::end_of;
+use rows::put_header;
+use rows::put_row;
 
 // Puts the output of the program for the input at the start of output, as far as output goes, and answers its length, for
 // which 2,883,654 bytes are enough.

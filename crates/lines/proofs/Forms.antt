@@ -5,18 +5,18 @@ use mathlib.Core.Bool.{Bool, true, false, cond}
 use mathlib.Core.List.{List, [], _∷_}
 use native.Mathlib.Omega.{arith}
 use native.Mathlib.Numerals.{add-one}
-use lib.ListN.{length, take, drop, getD, length-drop}
-use lib.Seq.{take-all, length-take-le}
+use lib.ListN.{length, take, drop, getD}
+use lib.Seq.{length-take-le}
 use borrow.Author.Tests.{le-ltb, lt-ltb, ne-eqb}
 use Rattle.laws.proofs.Tests.{same-or}
 use Rattle.bytes.specs.Bytes.{indexOf}
-use Rattle.lines.specs.declared.numbers.Number.the-variants.{Value, NotANumber}
-use Rattle.lines.specs.declared.scanning.Event.{Event}
-use Rattle.lines.specs.declared.scanning.Event.the-variants.{Malformed}
-use Rattle.lines.specs.Fields.{tab, fieldsOf}
-use Rattle.lines.specs.Number.{numberOf, bitOf}
+use Rattle.fields.specs.declared.numbers.Number.the-variants.{Value, NotANumber}
+use Rattle.fields.specs.Fields.{tab, fieldsOf}
+use Rattle.fields.specs.Number.{numberOf, bitOf}
+use Rattle.fields.proofs.Parts.{drop-part, parts-some, parts-end, parts-more}
+use Rattle.lines.specs.declared.Event.{Event}
+use Rattle.lines.specs.declared.Event.the-variants.{Malformed}
 use Rattle.lines.specs.Scan.{with, ofNone, ofOne, ofTwo, ofThree, readWith, readOf, writeWith, writeOf, eventOf, formOf, scanned}
-use Rattle.lines.proofs.Parts.{parts-some, parts-end, parts-more}
 
 -- a line with fields where none belongs
 none-some : (event : Event) (l : List ℕ) → ofNone event (fieldsOf l) ≡ Malformed
@@ -28,7 +28,7 @@ abbrev pub restAfter : ℕ → List ℕ → List ℕ
 restAfter e l = take (length l - (e + 1)) (drop (e + 1) l)
 
 rest-drop : (e : ℕ) (l : List ℕ) → restAfter e l ≡ drop (suc e) l
-rest-drop e l = rw (add-one e) (take-all (length l - suc e) (drop (suc e) l) (omega (arith, length-drop (suc e) l)))
+rest-drop e l = rw (add-one e) (drop-part (suc e) l)
 
 -- In these laws e is the place of the first tab, or the text's length.
 module _ (l : List ℕ) (e : ℕ) (place : e ≡ indexOf tab l) where

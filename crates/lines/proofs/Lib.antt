@@ -1,7 +1,3 @@
 -- Laws that the proofs of several functions cite.
-pub mod Digits
-pub mod Parts
-pub mod Forms
-pub mod Pairs
+mod Forms
 pub mod Within
-pub mod Printing

@@ -8,12 +8,12 @@ use lib.Dec.{eqb, ltb}
 use lib.ListN.{length}
 use borrow.Author.Tests.{ltb-false}
 use Rattle.laws.proofs.Tests.{by-test}
-use Rattle.lines.specs.declared.numbers.Number.{Number}
-use Rattle.lines.specs.declared.numbers.Number.the-variants.{Value, NotANumber}
-use Rattle.lines.specs.declared.scanning.Event.{Event}
-use Rattle.lines.specs.declared.scanning.Event.the-variants.{Malformed, Read, Write, External, Snoop, Flush, Control, Reset}
-use Rattle.lines.specs.Fields.{tab, fieldsOf, partsOf, inFront, isPairs}
-use Rattle.lines.proofs.Parts.{parts-some}
+use Rattle.fields.specs.declared.numbers.Number.{Number}
+use Rattle.fields.specs.declared.numbers.Number.the-variants.{Value, NotANumber}
+use Rattle.fields.specs.Fields.{tab, fieldsOf, partsOf, inFront, isPairs}
+use Rattle.fields.proofs.Parts.{parts-some}
+use Rattle.lines.specs.declared.Event.{Event}
+use Rattle.lines.specs.declared.Event.the-variants.{Malformed, Read, Write, External, Snoop, Flush, Control, Reset}
 use Rattle.lines.specs.Scan.{with, ofNone, ofOne, ofTwo, ofThree, readWith, readOf, writeWith, writeOf, externalOf, snoopOf, controlOf, formOf, eventOf, scanned}
 
 -- true of every event but an external write whose pairs begin past so many bytes

@@ -1,5 +1,2 @@
--- Event lines and rows as text, by document 01, 'Board table and program': what a reader must believe of this crate.
-pub mod Number
-pub mod Fields
+-- The event of a line by document 01, 'Board table and program': what a reader must believe of this crate.
 pub mod Scan
-pub mod Row

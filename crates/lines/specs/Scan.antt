@@ -4,34 +4,34 @@ use mathlib.Core.Bool.{cond}
 use mathlib.Core.List.{List, [], _∷_}
 use lib.Dec.{eqb, ltb}
 use lib.ListN.{length}
-use Rattle.lines.specs.declared.numbers.Number.{Number}
-use Rattle.lines.specs.declared.numbers.Number.the-variants.{Value, NotANumber}
-use Rattle.lines.specs.declared.scanning.Event.{Event}
-use Rattle.lines.specs.declared.scanning.Event.the-variants.{Malformed, Read, Write, External, Snoop, Flush, Control, Reset}
-use Rattle.lines.specs.Number.{numberOf, bitOf}
-use Rattle.lines.specs.Fields.{fieldsOf, isPairs}
+use Rattle.fields.specs.declared.numbers.Number.{Number}
+use Rattle.fields.specs.declared.numbers.Number.the-variants.{Value, NotANumber}
+use Rattle.fields.specs.Number.{numberOf, bitOf}
+use Rattle.fields.specs.Fields.{fieldsOf, isPairs}
+use Rattle.lines.specs.declared.Event.{Event}
+use Rattle.lines.specs.declared.Event.the-variants.{Malformed, Read, Write, External, Snoop, Flush, Control, Reset}
 
 -- A line that has a number where one belongs, or is malformed.
 unfoldable pub with : Number → (ℕ → Event) → Event
 with (Value n) event = event n
 with NotANumber event = Malformed
 
--- A line with no field after its letter, or a malformed one;
+-- A line with no field after its letter, or a malformed one.
 unfoldable pub ofNone : Event → List (List ℕ) → Event
 ofNone event [] = event
 ofNone event (a ∷ rest) = Malformed
 
--- with one field,
+-- A line with one field after its letter, or a malformed one.
 unfoldable pub ofOne : (List ℕ → Event) → List (List ℕ) → Event
 ofOne event [] = Malformed
 ofOne event (a ∷ rest) = ofNone (event a) rest
 
--- with two,
+-- A line with two fields after its letter, or a malformed one.
 unfoldable pub ofTwo : (List ℕ → List ℕ → Event) → List (List ℕ) → Event
 ofTwo event [] = Malformed
 ofTwo event (a ∷ rest) = ofOne (event a) rest
 
--- with three.
+-- A line with three fields after its letter, or a malformed one.
 unfoldable pub ofThree : (List ℕ → List ℕ → List ℕ → Event) → List (List ℕ) → Event
 ofThree event [] = Malformed
 ofThree event (a ∷ rest) = ofTwo (event a) rest

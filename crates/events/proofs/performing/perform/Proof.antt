@@ -1,4 +1,4 @@
-use Rattle.lines.proofs.Pairs.{drop-part}
+use Rattle.fields.proofs.Parts.{drop-part}
 use Rattle.lines.proofs.Within.{external-line}
 use Rattle.events.specs.Perform.{lineDone, eventDone, externalEvent}
 use Rattle.access.specs.Access.{state}

@@ -1,8 +1,8 @@
 use lib.ListN.{length-replicate}
 use mathlib.Core.Path.{sym}
 use Prim.Native.Nat.{ℕ}
-use Rattle.lines.specs.Fields.{pairBytes}
-use Rattle.lines.proofs.Pairs.{front-count, pairs-length}
+use Rattle.fields.specs.Fields.{pairBytes}
+use Rattle.fields.proofs.Pairs.{front-count, pairs-length}
 use mathlib.Core.Path.{_∙_}
 use native.Mathlib.Omega.{arith}
 use borrow.Author.Needs.{needs}

@@ -1,5 +1,5 @@
 use mathlib.Core.Path.{_∙_}
-use Rattle.lines.proofs.Printing.{header-length}
+use Rattle.rows.proofs.Printing.{header-length}
 use Rattle.events.proofs.Rest.{output-long, output-lines, after-header}
 use native.Mathlib.Omega.{arith}
 use Rattle.events.proofs.running.run.Statement.{statement}

@@ -2,7 +2,7 @@ use mathlib.Core.List.{[]}
 use denote.Ref.{now}
 use Rattle.events.proofs.Rest.{rowsLeft, rows-left-none, line-done}
 use Rattle.events.specs.Output.{rowsOf, start}
-use Rattle.lines.specs.Fields.{linesOf}
+use Rattle.fields.specs.Fields.{linesOf}
 use Rattle.access.specs.Access.{state}
 use Rattle.memory.specs.Parity.{memory}
 use lib.Seq.{sets, length-take-le}

@@ -1,0 +1,94 @@
+-- Laws of numbers as text: what the scanning of a field finds.
+use Prim.Native.Nat.{ℕ, _+_, _*_, _-_, _^_, _≤_, _<_}
+use mathlib.Core.Path.{_≡_, refl, sym, _∙_}
+use mathlib.Core.Bool.{Bool, true, false, _&&_, and-false, and-assoc, and-true}
+use mathlib.Core.List.{List, [], _∷_}
+use native.Mathlib.Nat.{pow-le-pow-right, pow-suc}
+use native.Mathlib.Numerals.{add-one}
+use native.Mathlib.Omega.{arith}
+use lib.ListN.{length, getD, drop, drop-of-length-le}
+use lib.Seq.{drop-cons}
+use borrow.Author.Tests.{le-leb, lt-leb}
+use Rattle.fields.specs.declared.numbers.Number.the-variants.{Value, NotANumber}
+use Rattle.fields.specs.Number.{isDigit, allAre, valueAfter, decimalValue, isNumber, numberOf, bitOf}
+
+-- one byte more is looked at, and none is left
+pub all-step : (test : ℕ → Bool) (l : List ℕ) (k : ℕ) → k < length l → allAre test (drop k l) ≡ (test (getD l k 0) && allAre test (drop (k + 1) l))
+unfolding allAre
+all-step test l k h = rw (add-one k, drop-cons l k 0)
+
+pub all-end : (test : ℕ → Bool) (l : List ℕ) (k : ℕ) → length l ≤ k → allAre test (drop k l) ≡ true
+unfolding allAre
+all-end test l k h = rw (drop-of-length-le l h)
+
+-- what was found of the bytes before the k-th takes in the k-th, and at the end it is what was found of all
+pub all-and : (test : ℕ → Bool) (l : List ℕ) (k : ℕ) (found : Bool) → k < length l → (found && test (getD l k 0) && allAre test (drop (k + 1) l)) ≡ (found && allAre test (drop k l))
+all-and test l k found h = rw (all-step test l k h, and-assoc found (test (getD l k 0)) (allAre test (drop (k + 1) l)))
+
+pub all-and-end : (test : ℕ → Bool) (l : List ℕ) (k : ℕ) (found : Bool) → length l ≤ k → (found && allAre test (drop k l)) ≡ found
+all-and-end test l k found h = rw (all-end test l k h) (and-true found)
+
+-- one digit more is read, and none is left
+pub value-step : (n : ℕ) (l : List ℕ) (k : ℕ) → k < length l → valueAfter n (drop k l) ≡ valueAfter (n * 10 + (getD l k 0 - 48)) (drop (k + 1) l)
+unfolding valueAfter
+value-step n l k h = rw (add-one k, drop-cons l k 0)
+
+pub value-end : (n : ℕ) (l : List ℕ) (k : ℕ) → length l ≤ k → valueAfter n (drop k l) ≡ n
+unfolding valueAfter
+value-end n l k h = rw (drop-of-length-le l h)
+
+-- the fields that are no number
+pub number-empty : (field : List ℕ) → length field ≡ 0 → NotANumber ≡ numberOf field
+unfolding numberOf isNumber
+number-empty field e = rw e
+
+pub number-long : (field : List ℕ) → 10 < length field → NotANumber ≡ numberOf field
+unfolding numberOf isNumber
+number-long field h = simp (lt-leb (length field) 10 h, and-false)
+
+number-other : (field : List ℕ) → allAre isDigit field ≡ false → NotANumber ≡ numberOf field
+unfolding numberOf isNumber
+number-other field e = simp (e, and-false)
+
+pub number-large : (field : List ℕ) → 4294967295 < decimalValue field → NotANumber ≡ numberOf field
+unfolding numberOf isNumber
+number-large field h = simp (lt-leb (decimalValue field) 4294967295 h, and-false)
+
+-- a field that is a number
+pub number-value : (field : List ℕ) → 1 ≤ length field → length field ≤ 10 → allAre isDigit field ≡ true → decimalValue field ≤ 4294967295 → Value (decimalValue field) ≡ numberOf field
+unfolding numberOf isNumber
+number-value field some few digits small =
+    simp (le-leb 1 (length field) some, le-leb (length field) 10 few, digits, le-leb (decimalValue field) 4294967295 small)
+
+-- a field whose k-th byte is no digit
+pub other-at : (field : List ℕ) (k : ℕ) → k < length field → isDigit (getD field k 0) ≡ false → allAre isDigit (drop k field) ≡ allAre isDigit field → NotANumber ≡ numberOf field
+other-at field k h e same = number-other field (sym same ∙ rw (all-step isDigit field k h, e))
+
+pub low-digit : (c : ℕ) → c < 48 → isDigit c ≡ false
+low-digit c h = rw (lt-leb 48 c h)
+
+pub high-digit : (c : ℕ) → 57 < c → isDigit c ≡ false
+high-digit c h = simp (lt-leb c 57 h, and-false)
+
+pub a-digit : (c : ℕ) → 48 ≤ c → c ≤ 57 → isDigit c ≡ true
+a-digit c h j = rw (le-leb 48 c h, le-leb c 57 j)
+
+-- a digit more is below the next power
+pub power-step : (value digit k : ℕ) → value < 10 ^ k → digit ≤ 57 → value * 10 + (digit - 48) < 10 ^ (k + 1)
+power-step value digit k h j = rw (add-one k, pow-suc 10 k) (omega (arith, h, j))
+
+pub power-most : (k : ℕ) → k < 10 → 10 ^ k ≤ 1000000000
+power-most k h = pow-le-pow-right {n = 10} (omega arith) {i = k} {j = 9} (omega (arith, h))
+
+-- a field of one byte, and one of none or more
+pub bit-one : (field : List ℕ) → length field ≡ 1 → bitOf field ≡ bitOf (getD field 0 0 ∷ [])
+unfolding bitOf
+bit-one [] h = absurd (omega (arith, h))
+bit-one (c ∷ []) h = refl
+bit-one (c ∷ d ∷ cs) h = absurd (omega (arith, h))
+
+pub bit-other : (field : List ℕ) → (length field ≡ 1 → ⊥) → NotANumber ≡ bitOf field
+unfolding bitOf
+bit-other [] n = refl
+bit-other (c ∷ []) n = absurd (n refl)
+bit-other (c ∷ d ∷ cs) n = refl

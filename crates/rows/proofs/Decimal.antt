@@ -1,0 +1,89 @@
+-- Laws of the text of a number, and that scanning gives back what was printed.
+use Prim.Native.Nat.{ℕ, zero, suc, _+_, _*_, _-_, _/_, _%_, _^_, _≤_, _<_}
+use mathlib.Core.Path.{_≡_, refl, sym}
+use mathlib.Core.Bool.{Bool, true, cond}
+use mathlib.Core.List.{List, [], _∷_, _++_}
+use native.Mathlib.Nat.{pow-suc, mod-eq-of-lt}
+use native.Mathlib.Omega.{arith}
+use lib.Dec.{ltb}
+use lib.ListN.{length, length-append}
+use borrow.Author.Tests.{ltb-true, ltb-false, lt-ltb, le-ltb}
+use Rattle.laws.proofs.Tests.{by-test, both}
+use Rattle.fields.specs.declared.numbers.Number.the-variants.{Value}
+use Rattle.fields.specs.Number.{isDigit, allAre, valueAfter, decimalValue, numberOf}
+use Rattle.fields.proofs.Digits.{a-digit, number-value}
+use Rattle.rows.specs.Decimal.{digitsOf, decimal}
+
+-- the digits of a number, whatever the limit above it
+digits-same : (a b n : ℕ) → n < a → n < b → digitsOf a n ≡ digitsOf b n
+unfolding digitsOf
+digits-same zero b n h j = absurd (omega (arith, h))
+digits-same (suc a) zero n h j = absurd (omega (arith, j))
+digits-same (suc a) (suc b) n h j =
+    by-test (λ t. ltb n 10 ≡ t → cond t [] (digitsOf a (n / 10)) ++ ((48 + n % 10) ∷ []) ≡ cond t [] (digitsOf b (n / 10)) ++ ((48 + n % 10) ∷ [])) (ltb n 10)
+    (λ _ _. refl)
+    (λ _ e. let m : 10 ≤ n = ltb-false n 10 e in rw (digits-same a b (n / 10) (omega (arith, h)) (omega (arith, j))))
+    refl
+
+pub decimal-below : (n : ℕ) → n < 10 → decimal n ≡ (48 + n) ∷ []
+unfolding decimal digitsOf
+decimal-below n h = rw (lt-ltb n 10 h, mod-eq-of-lt h)
+
+pub decimal-above : (n : ℕ) → 10 ≤ n → decimal n ≡ decimal (n / 10) ++ ((48 + n % 10) ∷ [])
+unfolding decimal digitsOf
+decimal-above n h = rw (le-ltb n 10 h, digits-same n (suc (n / 10)) (n / 10) (omega arith) (omega arith))
+
+-- a digit more at the end
+value-snoc : (m : ℕ) (l : List ℕ) (c : ℕ) → valueAfter m (l ++ (c ∷ [])) ≡ valueAfter m l * 10 + (c - 48)
+unfolding valueAfter
+value-snoc m [] c = refl
+value-snoc m (d ∷ l) c = value-snoc (m * 10 + (d - 48)) l c
+
+all-snoc : (test : ℕ → Bool) (l : List ℕ) (c : ℕ) → allAre test l ≡ true → test c ≡ true → allAre test (l ++ (c ∷ [])) ≡ true
+unfolding allAre
+all-snoc test [] c a e = rw e
+all-snoc test (d ∷ l) c a e = let (h, t) = both (test d) (allAre test l) a in rw (h, all-snoc test l c t e)
+
+-- The text of a number has its value, digits only, and no more of them than its size asks for.
+digits-value : (most n : ℕ) → n < most → decimalValue (digitsOf most n) ≡ n
+unfolding digitsOf valueAfter
+digits-value zero n h = absurd (omega (arith, h))
+digits-value (suc most) n h =
+    by-test (λ t. ltb n 10 ≡ t → decimalValue (cond t [] (digitsOf most (n / 10)) ++ ((48 + n % 10) ∷ [])) ≡ n) (ltb n 10)
+    (λ _ e. omega (arith, ltb-true n 10 e))
+    (λ _ e. let m : 10 ≤ n = ltb-false n 10 e in rw (value-snoc 0 (digitsOf most (n / 10)) (48 + n % 10), digits-value most (n / 10) (omega (arith, h))) (omega arith))
+    refl
+
+digits-all : (most n : ℕ) → allAre isDigit (digitsOf most n) ≡ true
+unfolding digitsOf allAre
+digits-all zero n = refl
+digits-all (suc most) n =
+    by-test (λ t. allAre isDigit (cond t [] (digitsOf most (n / 10)) ++ ((48 + n % 10) ∷ [])) ≡ true) (ltb n 10)
+    (λ _. all-snoc isDigit [] (48 + n % 10) refl (a-digit (48 + n % 10) (omega arith) (omega arith)))
+    (λ _. all-snoc isDigit (digitsOf most (n / 10)) (48 + n % 10) (digits-all most (n / 10)) (a-digit (48 + n % 10) (omega arith) (omega arith)))
+
+digits-most : (most k n : ℕ) → n < 10 ^ suc k → length (digitsOf most n) ≤ suc k
+unfolding digitsOf
+digits-most zero k n h = omega arith
+digits-most (suc most) zero n h = rw (lt-ltb n 10 (omega (arith, h))) (omega arith)
+digits-most (suc most) (suc k) n h =
+    by-test (λ t. length (cond t [] (digitsOf most (n / 10)) ++ ((48 + n % 10) ∷ [])) ≤ suc (suc k)) (ltb n 10)
+    (λ _. omega arith)
+    (λ _. rw (length-append (digitsOf most (n / 10)) ((48 + n % 10) ∷ [])) (omega (arith, digits-most most k (n / 10) (omega (arith, rw (pow-suc 10 (suc k)) at h)))))
+
+digits-some : (most n : ℕ) → 1 ≤ length (digitsOf (suc most) n)
+unfolding digitsOf
+digits-some most n =
+    by-test (λ t. 1 ≤ length (cond t [] (digitsOf most (n / 10)) ++ ((48 + n % 10) ∷ []))) (ltb n 10) (λ _. omega arith)
+    (λ _. rw (length-append (digitsOf most (n / 10)) ((48 + n % 10) ∷ [])) (omega arith))
+
+pub decimal-most : (n : ℕ) → n ≤ 4294967295 → length (decimal n) ≤ 10
+unfolding decimal
+decimal-most n h = digits-most (suc n) 9 n (omega (arith, h))
+
+-- Scanning what was printed gives the number back.
+pub printed-scanned : (n : ℕ) → n ≤ 4294967295 → numberOf (decimal n) ≡ Value n
+unfolding decimal
+printed-scanned n h =
+    let v : decimalValue (digitsOf (suc n) n) ≡ n = digits-value (suc n) n (omega arith) in
+    sym (rw v at (number-value (digitsOf (suc n) n) (digits-some n n) (decimal-most n h) (digits-all (suc n) n) (rw v h)))

@@ -1,0 +1,82 @@
+-- Laws of text put into a buffer: digits, rows, the header.
+use Prim.Native.Nat.{ℕ, _+_, _/_, _%_, _≤_, _<_}
+use mathlib.Core.Path.{_≡_, refl, sym, _∙_}
+use mathlib.Core.List.{List, [], _∷_, _++_}
+use native.Mathlib.Numerals.{add-one}
+use native.Mathlib.Omega.{arith}
+use lib.ListN.{length, drop, getD, set, drop-of-length-le, length-append}
+use lib.Seq.{sets, drop-cons}
+use Rattle.laws.proofs.Lists.{sets-append}
+use Rattle.fields.specs.Fields.{tab, newline}
+use Rattle.rows.specs.Decimal.{decimal}
+use Rattle.rows.specs.Row.{column, header, rowOf}
+use Rattle.rows.proofs.Decimal.{decimal-below, decimal-above}
+
+-- a number of one digit, and the last digit of a longer one
+pub digit-only : (out : List ℕ) (at n : ℕ) → n < 10 → (at + 1 ≡ at + length (decimal n)) × (set out at (48 + n) ≡ sets out at (decimal n))
+digit-only out at n h = rw (decimal-below n h) (refl, refl)
+
+pub digit-last : (out : List ℕ) (at n next : ℕ) (tenth : List ℕ)
+    → 10 ≤ n
+    → next ≡ at + length (decimal (n / 10))
+    → tenth ≡ sets out at (decimal (n / 10))
+    → (next + 1 ≡ at + length (decimal n)) × (set tenth next (48 + n % 10) ≡ sets out at (decimal n))
+digit-last out at n next tenth h e f =
+    rw (decimal-above n h) (
+      rw (length-append (decimal (n / 10)) ((48 + n % 10) ∷ [])) (omega (arith, e)),
+      rw (e, f) (sym (sets-append out at (decimal (n / 10)) ((48 + n % 10) ∷ []))),
+    )
+
+-- a text and the byte after it
+field-put : (out : List ℕ) (at : ℕ) (text : List ℕ) (byte : ℕ) (rest : List ℕ) → sets out at (text ++ byte ∷ rest) ≡ sets (set (sets out at text) (at + length text) byte) (at + length text + 1) rest
+field-put out at text byte rest = sets-append out at text (byte ∷ rest) ∙ rw (add-one (at + length text))
+
+next-put : (out : List ℕ) (at : ℕ) (text : List ℕ) (byte : ℕ) (rest : List ℕ) (next : ℕ) (o p : List ℕ)
+    → next ≡ at + length text
+    → o ≡ sets out at text
+    → p ≡ set o next byte
+    → sets out at (text ++ byte ∷ rest) ≡ sets p (next + 1) rest
+next-put out at text byte rest next o p en eo ep = rw (ep, eo, en) (field-put out at text byte rest)
+
+field-length : (at : ℕ) (text : List ℕ) (byte : ℕ) (rest : List ℕ) → at + length (text ++ byte ∷ rest) ≡ at + length text + 1 + length rest
+field-length at text byte rest = rw (length-append text (byte ∷ rest)) (omega arith)
+
+-- the four numbers of a row, each with the byte after it, put one after the other
+pub row-put : (out : List ℕ) (at event number value cycles : ℕ) (a b c d : ℕ) (o₁ p₁ o₂ p₂ o₃ p₃ o₄ p₄ : List ℕ)
+    → a ≡ at + length (decimal event)
+    → o₁ ≡ sets out at (decimal event)
+    → p₁ ≡ set o₁ a tab
+    → b ≡ a + 1 + length (decimal number)
+    → o₂ ≡ sets p₁ (a + 1) (decimal number)
+    → p₂ ≡ set o₂ b tab
+    → c ≡ b + 1 + length (decimal value)
+    → o₃ ≡ sets p₂ (b + 1) (decimal value)
+    → p₃ ≡ set o₃ c tab
+    → d ≡ c + 1 + length (decimal cycles)
+    → o₄ ≡ sets p₃ (c + 1) (decimal cycles)
+    → p₄ ≡ set o₄ d newline
+    → (d + 1 ≡ at + length (rowOf event number value cycles)) × (p₄ ≡ sets out at (rowOf event number value cycles))
+unfolding rowOf
+row-put out at event number value cycles a b c d o₁ p₁ o₂ p₂ o₃ p₃ o₄ p₄ ea eo₁ ep₁ eb eo₂ ep₂ ec eo₃ ep₃ ed eo₄ ep₄ =
+    let r₄ = column cycles newline [] in
+    let r₃ = column value tab r₄ in
+    let r₂ = column number tab r₃ in (
+      omega (arith, ea, eb, ec, ed, field-length at (decimal event) tab r₂, field-length (a + 1) (decimal number) tab r₃, field-length (b + 1) (decimal value) tab r₄, field-length (c + 1) (decimal cycles) newline []),
+      sym
+          (next-put out at (decimal event) tab r₂ a o₁ p₁ ea eo₁ ep₁
+          ∙ next-put p₁ (a + 1) (decimal number) tab r₃ b o₂ p₂ eb eo₂ ep₂
+          ∙ next-put p₂ (b + 1) (decimal value) tab r₄ c o₃ p₃ ec eo₃ ep₃
+          ∙ next-put p₃ (c + 1) (decimal cycles) newline [] d o₄ p₄ ed eo₄ ep₄),
+    )
+
+-- the next byte of a text put in its place, and none is left
+pub put-next : (out text : List ℕ) (k : ℕ) → k < length text → sets (set out k (getD text k 0)) (k + 1) (drop (k + 1) text) ≡ sets out k (drop k text)
+put-next out text k h = rw (add-one k, drop-cons text k 0)
+
+pub put-none : (out text : List ℕ) (k : ℕ) → length text ≤ k → sets out k (drop k text) ≡ out
+put-none out text k h = rw (drop-of-length-le text h)
+
+-- how long the header is
+pub header-length : length header ≡ 26
+unfolding header
+header-length = refl

@@ -1,0 +1,61 @@
+// Numbers and rows as text, printed into a lent buffer.
+ghost use mathlib.Core.Path.{_≡_};
+ghost use Prim.Native.Nat.{_+_, _≤_};
+ghost use lib.ListN.{length, set};
+ghost use lib.Seq.{sets};
+ghost use Rattle.rows.specs.Decimal.{decimal};
+ghost use Rattle.rows.specs.Row.{header, rowOf};
+
+// Puts a byte at a place of out, if out goes so far.
+fn put(out: &mut [u8], at: usize, byte: u8)
+    ensures { λ _. ⌜ now (out .exit) ≡ set (now (out .entry)) at byte ⌝ }
+{
+    if at < out.len() {
+        out[at] = byte;
+    }
+}
+
+// Puts the decimal text of n at a place of out, as far as out goes, and answers the place after it.
+fn put_number(out: &mut [u8], at: usize, n: u32) -> usize
+    requires { ⌜ at ≤ 8589934592 ⌝ }
+    ensures { λ r. ⌜ (r ≡ at + length (decimal n)) × (now (out .exit) ≡ sets (now (out .entry)) at (decimal n)) ⌝ }
+    ensures { λ r. ⌜ r ≤ at + 10 ⌝ }
+{
+    if n < 10 {
+        put(out, at, 48 + n as u8);
+        return at + 1;
+    }
+    let next = put_number(out, at, n / 10);
+    put(out, next, 48 + (n % 10) as u8);
+    next + 1
+}
+
+// Puts the header line at the start of out, as far as out goes, and answers the place after it.
+pub fn put_header(out: &mut [u8]) -> usize
+    ensures { λ r. ⌜ (r ≡ length header) × (now (out .exit) ≡ sets (now (out .entry)) 0 header) ⌝ }
+{
+    let text = b"event\tanswer\tvalue\tcycles\n";
+    let mut k: usize = 0;
+    while k < text.len() {
+        put(out, k, text[k]);
+        k += 1;
+    }
+    k
+}
+
+// Puts a row at a place of out, as far as out goes, and answers the place after it.
+pub fn put_row(out: &mut [u8], at: usize, event: u32, number: u32, value: u32, cycles: u32) -> usize
+    requires { ⌜ at ≤ 4294967296 ⌝ }
+    ensures { λ r. ⌜ (r ≡ at + length (rowOf event number value cycles)) × (now (out .exit) ≡ sets (now (out .entry)) at (rowOf event number value cycles)) ⌝ }
+    ensures { λ r. ⌜ r ≤ at + 44 ⌝ }
+{
+    let a = put_number(out, at, event);
+    put(out, a, b'\t');
+    let b = put_number(out, a + 1, number);
+    put(out, b, b'\t');
+    let c = put_number(out, b + 1, value);
+    put(out, c, b'\t');
+    let d = put_number(out, c + 1, cycles);
+    put(out, d, b'\n');
+    d + 1
+}
