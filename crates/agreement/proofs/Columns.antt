@@ -77,7 +77,7 @@ unfolding dpAt
 zeros-agree ram parity =
     record { agree = λ a l. rw (zeros-at parity (a / 4), zeros-at ram a) (no-bit (a % 4) (omega arith)) }
 
-zeros-legal : (ram parity array : ℕ) → lentNumber ram parity array ≡ 0 → Legal (memory (replicate ram 0) (replicate parity 0)) (replicate array 0)
+pub zeros-legal : (ram parity array : ℕ) → lentNumber ram parity array ≡ 0 → Legal (memory (replicate ram 0) (replicate parity 0)) (replicate array 0)
 zeros-legal ram parity array e =
     record {
       lengths = rw (length-replicate {A = ℕ} ram 0, length-replicate {A = ℕ} parity 0, length-replicate {A = ℕ} array 0) e;
