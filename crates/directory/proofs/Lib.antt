@@ -1,5 +1,4 @@
--- Laws that several proofs cite. A crate above works from `Laws` and `SetState`; the others are their proofs.
+-- Laws that several proofs cite. A crate above works from `Laws` and `SetState`; `Lines` is for their proofs.
 mod Lines
 pub mod SetState
 pub mod Laws
-mod Lent

@@ -62,9 +62,9 @@ pub fn change_in_place(
 {
     match change {
         Change::Unchanged => {}
-        Change::Use(way) => directory::use_in_place(lru, ways::set_of(line), way),
+        Change::Use(way) => steps_in_place::use_in_place(lru, ways::set_of(line), way),
         Change::Fill(way) => {
-            directory::fill_in_place(
+            steps_in_place::fill_in_place(
                 tags,
                 valid,
                 lru,

@@ -11,7 +11,6 @@ ghost use Rattle.access.specs.Masters.{externalCall, written};
 use access_steps::AccessCursor;
 use access_steps::read_step;
 use access_steps::write_step;
-use directory::invalidate_in_place;
 use doubleword::change_in_place;
 use memory::store_bytes;
 use refusal::external_number;
@@ -20,6 +19,7 @@ use refusal::memory_number;
 use refusal::or_else;
 use refusal::states_number;
 use refusal::value_number;
+use steps_in_place::invalidate_in_place;
 use words::bytes_of;
 use words::word_of;
 
@@ -193,7 +193,7 @@ pub extern "C" fn unit486_snoop_in_place<'a>(
     ensures { λ r. ⌜ ((cd : Bool) → directoryResult (directoryOf (now (tags .entry)) (now (valid .exit)) (now (lru .entry)) cd nw) r
         ≡ snoopCall (directoryOf (now (tags .entry)) (now (valid .entry)) (now (lru .entry)) cd nw) address) ⌝ }
 {
-    directory::snoop_in_place(tags, valid, lru, nw, address)
+    steps_in_place::snoop_in_place(tags, valid, lru, nw, address)
 }
 
 #[no_mangle]
@@ -201,5 +201,5 @@ pub extern "C" fn unit486_flush_in_place(valid: &mut [bool; 512])
     ensures { λ _. ⌜ ((tags lru : List ℕ) (cd nw : Bool) → directoryOf tags (now (valid .exit)) lru cd nw
         ≡ afterFlush (directoryOf tags (now (valid .entry)) lru cd nw)) ⌝ }
 {
-    directory::flush_in_place(valid)
+    steps_in_place::flush_in_place(valid)
 }

@@ -1,7 +1,7 @@
-use Rattle.directory.proofs.Lent.{snoop-refused-in-place, snoop-accepted-in-place}
+use Rattle.steps_in_place.proofs.Lent.{snoop-refused-in-place, snoop-accepted-in-place}
 use borrow.Author.Needs.{needs}
-use Rattle.directory.proofs.in_place.snoop_in_place.Statement.{statement}
-use Rattle.directory.proofs.in_place.snoop_in_place.Tie as tie
+use Rattle.steps_in_place.proofs.snoop_in_place.Statement.{statement}
+use Rattle.steps_in_place.proofs.snoop_in_place.Tie as tie
 
 set-of-requires : tie.Need-set-of-requires
 set-of-requires c κs = search needs

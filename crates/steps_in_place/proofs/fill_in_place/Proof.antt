@@ -1,7 +1,7 @@
 use Rattle.directory.specs.Steps.{afterFill, afterUse}
 use borrow.Author.Needs.{needs}
-use Rattle.directory.proofs.in_place.fill_in_place.Statement.{statement}
-use Rattle.directory.proofs.in_place.fill_in_place.Tie as tie
+use Rattle.steps_in_place.proofs.fill_in_place.Statement.{statement}
+use Rattle.steps_in_place.proofs.fill_in_place.Tie as tie
 
 mul-index : tie.Need-mul-index
 mul-index c = search needs

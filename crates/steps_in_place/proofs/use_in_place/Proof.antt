@@ -1,7 +1,7 @@
 use Rattle.directory.specs.Steps.{afterUse}
 use borrow.Author.Needs.{needs}
-use Rattle.directory.proofs.in_place.use_in_place.Statement.{statement}
-use Rattle.directory.proofs.in_place.use_in_place.Tie as tie
+use Rattle.steps_in_place.proofs.use_in_place.Statement.{statement}
+use Rattle.steps_in_place.proofs.use_in_place.Tie as tie
 
 element-copy-out-old : tie.Need-element-copy-out-old
 element-copy-out-old c = search needs

@@ -6,10 +6,10 @@ use Rattle.ways.specs.declared.ways.Found.the-variants.{At}
 use Rattle.ways.specs.Address.{lineIndex}
 use Rattle.ways.specs.Ways.{lookupIn}
 use Rattle.ways.proofs.FourWays.{lookup-below}
-use Rattle.directory.proofs.Lent.{invalidate-off, invalidate-nothing, invalidate-at}
+use Rattle.steps_in_place.proofs.Lent.{invalidate-off, invalidate-nothing, invalidate-at}
 use borrow.Author.Needs.{needs}
-use Rattle.directory.proofs.in_place.invalidate_in_place.Statement.{statement}
-use Rattle.directory.proofs.in_place.invalidate_in_place.Tie as tie
+use Rattle.steps_in_place.proofs.invalidate_in_place.Statement.{statement}
+use Rattle.steps_in_place.proofs.invalidate_in_place.Tie as tie
 
 -- the line that is found
 found : (c : tie.After-set-of) → lookupIn (now (c .before .before .before .before .before .before .before .args .tags)) (now (c .before .before .before .before .before .before .before .args .valid)) (c .before .before .before .before .before .before .before .args .address) ≡ At (c .before .before .way .given .0 .0)

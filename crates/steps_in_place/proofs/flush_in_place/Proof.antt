@@ -1,7 +1,7 @@
 use mathlib.Core.Path.{refl}
 use Rattle.directory.specs.Steps.{afterFlush}
-use Rattle.directory.proofs.in_place.flush_in_place.Statement.{statement}
-use Rattle.directory.proofs.in_place.flush_in_place.Tie as tie
+use Rattle.steps_in_place.proofs.flush_in_place.Statement.{statement}
+use Rattle.steps_in_place.proofs.flush_in_place.Tie as tie
 
 returns : tie.Need-returns
 unfolding afterFlush
