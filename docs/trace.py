@@ -1,4 +1,7 @@
-"""Checks docs/TRACE.md: what it names is there, definitions are reached, every edit is named.
+"""Checks docs/TRACE.md: what it names is there, definitions are reached, every edit is named; and
+that no proof above the directory's layer unfolds a definition of it, but the bench theorem.
+
+    python3 docs/trace.py
 
 Prints one line, or a line for each fault on stderr, and then exits with 1.
 """
@@ -10,6 +13,8 @@ from pathlib import Path
 
 ROOT = Path(__file__).resolve().parent.parent
 CRATES = ROOT / "crates"
+# The directory's layer, and the one file above it that computes with its definitions.
+LAYER, BENCH = ("ways", "directory"), CRATES / "access/proofs/Bench.antt"
 COLUMNS = ("definition", "calls", "law", "test", "edit")
 # The form of a reference, by column; a definition may also be a type or a function of the code.
 LOGIC, CODE = r"\w+/[A-Z]\w*\.[\w-]+", r"\w+(::\w+)+"
@@ -42,10 +47,10 @@ def names_used(lines: list[str]) -> dict[str, str]:
     """What the names of the `use` lines stand for; the case of an enum stands for the enum."""
     names = {}
     for crate, kind, path, used in (use.groups() for use in map(USE.match, lines) if use):
-        part = path.split(".")
+        declared = path.removesuffix(".the-variants").split(".")
         for name in used.split(", "):
             logic = f"{kind}:{crate}/{path}.{name}"
-            names[name] = f"{crate}::{part[2]}" if part[0] == "declared" else logic
+            names[name] = f"{crate}::{declared[-1]}" if declared[0] == "declared" else logic
     return names
 
 
@@ -154,8 +159,9 @@ def read_crates() -> dict[str, Node]:
     return nodes
 
 
-def main() -> int:
-    nodes, faults, rows, references, edits = read_crates(), [], 0, 0, set()
+def table_faults(nodes: dict[str, Node]) -> tuple[list[str], str]:
+    """What is wrong with the rows, and how much there is."""
+    faults, rows, references, edits = [], 0, 0, set()
     cited = reach([key for key, node in nodes.items() if node.function and node.public], nodes)
     for number, line in enumerate((ROOT / "docs/TRACE.md").read_text().splitlines(), start=1):
         if line[:1] != "|" or line.startswith(("| document 01 |", "| demand |", "|---")):
@@ -165,17 +171,44 @@ def main() -> int:
         named = {column: [key for key, _ in found[column]] for column in found}
         wrong = [f"{key}: {fault}" for pairs in found.values() for key, fault in pairs if fault]
         wrong += ["not six cells"] if line.count("|") != len(COLUMNS) + 2 else []
-        faults += [f"{number}: {fault}" for fault in wrong or row_faults(named, cited, nodes)]
+        wrong = wrong or row_faults(named, cited, nodes)
+        faults += [f"docs/TRACE.md:{number}: {fault}" for fault in wrong]
         rows, references = rows + 1, references + sum(map(len, cells.values()))
         edits |= set(cells["edit"])
     there = {f"{path.parts[-3]}/{path.stem}" for path in CRATES.glob("*/must-fail/*.edit")}
-    faults += [f"0: {edit} is named in no row" for edit in sorted(there - edits)]
+    faults += [f"docs/TRACE.md: {edit} is named in no row" for edit in sorted(there - edits)]
+    return faults, f"{rows} rows, {references} references"
+
+
+def layer_faults() -> list[str]:
+    """Where a file above the directory's layer unfolds a definition of it."""
+    closed = tuple(f"specs:{crate}/" for crate in LAYER)
+    faults = []
+    for path in sorted(CRATES.rglob("*.antt")):
+        place = path.relative_to(ROOT)
+        if place.parts[1] in LAYER or path == BENCH:
+            continue
+        lines = path.read_text().splitlines()
+        names = names_used(lines)
+        for number, line in enumerate(lines, start=1):
+            words = line.split() if line.lstrip().startswith("unfolding ") else []
+            opened = [names[word] for word in words if names.get(word, "").startswith(closed)]
+            faults += [f"{place}:{number}: unfolds {name}" for name in opened]
+    return faults
+
+
+def main(words: list[str]) -> int:
+    if words:
+        print("usage: trace.py", file=sys.stderr)
+        return 2
+    faults, size = table_faults(read_crates())
+    faults += layer_faults()
     for fault in faults:
-        print(f"TRACE.md:{fault}", file=sys.stderr)
+        print(fault, file=sys.stderr)
     if not faults:
-        print(f"TRACE.md: {rows} rows, {references} references, all there")
+        print(f"TRACE.md: {size}, all there")
     return 1 if faults else 0
 
 
 if __name__ == "__main__":
-    sys.exit(main())
+    sys.exit(main(sys.argv[1:]))
