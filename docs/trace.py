@@ -14,7 +14,7 @@ from pathlib import Path
 ROOT = Path(__file__).resolve().parent.parent
 CRATES = ROOT / "crates"
 # The directory's layer, and the one file above it that computes with its definitions.
-LAYER, BENCH = ("ways", "directory"), CRATES / "access/proofs/Bench.antt"
+LAYER, BENCH = ("ways", "directory", "steps_in_place"), CRATES / "access/proofs/Bench.antt"
 COLUMNS = ("definition", "calls", "law", "test", "edit")
 # The form of a reference, by column; a definition may also be a type or a function of the code.
 LOGIC, CODE = r"\w+/[A-Z]\w*\.[\w-]+", r"\w+(::\w+)+"
