@@ -28,12 +28,12 @@ or-nothing a b z = same-or _ a 0 (λ e. zero-or a b e ∙ z ∙ sym e) (λ n. fi
 
 -- 1 to 3 are not met by document 01's lengths
 module _ (ram parity : ℕ) (g : GoodMemory ram parity) where
-  pub ram-clear : ramNumber ram ≡ 0
-  ram-clear = rw (le-ltb ram 16 (g .least), le-ltb 16777216 ram (g .most), eq-eqb (ram % 16) 0 (g .whole))
+  pub ram-zero : ramNumber ram ≡ 0
+  ram-zero = rw (le-ltb ram 16 (g .least), le-ltb 16777216 ram (g .most), eq-eqb (ram % 16) 0 (g .whole))
 
   memory-clear : memoryNumber ram parity ≡ 0
   unfolding memoryNumber
-  memory-clear = zero-or (ramNumber ram) _ ram-clear ∙ rw (eq-eqb parity (ram / 4) (g .bits))
+  memory-clear = zero-or (ramNumber ram) _ ram-zero ∙ rw (eq-eqb parity (ram / 4) (g .bits))
 
   lent-clear : (array : ℕ) → array ≡ 8192 → lentNumber ram parity array ≡ 0
   unfolding lentNumber
@@ -44,12 +44,12 @@ module _ (ram parity : ℕ) (g : GoodMemory ram parity) where
 
 module _ (s : State) (m : List ℕ) (c : Coherent s m) where
   -- 21 to 23 are not met in any set
-  pub state-clear : (a : ℕ) → stateNumberOf (s .directory) (setOf a) ≡ 0
-  state-clear a = good-state-zero (s .directory) (setOf a) (c .formed .sets (setOf a) (omega arith))
+  pub state-zero : (a : ℕ) → stateNumberOf (s .directory) (setOf a) ≡ 0
+  state-zero a = good-state-zero (s .directory) (setOf a) (c .formed .sets (setOf a) (omega arith))
 
   states-clear : (a n : ℕ) → statesNumberOf (s .directory) a n ≡ 0
   unfolding statesNumberIn
-  states-clear a n = zero-or (stateNumberOf (s .directory) (setOf a)) _ (state-clear a) ∙ state-clear (a + n - 1)
+  states-clear a n = zero-or (stateNumberOf (s .directory) (setOf a)) _ (state-zero a) ∙ state-zero (a + n - 1)
 
   pub read-number : (a w : ℕ) (xs log : List ℕ) → readNumber s a w xs log ≡ argumentNumber (length m) a w xs (length log)
   unfolding readNumber
@@ -75,8 +75,8 @@ module _ (s : State) (m : List ℕ) (c : Coherent s m) where
   pub view-number : (a : ℕ) → viewNumberOf s a ≡ viewAddressNumber (length m) a
   unfolding viewNumberIn viewInputNumber
   view-number a =
-      or-nothing (viewInputNumber (length (s .memory .ram)) (length (s .array)) a) _ (state-clear a)
-      ∙ zero-or (ramNumber (length (s .memory .ram))) _ (ram-clear _ _ (c .lent))
+      or-nothing (viewInputNumber (length (s .memory .ram)) (length (s .array)) a) _ (state-zero a)
+      ∙ zero-or (ramNumber (length (s .memory .ram))) _ (ram-zero _ _ (c .lent))
       ∙ zero-or (arrayNumber (length (s .array))) _ (rw (eq-eqb (length (s .array)) 8192 (c .arrayLength)))
       ∙ ap (λ (l : List ℕ). viewAddressNumber (length l) a) (c .rams)
 

@@ -34,7 +34,7 @@ use Rattle.agreement.proofs.Parts.{parts-proper, parts-wanted, parts-wr
 use Rattle.agreement.proofs.Reading.{coherent-with, read-all}
 use Rattle.agreement.proofs.Writing.{write-all}
 use Rattle.agreement.proofs.Snooping.{snooped-nw, snooped-lines, external-coherent}
-use Rattle.agreement.proofs.Numbers.{state-clear, read-number, write-number, external-write-number, view-number}
+use Rattle.agreement.proofs.Numbers.{state-zero, read-number, write-number, external-write-number, view-number}
 
 -- what a step leaves beside what the plain memory answers
 pub record StepMatches (x : Step) (p : Plain) : Type 0 where
@@ -150,7 +150,7 @@ module _ (s : State) (m : List ℕ) (c : Coherent s m) where
   snoop-matches : (a : ℕ) → StepMatches (step s (snoop a)) (plain m (snoop a))
   unfolding step plain plainNumber plainDone
   snoop-matches a =
-      rw (snoop-accepted (s .directory) a (state-clear s m c a))
+      rw (snoop-accepted (s .directory) a (state-zero s m c a))
       (changed-matches (afterSnoop (s .directory) a) (snoop-well-formed (s .directory) (c .formed) a) (snooped-nw s m c a) (snooped-lines s m c a))
 
   flush-matches : StepMatches (step s flush) (plain m flush)

@@ -1,6 +1,5 @@
 // The board table: the board's answers for an access.
 ghost use mathlib.Core.Path.{_≡_};
-ghost use Prim.Native.Nat.{_+_};
 ghost use Rattle.board.specs.Board.{answerAt, boardAnswers, upperAddress};
 use refusal::bad_width;
 

@@ -1,12 +1,10 @@
-// The directories that the rows begin with. Lines and LRU numbers are stored to the fields, so that no row leans on
+// The directories that the rows begin with. Lines and LRU numbers are stored to the fields, so that no row depends on
 // fills or uses, which other rows test.
 ghost use Prim.Native.Nat.{_<_};
 use directory::Directory;
 
 // The set that the rows ask about.
 pub const SET: usize = 5;
-
-pub const TAG_LIMIT: u32 = 2097151;
 
 pub fn with_mark(mut d: Directory, set: usize, way: usize, valid: bool) -> Directory
     requires { ⌜ (set < 128) × (way < 4) ⌝ }

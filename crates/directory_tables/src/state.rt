@@ -1,7 +1,6 @@
 // Rows on the number that refuses a set: one good set, with its faults put in.
 ghost use Prim.Native.Nat.{_<_};
 use crate::given::SET;
-use crate::given::TAG_LIMIT;
 use crate::given::full_set;
 use crate::given::with_line;
 use crate::given::with_lru;
@@ -15,6 +14,9 @@ use directory::Directory;
 
 // Another set, whose faults are not SET's.
 const OTHER_SET: usize = 6;
+
+// The largest tag of 21 bits.
+const TAG_LIMIT: u32 = 2097151;
 
 pub fn state_rows() {
     state_label(b"good");

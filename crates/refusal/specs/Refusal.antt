@@ -69,14 +69,14 @@ valueNumber width value = when (not (ltb value (256 ^ width))) 8
 
 -- "10. External write empty, over 16 bytes, across lines or beyond RAM.", of its number of bytes.
 unfoldable pub externalNumber : ℕ → ℕ → ℕ → ℕ
-externalNumber ram address n =
-    when (eqb n 0 || ltb 16 n || ltb 16 (address % 16 + n) || ltb ram (address + n)) 10
+externalNumber ram address count =
+    when (eqb count 0 || ltb 16 count || ltb 16 (address % 16 + count) || ltb ram (address + count)) 10
 
 -- "Checked in every touched set, the lower address's set first": of the first and the last byte of an access. "All of one set comes before the next set."
 unfoldable pub statesNumberIn : List ℕ → List Bool → List ℕ → ℕ → ℕ → ℕ
-statesNumberIn tags valid lru address n =
-    orElse (stateNumberIn tags valid lru (setOf address)) (stateNumberIn tags valid lru (setOf (address + n - 1)))
+statesNumberIn tags valid lru address count =
+    orElse (stateNumberIn tags valid lru (setOf address)) (stateNumberIn tags valid lru (setOf (address + count - 1)))
 
 -- The same, of a directory.
 abbrev pub statesNumberOf : Directory → ℕ → ℕ → ℕ
-statesNumberOf d address n = statesNumberIn (d .tags) (d .valid) (d .lru) address n
+statesNumberOf d address count = statesNumberIn (d .tags) (d .valid) (d .lru) address count

@@ -33,10 +33,10 @@ pub fn memory_number(ram: usize, parity: usize) -> u32
 }
 
 // Numbers 1 to 3, of the lengths of RAM, parity array and data array.
-fn lent_number(ram: usize, parity: usize, array: usize) -> u32
-    ensures { λ r. ⌜ r ≡ lentNumber ram parity array ⌝ }
+fn lent_number(ram: usize, parity: usize, data: usize) -> u32
+    ensures { λ r. ⌜ r ≡ lentNumber ram parity «data» ⌝ }
 {
-    or_else(memory_number(ram, parity), number_if(array != 8192, 3))
+    or_else(memory_number(ram, parity), number_if(data != 8192, 3))
 }
 
 pub fn bad_width(width: u32) -> bool
@@ -132,12 +132,12 @@ pub fn external_number(ram: usize, address: u32, count: usize) -> u32
 }
 
 // Numbers 1, 3 and 5 of a view, of the lengths of RAM and data array.
-pub fn view_input_number(ram: usize, array: usize, address: u32) -> u32
-    ensures { λ r. ⌜ r ≡ viewInputNumber ram array address ⌝ }
+pub fn view_input_number(ram: usize, data: usize, address: u32) -> u32
+    ensures { λ r. ⌜ r ≡ viewInputNumber ram «data» address ⌝ }
 {
     let outside = !((address as usize) < ram);
     or_else(
         number_if(bad_ram(ram), 1),
-        or_else(number_if(array != 8192, 3), number_if(outside, 5)),
+        or_else(number_if(data != 8192, 3), number_if(outside, 5)),
     )
 }

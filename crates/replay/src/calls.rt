@@ -29,7 +29,7 @@ pub fn run_line(
     data: &mut [u8],
     log: &mut [u32],
 ) -> Directory {
-    refill(log);
+    fresh_log(log);
     match letter_of(line) {
         b'R' | b'r' => read_line(line, d, ram, parity, data, log),
         b'W' | b'w' => write_line(line, d, ram, parity, data, log),
@@ -45,7 +45,7 @@ pub fn run_line(
 }
 
 // The log before each call, so that words which the call leaves alone show.
-pub fn refill(log: &mut [u32]) {
+pub fn fresh_log(log: &mut [u32]) {
     let mut word = 3235774464u32;
     for k in 0..log.len() {
         log[k] = word;
@@ -203,7 +203,7 @@ fn view_answer<'a>(
     view_fields(number, shown);
 }
 
-// The last of the letters is Z.
+// Of S, F, C and Z.
 fn directory_call(letter: u8, line: &[u8], d: Directory) -> Outcome {
     let first = number(line, 1);
     let second = number(line, first.next);

@@ -2,7 +2,7 @@
 ghost use mathlib.Core.Path.{_≡_};
 ghost use Prim.Native.Nat.{_<_, _≤_};
 ghost use lib.ListN.{length};
-use crate::calls::refill;
+use crate::calls::fresh_log;
 use crate::calls::run_line;
 use crate::print::unit_row;
 use crate::script::line_end;
@@ -85,7 +85,7 @@ fn run_calls(
     ensures { λ r. ⌜ begin ≤ r ⌝ }
 {
     set_contents(seeds, ram, parity, data);
-    refill(log);
+    fresh_log(log);
     unit_row(Directory::reset(), ram, parity, data, log);
     run_lines(script, begin, ram, parity, data, log)
 }
@@ -113,13 +113,13 @@ fn run_lines(
 }
 
 fn set_contents(seeds: Seeds, ram: &mut [u8], parity: &mut [u8], data: &mut [u8]) {
-    fill(data, seeds.data);
-    fill(ram, seeds.ram);
+    set_bytes(data, seeds.data);
+    set_bytes(ram, seeds.ram);
     set_parity(parity, ram);
 }
 
 // Bytes of a linear congruential generator's states.
-fn fill(bytes: &mut [u8], seed: u32) {
+fn set_bytes(bytes: &mut [u8], seed: u32) {
     let mut state = seed;
     for k in 0..bytes.len() {
         state = next_state(state);

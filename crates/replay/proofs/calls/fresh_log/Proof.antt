@@ -2,26 +2,26 @@ use borrow.Author.Needs.{needs}
 use Prim.Native.Nat.{_-_}
 use lib.ListN.{length}
 use mathlib.Core.Path.{_≡_}
-use Rattle.replay.proofs.unit.fill.Statement.{statement}
-use Rattle.replay.proofs.unit.fill.Tie as tie
+use Rattle.replay.proofs.calls.fresh_log.Statement.{statement}
+use Rattle.replay.proofs.calls.fresh_log.Tie as tie
 
 abbrev Inv-loop : tie.InvT-loop
-Inv-loop bytes₀ seed state₀ k₀ k-end bytes state k = (k-end ≡ length bytes₀) × (length bytes ≡ length bytes₀)
+Inv-loop log₀ word₀ k₀ k-end log word k = (k-end ≡ length log₀) × (length log ≡ length log₀)
 
 abbrev μ-loop : tie.MeasureT-loop
-μ-loop bytes₀ seed state₀ k₀ k-end bytes state k = k-end - k
+μ-loop log₀ word₀ k₀ k-end log word k = k-end - k
 
 loop-holds : tie.Need-loop-holds Inv-loop μ-loop
 loop-holds c = search needs
 
-next-state-requires : tie.Need-next-state-requires Inv-loop μ-loop
-next-state-requires c κs = search needs
+mul-log : tie.Need-mul-log Inv-loop μ-loop
+mul-log c = search needs
 
-top-byte-requires : tie.Need-top-byte-requires Inv-loop μ-loop
-top-byte-requires c κs = search needs
+slice-write-log : tie.Need-slice-write-log Inv-loop μ-loop
+slice-write-log c = search needs
 
-slice-write-bytes : tie.Need-slice-write-bytes Inv-loop μ-loop
-slice-write-bytes c = search needs
+wrapping-add-u32-requires : tie.Need-wrapping-add-u32-requires Inv-loop μ-loop
+wrapping-add-u32-requires c κs = search needs
 
 add-k : tie.Need-add-k Inv-loop μ-loop
 add-k c = search needs
@@ -38,16 +38,16 @@ same-length c = search needs
 returns : tie.Need-returns Inv-loop μ-loop
 returns c = search needs
 
-pub fill-spec : {M : Type 1} → statement M
-fill-spec =
+pub fresh-log-spec : {M : Type 1} → statement M
+fresh-log-spec =
     tie.close
     (tie.spec
     Inv-loop
     μ-loop
     loop-holds
-    next-state-requires
-    top-byte-requires
-    slice-write-bytes
+    mul-log
+    slice-write-log
+    wrapping-add-u32-requires
     add-k
     loop-less
     loop-again

@@ -2,26 +2,26 @@ use borrow.Author.Needs.{needs}
 use Prim.Native.Nat.{_-_}
 use lib.ListN.{length}
 use mathlib.Core.Path.{_≡_}
-use Rattle.replay.proofs.calls.refill.Statement.{statement}
-use Rattle.replay.proofs.calls.refill.Tie as tie
+use Rattle.replay.proofs.unit.set_bytes.Statement.{statement}
+use Rattle.replay.proofs.unit.set_bytes.Tie as tie
 
 abbrev Inv-loop : tie.InvT-loop
-Inv-loop log₀ word₀ k₀ k-end log word k = (k-end ≡ length log₀) × (length log ≡ length log₀)
+Inv-loop bytes₀ seed state₀ k₀ k-end bytes state k = (k-end ≡ length bytes₀) × (length bytes ≡ length bytes₀)
 
 abbrev μ-loop : tie.MeasureT-loop
-μ-loop log₀ word₀ k₀ k-end log word k = k-end - k
+μ-loop bytes₀ seed state₀ k₀ k-end bytes state k = k-end - k
 
 loop-holds : tie.Need-loop-holds Inv-loop μ-loop
 loop-holds c = search needs
 
-mul-log : tie.Need-mul-log Inv-loop μ-loop
-mul-log c = search needs
+next-state-requires : tie.Need-next-state-requires Inv-loop μ-loop
+next-state-requires c κs = search needs
 
-slice-write-log : tie.Need-slice-write-log Inv-loop μ-loop
-slice-write-log c = search needs
+top-byte-requires : tie.Need-top-byte-requires Inv-loop μ-loop
+top-byte-requires c κs = search needs
 
-wrapping-add-u32-requires : tie.Need-wrapping-add-u32-requires Inv-loop μ-loop
-wrapping-add-u32-requires c κs = search needs
+slice-write-bytes : tie.Need-slice-write-bytes Inv-loop μ-loop
+slice-write-bytes c = search needs
 
 add-k : tie.Need-add-k Inv-loop μ-loop
 add-k c = search needs
@@ -38,16 +38,16 @@ same-length c = search needs
 returns : tie.Need-returns Inv-loop μ-loop
 returns c = search needs
 
-pub refill-spec : {M : Type 1} → statement M
-refill-spec =
+pub set-bytes-spec : {M : Type 1} → statement M
+set-bytes-spec =
     tie.close
     (tie.spec
     Inv-loop
     μ-loop
     loop-holds
-    mul-log
-    slice-write-log
-    wrapping-add-u32-requires
+    next-state-requires
+    top-byte-requires
+    slice-write-bytes
     add-k
     loop-less
     loop-again
