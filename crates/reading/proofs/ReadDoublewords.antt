@@ -1,5 +1,5 @@
 -- Laws of one doubleword of a read: what its cycles need, and what it leaves.
-use Prim.Native.Nat.{ℕ, _+_, _*_, _/_, _%_, _<_}
+use Prim.Native.Nat.{ℕ, _+_, _*_, _/_, _%_, _≤_, _<_}
 use mathlib.Core.Path.{_≡_, refl, sym, _∙_, ap}
 use mathlib.Core.Bool.{Bool, true, false, cond, _&&_}
 use mathlib.Core.List.{List, [], _∷_}
@@ -21,7 +21,7 @@ use Rattle.bus.specs.Bus.{ken, Cycle, cyclesOf, lastAnswer, through, bufferAfte
 use Rattle.bus.specs.Record.{readRecord, wordsOf, plainRead, filling}
 use Rattle.bus.specs.Cursor.{cycleBegin, wantedAt, CycleNeeds}
 use Rattle.bus.proofs.Sizing.{wanted-some, burst-later}
-use Rattle.cycles.specs.CycleLoop.{ReadCycles}
+use Rattle.cycles.specs.CycleLoop.{BufferNeeds, ReadCycles}
 use Rattle.doubleword.specs.declared.change.Change.{Change}
 use Rattle.doubleword.specs.declared.change.Change.the-variants.{Unchanged, Use, Fill}
 use Rattle.doubleword.specs.declared.change.DoublewordResult.{DoublewordResult}
@@ -31,47 +31,58 @@ use Rattle.doubleword.specs.declared.cursor.NextResult.{NextResult}
 use Rattle.doubleword.specs.Doubleword.{Doubleword, dataOffset, Done, plainCycles}
 use Rattle.doubleword.specs.DoublewordCode.{doublewordOf, DoublewordNeeds, BelowFour}
 use Rattle.doubleword.specs.Cursor.{wantedOf, groupAt}
-use Rattle.doubleword.proofs.Doublewords.{plainStart, plain-cycles}
+use Rattle.doubleword.proofs.Doublewords.{plainStart, buffer-needs, plain-needs, plain-cycles}
 use Rattle.reading.specs.Reading.{readHit, readPlain, fillCycles, keptChange, keptArray, readFill, readDone}
-use Rattle.reading.specs.ReadingCode.{missCycles, ReadMiss, Reads, ReadNext}
+use Rattle.reading.specs.ReadingCode.{missCycles, missKind, ReadMiss, Reads, ReadNext}
 
--- the cursor that a fill of a doubleword's line begins with, what its cycles need, and which they are
+-- the cursor that the cycles of a doubleword that missed begin with
 abbrev pub fillStart : Wanted → CycleCursor
 fillStart w = cycleBegin (w .from / 4 * 4) 4 3
 
-pub fill-needs : (w : Wanted) (first ram parity answers log : ℕ) → DoublewordNeeds w first ram parity answers log → CycleNeeds (fillStart w) answers
-fill-needs w first ram parity answers log z =
-    record { lanes = omega arith; line = omega (arith, z .line); turns = omega arith; enough = omega (arith, z .served) }
+abbrev pub missStart : Bool → Wanted → CycleCursor
+missStart fills w = cond fills (fillStart w) (plainStart w)
 
-fill-cycles : (w : Wanted) (answers : List ℕ) → w .from < 16 → cyclesOf answers (wantedAt (w .from / 4) (fillStart w)) ≡ fillCycles (doublewordOf w answers)
-fill-cycles w answers l =
+-- what they need
+pub miss-needs : (fills : Bool) (w : Wanted) (first ram parity answers log buffer : ℕ) → DoublewordNeeds w first ram parity answers log → buffer ≡ 16 →
+    (missStart fills w .cycles ≡ 0) × (missStart fills w .answer ≡ 0) × (w .from / 4 < 4) × (missKind fills ≤ 32) × CycleNeeds (missStart fills w) answers × BufferNeeds (w .line) first ram parity answers log buffer
+miss-needs true w first ram parity answers log buffer z e = (
+  refl,
+  refl,
+  omega (arith, z .line),
+  omega arith,
+  record { lanes = omega arith; line = omega (arith, z .line); turns = omega arith; enough = omega (arith, z .served) },
+  buffer-needs w first ram parity answers log z buffer e,
+)
+miss-needs false w first ram parity answers log buffer z e = (
+  refl,
+  refl,
+  omega (arith, z .line),
+  omega arith,
+  plain-needs w first ram parity answers log z,
+  buffer-needs w first ram parity answers log z buffer e,
+)
+
+-- which they are
+miss-cycles : (fills : Bool) (w : Wanted) (answers : List ℕ) → 0 < w .count → w .from < 16 →
+    cyclesOf answers (wantedAt (w .from / 4) (missStart fills w)) ≡ missCycles fills (doublewordOf w answers)
+miss-cycles true w answers some l =
     rw (wanted-some (w .from / 4) (fillStart w) (omega arith), ← burst-later (w .from / 4) (omega arith))
+miss-cycles false w answers some l = plain-cycles w answers (w .from / 4) some
 
--- what the cycles of a doubleword that missed leave
-module _ (m : Memory) (w : Wanted) (answers : List ℕ) (first : ℕ) (log₀ buffer₀ : List ℕ) (r : CycleCursor) (log buffer : List ℕ) (e : length answers ≡ groupSize) where
-  pub missed-own : 0 < w .count → ReadCycles 0 m answers (w .from / 4) (w .line) first (plainStart w) log₀ buffer₀ r log buffer →
-      ReadMiss false m (doublewordOf w answers) first log₀ buffer₀ r log buffer
-  missed-own some k =
-      let q = plain-cycles w answers (w .from / 4) some in
-      record {
-        logs = rw (← q) (k .logs);
-        brings = rw (← q) (k .brings);
-        made = rw (← q) (k .made);
-        ends = rw (← q) (k .ends);
-        most = omega (arith, k .most);
-      }
-
-  pub missed-fill : w .from < 16 → ReadCycles 32 m answers (w .from / 4) (w .line) first (fillStart w) log₀ buffer₀ r log buffer →
-      ReadMiss true m (doublewordOf w answers) first log₀ buffer₀ r log buffer
-  missed-fill l k =
-      let q = fill-cycles w answers l in
-      record {
-        logs = rw (← q) (k .logs);
-        brings = rw (← q) (k .brings);
-        made = rw (← q) (k .made);
-        ends = rw (← q) (k .ends);
-        most = omega (arith, k .most);
-      }
+-- what they leave
+pub miss-left : (fills : Bool) (m : Memory) (w : Wanted) (answers : List ℕ) (first : ℕ) (log₀ buffer₀ : List ℕ) (r : CycleCursor) (log buffer : List ℕ) →
+    length answers ≡ groupSize → 0 < w .count → w .from < 16 →
+    ReadCycles (missKind fills) m answers (w .from / 4) (w .line) first (missStart fills w) log₀ buffer₀ r log buffer →
+    ReadMiss fills m (doublewordOf w answers) first log₀ buffer₀ r log buffer
+miss-left fills m w answers first log₀ buffer₀ r log buffer e some l k =
+    let q = miss-cycles fills w answers some l in
+    record {
+      logs = rw (← q) (k .logs);
+      brings = rw (← q) (k .brings);
+      made = rw (← q) (k .made);
+      ends = rw (← q) (k .ends);
+      most = omega (arith, k .most);
+    }
 
 -- a miss, as its cycles and the fill's end leave it
 pub missed-done : (fills : Bool) (m : Memory) (w : Doubleword) (victim first : ℕ) (array₀ log₀ operand₀ : List ℕ) (cursor : CycleCursor) (change : Change) (log buffer array operand : List ℕ) →

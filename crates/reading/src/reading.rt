@@ -33,33 +33,23 @@ fn read_missed(
 {
     let line = w.line as usize;
     let start = w.from / 4;
-    if fills {
-        let whole = CycleCursor::begin(start * 4, 4, 3);
-        return read_cycles(
-            ram,
-            parity,
-            answers,
-            log,
-            buffer,
-            whole,
-            start,
-            line,
-            first,
-            32,
-        );
-    }
-    let plain = CycleCursor::begin(w.from, w.count, 0);
+    let begin = if fills {
+        CycleCursor::begin(start * 4, 4, 3)
+    } else {
+        CycleCursor::begin(w.from, w.count, 0)
+    };
+    let kind = if fills { 32 } else { 0 };
     read_cycles(
         ram,
         parity,
         answers,
         log,
         buffer,
-        plain,
+        begin,
         start,
         line,
         first,
-        0,
+        kind,
     )
 }
 
