@@ -14,14 +14,14 @@ use Rattle.bus.specs.Record.{Record, logged, wordsOf}
 use Rattle.directory.specs.declared.steps.Directory.{Directory}
 use Rattle.doubleword.specs.declared.change.Change.{Change}
 use Rattle.doubleword.specs.declared.change.Change.the-variants.{Unchanged}
-use Rattle.access_steps.specs.declared.cursor.AccessCursor.{AccessCursor}
-use Rattle.access_steps.specs.declared.cursor.StepResult.{StepResult}
+use Rattle.doubleword.specs.declared.cursor.AccessCursor.{AccessCursor}
+use Rattle.doubleword.specs.declared.cursor.NextResult.{NextResult}
 use Rattle.bus.specs.Groups.{groupSize, groupCount}
 use Rattle.doubleword.specs.Doubleword.{Doubleword, Done, doublewordsOf, changed}
+use Rattle.doubleword.specs.Cursor.{countOf, accessNext, nextDoubleword}
+use Rattle.reading.specs.ReadingCode.{ReadNext}
+use Rattle.writing.specs.WritingCode.{WriteNext}
 use Rattle.access.specs.Access.{State, state, Progress, allOf, next, readOne, writeOne}
-use Rattle.doubleword.specs.DoublewordCode.{doublewordOf}
-use Rattle.access_steps.specs.AccessLoop.{wantedOf, accessNext, restOf, nextDoubleword, ReadStep, WriteStep}
-use Rattle.access_steps.proofs.Steps.{groupAt}
 use Rattle.access.proofs.Values.{one-length, one-memory}
 
 words-append : (a b : List Record) → wordsOf (a ++ b) ≡ wordsOf a ++ wordsOf b
@@ -53,11 +53,13 @@ unfolding doublewordsOf
 none-of zero xs address place = refl
 none-of (suc g) xs address place = refl
 
-module _ (cursor : AccessCursor) (xs : List ℕ) (cycles : ℕ) (some : 0 < cursor .left) (more : cursor .group < groupCount) where
-  abbrev count : ℕ
-  count = min (cursor .left) (4 - cursor .address % 4)
+-- the doublewords left
+unfoldable pub restOf : AccessCursor → List ℕ → List Doubleword
+restOf cursor answers =
+    doublewordsOf (groupCount - cursor .group) (drop (cursor .group * groupSize) answers) (cursor .address) (cursor .left) (cursor .place)
 
-  pub rest-next : restOf cursor xs ≡ doublewordOf (wantedOf cursor) (groupAt cursor xs) ∷ restOf (accessNext cursor count cycles) xs
+module _ (cursor : AccessCursor) (xs : List ℕ) (cycles : ℕ) (some : 0 < cursor .left) (more : cursor .group < groupCount) where
+  rest-next : restOf cursor xs ≡ nextDoubleword cursor xs ∷ restOf (accessNext cursor (countOf cursor) cycles) xs
   unfolding restOf
   rest-next =
       let g : groupCount - cursor .group ≡ suc (groupCount - (cursor .group + 1)) = omega arith in
@@ -65,9 +67,9 @@ module _ (cursor : AccessCursor) (xs : List ℕ) (cycles : ℕ) (some : 0 < curs
       let q : drop groupSize (drop (cursor .group * groupSize) xs) ≡ drop ((cursor .group + 1) * groupSize) xs = drop-drop groupSize (cursor .group * groupSize) xs ∙ ap (λ (i : ℕ). drop i xs) d in
       ap (λ (i : ℕ). doublewordsOf i (drop (cursor .group * groupSize) xs) (cursor .address) (cursor .left) (cursor .place)) g
       ∙ next-of (groupCount - (cursor .group + 1)) (drop (cursor .group * groupSize) xs) (cursor .address) (cursor .left) (cursor .place) some
-      ∙ ap (λ (ys : List ℕ). doublewordOf (wantedOf cursor) (groupAt cursor xs) ∷ doublewordsOf (groupCount - (cursor .group + 1)) ys (cursor .address + count) (cursor .left - count) (cursor .place + count)) q
+      ∙ ap (λ (ys : List ℕ). nextDoubleword cursor xs ∷ doublewordsOf (groupCount - (cursor .group + 1)) ys (cursor .address + countOf cursor) (cursor .left - countOf cursor) (cursor .place + countOf cursor)) q
 
-pub rest-done : (cursor : AccessCursor) (xs : List ℕ) → cursor .left ≡ 0 → restOf cursor xs ≡ []
+rest-done : (cursor : AccessCursor) (xs : List ℕ) → cursor .left ≡ 0 → restOf cursor xs ≡ []
 unfolding restOf
 rest-done cursor xs e =
     ap (λ (n : ℕ). doublewordsOf (groupCount - cursor .group) (drop (cursor .group * groupSize) xs) (cursor .address) n (cursor .place)) e
@@ -90,26 +92,26 @@ module _ (one : State → Doubleword → Done) (xs : List ℕ) where
 
   module _ (cursor : AccessCursor) (s : State) (log : List ℕ) (some : 0 < cursor .left) (more : cursor .group < groupCount) where
     abbrev w : Doubleword
-    w = doublewordOf (wantedOf cursor) (groupAt cursor xs)
+    w = nextDoubleword cursor xs
 
     -- all doublewords left are the next one and those after it
-    pub all-next : (cycles : ℕ) → allOf one s (restOf cursor xs)
+    all-next : (cycles : ℕ) → allOf one s (restOf cursor xs)
         ≡ record {
-          state = allOf one (next s w (one s w)) (restOf (accessNext cursor (min (cursor .left) (4 - cursor .address % 4)) cycles) xs) .state;
-          bytes = one s w .bytes ++ allOf one (next s w (one s w)) (restOf (accessNext cursor (min (cursor .left) (4 - cursor .address % 4)) cycles) xs) .bytes;
-          records = one s w .records ++ allOf one (next s w (one s w)) (restOf (accessNext cursor (min (cursor .left) (4 - cursor .address % 4)) cycles) xs) .records;
+          state = allOf one (next s w (one s w)) (restOf (accessNext cursor (countOf cursor) cycles) xs) .state;
+          bytes = one s w .bytes ++ allOf one (next s w (one s w)) (restOf (accessNext cursor (countOf cursor) cycles) xs) .bytes;
+          records = one s w .records ++ allOf one (next s w (one s w)) (restOf (accessNext cursor (countOf cursor) cycles) xs) .records;
         }
     unfolding allOf
     all-next cycles = rw (rest-next cursor xs cycles some more)
 
-    pub access-invariant-next : {p : Progress} {log₀ : List ℕ} (s′ : State) (log′ : List ℕ) (n : ℕ) → AccessInvariant p log₀ cursor s log →
+    access-invariant-next : {p : Progress} {log₀ : List ℕ} (s′ : State) (log′ : List ℕ) (n : ℕ) → AccessInvariant p log₀ cursor s log →
         s′ ≡ next s w (one s w) →
         log′ ≡ logged log (cursor .cycles) (one s w .records) →
         n ≡ length (one s w .records) →
-        AccessInvariant p log₀ (accessNext cursor (min (cursor .left) (4 - cursor .address % 4)) n) s′ log′
+        AccessInvariant p log₀ (accessNext cursor (countOf cursor) n) s′ log′
     access-invariant-next s′ log′ n g es el en =
         let a = all-next n in
-        let rest = allOf one (next s w (one s w)) (restOf (accessNext cursor (min (cursor .left) (4 - cursor .address % 4)) n) xs) in
+        let rest = allOf one (next s w (one s w)) (restOf (accessNext cursor (countOf cursor) n) xs) in
         let k : cursor .cycles + n ≡ cursor .cycles + length (one s w .records) = omega arith in
         let m : cursor .cycles + length (allOf one s (restOf cursor xs) .records) ≡ cursor .cycles + (length (one s w .records) + length (rest .records)) = ap (λ (q : Progress). cursor .cycles + length (q .records)) a ∙ ap (λ (i : ℕ). cursor .cycles + i) (length-append (one s w .records) (rest .records)) in
         record {
@@ -128,11 +130,11 @@ module _ (one : State → Doubleword → Done) (xs : List ℕ) where
         sets operand (cursor .place) (allOf one s (restOf cursor xs) .bytes) ≡ sets operand₀ 0 (p .bytes) →
         s′ ≡ next s w (one s w) →
         operand′ ≡ sets operand (cursor .place) (one s w .bytes) →
-        length (one s w .bytes) ≡ min (cursor .left) (4 - cursor .address % 4) →
-        sets operand′ (cursor .place + min (cursor .left) (4 - cursor .address % 4)) (allOf one s′ (restOf (accessNext cursor (min (cursor .left) (4 - cursor .address % 4)) n) xs) .bytes) ≡ sets operand₀ 0 (p .bytes)
+        length (one s w .bytes) ≡ countOf cursor →
+        sets operand′ (cursor .place + countOf cursor) (allOf one s′ (restOf (accessNext cursor (countOf cursor) n) xs) .bytes) ≡ sets operand₀ 0 (p .bytes)
     bytes-next p operand operand′ operand₀ s′ n g es eo el =
         let a = all-next n in
-        let rest = allOf one (next s w (one s w)) (restOf (accessNext cursor (min (cursor .left) (4 - cursor .address % 4)) n) xs) in
+        let rest = allOf one (next s w (one s w)) (restOf (accessNext cursor (countOf cursor) n) xs) in
         rw (es, eo)
         (ap (λ (i : ℕ). sets (sets operand (cursor .place) (one s w .bytes)) (cursor .place + i) (rest .bytes)) (sym el)
         ∙ sym (sets-append operand (cursor .place) (one s w .bytes) (rest .bytes))
@@ -166,10 +168,10 @@ module _ (pcd : Bool) (xs : List ℕ) where
       }
 
   -- the next doubleword of the code, read by the rules
-  pub reading-next : {p : Progress} {log₀ operand₀ : List ℕ} (cursor : AccessCursor) (d : Directory) (m : Memory) (array log operand : List ℕ) (r : StepResult) (d′ : Directory) (array′ log′ operand′ : List ℕ) (u : AccessCursor) →
+  pub reading-next : {p : Progress} {log₀ operand₀ : List ℕ} (cursor : AccessCursor) (d : Directory) (m : Memory) (array log operand : List ℕ) (r : NextResult) (d′ : Directory) (array′ log′ operand′ : List ℕ) (u : AccessCursor) →
       0 < cursor .left → cursor .group < groupCount →
       ReadInvariant p log₀ operand₀ cursor (state d m array) log operand →
-      ReadStep (readOne pcd (state d m array) (nextDoubleword cursor xs)) cursor log operand r array′ log′ operand′ →
+      ReadNext (readOne pcd (state d m array) (nextDoubleword cursor xs)) cursor log operand r array′ log′ operand′ →
       d′ ≡ changed d (r .line) (r .change) →
       u ≡ accessNext cursor (r .count) (r .cycles) →
       ReadInvariant p log₀ operand₀ u (state d′ m array′) log′ operand′
@@ -189,10 +191,10 @@ module _ (pcd : Bool) (xs : List ℕ) where
       })
 
 -- the next doubleword of the code, written by the rules
-pub writing-next : (operand xs : List ℕ) {p : Progress} {log₀ : List ℕ} (cursor : AccessCursor) (d : Directory) (m : Memory) (array log : List ℕ) (r : StepResult) (d′ : Directory) (m′ : Memory) (array′ log′ : List ℕ) (u : AccessCursor) →
+pub writing-next : (operand xs : List ℕ) {p : Progress} {log₀ : List ℕ} (cursor : AccessCursor) (d : Directory) (m : Memory) (array log : List ℕ) (r : NextResult) (d′ : Directory) (m′ : Memory) (array′ log′ : List ℕ) (u : AccessCursor) →
     0 < cursor .left → cursor .group < groupCount →
     AccessInvariant (writeOne operand) xs p log₀ cursor (state d m array) log →
-    WriteStep (writeOne operand (state d m array) (nextDoubleword cursor xs)) cursor log r m′ array′ log′ →
+    WriteNext (writeOne operand (state d m array) (nextDoubleword cursor xs)) cursor log r m′ array′ log′ →
     d′ ≡ changed d (r .line) (r .change) →
     u ≡ accessNext cursor (r .count) (r .cycles) →
     AccessInvariant (writeOne operand) xs p log₀ u (state d′ m′ array′) log′

@@ -8,7 +8,9 @@ use Rattle.words.specs.Bytes.{bytesAt, valueOf, bytesOf}
 use Rattle.memory.specs.Parity.{onesOf, dpOf, laneBit, dpAt, withDp, put, stored, wrongAt, wrongIn}
 use Rattle.bus.specs.Bus.{sizeLimit, sizeOf, wantedAfter, cyclesOf, burst, lastAnswer, through}
 use Rattle.bus.specs.Record.{lanesOf, flagsOf, readRecord, writeRecord, wordsOf}
-use Rattle.doubleword.specs.Doubleword.{doublewordsOf, changed, readHit, readPlain, readFill, readDone, writeThrough, hitArray, writeDone}
+use Rattle.doubleword.specs.Doubleword.{doublewordsOf, changed}
+use Rattle.reading.specs.Reading.{readHit, readPlain, readFill, readDone}
+use Rattle.writing.specs.Writing.{writeThrough, hitArray, writeDone}
 use Rattle.refusal.specs.Refusal.{memoryNumber, lentNumber, anyAbove, argumentNumber, valueNumber, statesNumberIn}
 use Rattle.access.specs.Access.{readOne, writeOne, allOf, readNumber, writeNumber, readAll, writeAll, readCall, writeCall}
 use Rattle.access.specs.Bench.{BenchTable}

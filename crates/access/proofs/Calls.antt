@@ -11,15 +11,15 @@ use Rattle.directory.specs.declared.steps.Directory.{Directory}
 use Rattle.directory.specs.Steps.{afterSnoop}
 use Rattle.words.specs.Bytes.{bytesAt, valueOf}
 use Rattle.memory.specs.Parity.{Memory, stored}
-use Rattle.access_steps.specs.declared.cursor.AccessCursor.{AccessCursor}
+use Rattle.doubleword.specs.declared.cursor.AccessCursor.{AccessCursor}
 use Rattle.bus.specs.Groups.{groupCount}
 use Rattle.doubleword.specs.Doubleword.{Doubleword, Done, doublewordsOf}
 use Rattle.refusal.specs.Refusal.{orElse, memoryNumber, externalNumber, statesNumberOf, lentNumber, argumentNumber, valueNumber}
 use Rattle.access.specs.Access.{State, state, Progress, allOf, readOne, writeOne, after, outcome, refused, accepted, readNumber, writeNumber, readAll, writeAll, operandOf, readCall, writeCall}
 use Rattle.access.specs.Masters.{written, externalWriteNumber, externalCall}
-use Rattle.access_steps.specs.AccessLoop.{accessBegin, restOf, AccessNeeds}
+use Rattle.doubleword.specs.Cursor.{accessBegin, AccessNeeds}
 use Rattle.refusal.proofs.Accepted.{or-zero, zero-or, first-or, or-grouped, GoodMemory, GoodExternal, memory-accepted, lent-accepted, arguments-accepted, external-accepted}
-use Rattle.access.proofs.AccessLoop.{AccessInvariant, access-invariant-end, ReadInvariant, reading-end}
+use Rattle.access.proofs.AccessLoop.{restOf, AccessInvariant, access-invariant-end, ReadInvariant, reading-end}
 use Rattle.access.proofs.Values.{all-length, value-padded}
 
 -- all bytes of a list

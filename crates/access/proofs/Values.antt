@@ -14,8 +14,9 @@ use Rattle.words.proofs.Places.{bytes-length}
 use Rattle.memory.specs.Parity.{Memory}
 use Rattle.bus.specs.Bus.{ken}
 use Rattle.bus.specs.Groups.{groupSize}
-use Rattle.doubleword.specs.Doubleword.{Doubleword, doublewordsOf, readDone, readHit, readFill, readPlain}
-use Rattle.doubleword.proofs.Doublewords.{read-memory}
+use Rattle.doubleword.specs.Doubleword.{Doubleword, doublewordsOf}
+use Rattle.reading.specs.Reading.{readHit, readPlain, readFill, readDone}
+use Rattle.reading.proofs.ReadDoublewords.{read-memory}
 use Rattle.access.specs.Access.{State, readOne, allOf}
 
 -- a doubleword of a read gives its wanted bytes

@@ -11,7 +11,9 @@ use Rattle.words.specs.Bytes.{valueOf, bytesOf}
 use Rattle.memory.specs.Parity.{Memory}
 use Rattle.bus.specs.Record.{Record, logged}
 use Rattle.bus.specs.Groups.{groupCount}
-use Rattle.doubleword.specs.Doubleword.{Doubleword, doublewordsOf, changed, Done, readDone, writeDone}
+use Rattle.doubleword.specs.Doubleword.{Doubleword, doublewordsOf, changed, Done}
+use Rattle.reading.specs.Reading.{readDone}
+use Rattle.writing.specs.Writing.{writeDone}
 use Rattle.refusal.specs.Refusal.{orElse, lentNumber, argumentNumber, valueNumber, statesNumberOf}
 use Rattle.access.specs.declared.outcome.Outcome.{Outcome}
 

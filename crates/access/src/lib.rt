@@ -2,8 +2,8 @@
 // RAM, parity array, data array, answers and log are lent by the caller.
 mod master;
 mod outcome;
-mod reading;
-mod writing;
+mod read_call;
+mod write_call;
 
 pub use master::control;
 pub use master::external_write;
@@ -11,5 +11,5 @@ pub use master::flush;
 pub use master::reset;
 pub use master::snoop;
 pub use outcome::Outcome;
-pub use reading::read;
-pub use writing::write;
+pub use read_call::read;
+pub use write_call::write;

@@ -20,7 +20,8 @@ use Rattle.words.specs.Bytes.{bytesAt}
 use Rattle.bus.specs.Bus.{ken, burst, lastAnswer}
 use Rattle.bus.specs.Record.{plainRead, filling}
 use Rattle.doubleword.specs.declared.change.Change.the-variants.{Unchanged, Fill}
-use Rattle.doubleword.specs.Doubleword.{Doubleword, Done, changed, dataOffset, plainCycles, fillCycles, bufferOf, readHit, readPlain, readFill, readDone}
+use Rattle.doubleword.specs.Doubleword.{Doubleword, Done, changed, dataOffset, plainCycles}
+use Rattle.reading.specs.Reading.{fillCycles, bufferOf, readHit, readPlain, readFill, readDone}
 use Rattle.access.specs.Access.{State, state, Progress, readOne, next, allOf}
 use Rattle.words.proofs.Places.{bytes-at, bytes-length}
 use Rattle.agreement.proofs.Bytes.{bytes-same}

@@ -36,7 +36,7 @@ pub fn data_offset(line: u32, way: usize) -> usize
     (ways::set_of(line) * 4 + way) * 16
 }
 
-// The directory after its change: the one step of a doubleword. It copies the directory, so the calls spare it for `Unchanged`.
+// The directory after its change: the one step of a doubleword. It copies the directory, so the calls do not make it for `Unchanged`.
 pub fn changed_by(directory: Directory, line: u32, change: Change) -> Directory
     requires { ⌜ BelowFour change ⌝ }
     ensures { λ r. ⌜ r ≡ changed directory line change ⌝ }

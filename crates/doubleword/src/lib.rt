@@ -1,8 +1,6 @@
-// One doubleword of a read or a write, by lent fields of the directory: it decides the directory's change, and the caller
-// makes it, so that the directory is not copied here.
+// What a doubleword of an access wants, what it does to the directory, and what is left between two doublewords.
 mod change;
-mod reading;
-mod writing;
+mod cursor;
 
 pub use change::Change;
 pub use change::DoublewordResult;
@@ -10,5 +8,5 @@ pub use change::Wanted;
 pub use change::change_in_place;
 pub use change::changed_by;
 pub use change::data_offset;
-pub use reading::read_doubleword;
-pub use writing::write_doubleword;
+pub use cursor::AccessCursor;
+pub use cursor::NextResult;

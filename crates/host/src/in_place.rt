@@ -8,11 +8,10 @@ ghost use Rattle.directory.specs.Steps.{afterFlush, directoryOf, directoryResul
 ghost use Rattle.memory.specs.Parity.{memory};
 ghost use Rattle.access.specs.Access.{after, outcome, readCall, state, writeCall};
 ghost use Rattle.access.specs.Masters.{externalCall, written};
-use access_steps::AccessCursor;
-use access_steps::read_step;
-use access_steps::write_step;
+use doubleword::AccessCursor;
 use doubleword::change_in_place;
 use memory::store_bytes;
+use reading::read_next;
 use refusal::external_number;
 use refusal::input_number;
 use refusal::memory_number;
@@ -22,6 +21,7 @@ use refusal::value_number;
 use steps_in_place::invalidate_in_place;
 use words::bytes_of;
 use words::word_of;
+use writing::write_next;
 
 // What a call answers, apart from the directory: 0 where it was done or the number that turned it away, a read's value, the
 // count of cycles.
@@ -72,7 +72,7 @@ pub extern "C" fn unit486_read_in_place<'a>(
     let mut operand = [0u8; 4];
     let mut cursor = AccessCursor::begin(address, width);
     while 0 < cursor.left {
-        let step = read_step(
+        let done = read_next(
             tags,
             valid,
             lru,
@@ -85,9 +85,9 @@ pub extern "C" fn unit486_read_in_place<'a>(
             &mut operand,
             cursor,
         );
-        let change = step.change;
-        change_in_place(tags, valid, lru, step.line, change);
-        cursor = cursor.next(step.count, step.cycles);
+        let change = done.change;
+        change_in_place(tags, valid, lru, done.line, change);
+        cursor = cursor.next(done.count, done.cycles);
     }
     CallResult {
         number: 0,
@@ -128,7 +128,7 @@ pub extern "C" fn unit486_write_in_place<'a>(
     let operand = bytes_of(value);
     let mut cursor = AccessCursor::begin(address, width);
     while 0 < cursor.left {
-        let step = write_step(
+        let done = write_next(
             tags,
             valid,
             cd & nw,
@@ -140,9 +140,9 @@ pub extern "C" fn unit486_write_in_place<'a>(
             &operand,
             cursor,
         );
-        let change = step.change;
-        change_in_place(tags, valid, lru, step.line, change);
-        cursor = cursor.next(step.count, step.cycles);
+        let change = done.change;
+        change_in_place(tags, valid, lru, done.line, change);
+        cursor = cursor.next(done.count, done.cycles);
     }
     CallResult {
         number: 0,

@@ -6,9 +6,9 @@ use lib.ListN.{length, replicate}
 use Rattle.directory.specs.Steps.{directoryOf}
 use Rattle.memory.specs.Parity.{memory}
 use Rattle.access.specs.Access.{state, allOf, readOne}
-use Rattle.access_steps.specs.AccessLoop.{accessBegin, restOf, AccessNeeds}
-use Rattle.access_steps.proofs.Steps.{needs-lengths, needs-more, cursor-less, cursor-needs, cursor-steps}
-use Rattle.access.proofs.AccessLoop.{ReadInvariant, reading-begin, reading-next}
+use Rattle.doubleword.specs.Cursor.{accessBegin, AccessNeeds}
+use Rattle.doubleword.proofs.Cursors.{needs-lengths, needs-more, cursor-less, cursor-needs, cursor-next}
+use Rattle.access.proofs.AccessLoop.{restOf, ReadInvariant, reading-begin, reading-next}
 use Rattle.access.proofs.Calls.{needs-begin, read-input-refused, read-state-refused, read-made}
 use borrow.Author.Needs.{needs}
 use Rattle.host.proofs.in_place.unit486_read_in_place.Statement.{statement}
@@ -56,24 +56,24 @@ begin-requires c κs = search needs
 loop-holds : tie.Need-loop-holds Inv-loop μ-loop
 loop-holds c = rw (c .begin .ensures) (λ nw. reading-begin _ _ _ _ _ _ refl refl, needs-begin (directoryOf (now (c .before .before .before .before .before .before .before .before .before .before .before .before .before .before .before .args .tags)) (now (c .before .before .before .before .before .before .before .before .before .before .before .before .before .before .before .args .valid)) (now (c .before .before .before .before .before .before .before .before .before .before .before .before .before .before .before .args .lru)) (c .before .before .before .before .before .before .before .before .before .before .before .before .before .before .before .args .cd) true) (memory (now (c .before .before .before .before .before .before .before .before .before .before .before .before .before .before .before .args .ram)) (now (c .before .before .before .before .before .before .before .before .before .before .before .before .before .before .before .args .parity))) (now (c .before .before .before .before .before .before .before .before .before .before .before .before .before .before .before .args .«data»)) (c .before .before .before .before .before .before .before .before .before .before .before .before .before .before .before .args .address) (c .before .before .before .before .before .before .before .before .before .before .before .before .before .before .before .args .width) (now (c .before .before .before .before .before .before .before .before .before .before .before .before .before .before .before .args .answers)) (now (c .before .before .before .before .before .before .before .before .before .before .before .before .before .before .before .args .log)) _ (c .before .before .before .before .before .before .before .input-number .ensures) (c .before .before .before .before .before .before .if1 .left), refl, refl, refl)
 
-slice-aggregate-read-step : tie.Need-slice-aggregate-read-step Inv-loop μ-loop
-slice-aggregate-read-step c = search needs
+slice-aggregate-read-next : tie.Need-slice-aggregate-read-next Inv-loop μ-loop
+slice-aggregate-read-next c = search needs
 
-read-step-requires : tie.Need-read-step-requires Inv-loop μ-loop
-read-step-requires c κs = (c .before .before .before .before .before .before .if3 .taken, needs-lengths refl refl (c .before .before .before .before .before .before .before .before .loop .inv .2) (c .before .before .before .before .before .before .before .before .loop .inv .3) (c .before .before .before .before .before .before .before .before .loop .inv .4) (c .before .before .before .before .before .before .before .before .loop .inv .1))
+read-next-requires : tie.Need-read-next-requires Inv-loop μ-loop
+read-next-requires c κs = (c .before .before .before .before .before .before .if3 .taken, needs-lengths refl refl (c .before .before .before .before .before .before .before .before .loop .inv .2) (c .before .before .before .before .before .before .before .before .loop .inv .3) (c .before .before .before .before .before .before .before .before .loop .inv .4) (c .before .before .before .before .before .before .before .before .loop .inv .1))
 
 change-in-place-requires : tie.Need-change-in-place-requires Inv-loop μ-loop
-change-in-place-requires c κs = c .before .before .before .before .before .before .before .before .read-step .ensures .below
+change-in-place-requires c κs = c .before .before .before .before .before .before .before .before .read-next .ensures .below
 
 next-requires : tie.Need-next-requires Inv-loop μ-loop
-next-requires c κs = cursor-steps _ _ _ _ _ _ _ _ _ (c .before .before .before .before .before .before .before .before .before .read-step .ensures .counts) (c .before .before .before .before .before .before .before .before .before .read-step .ensures .most) (c .before .before .before .before .before .before .before .before .before .before .before .before .before .before .before .before .before .before .loop .inv .1)
+next-requires c κs = cursor-next _ _ _ _ _ _ _ _ _ (c .before .before .before .before .before .before .before .before .before .read-next .ensures .counts) (c .before .before .before .before .before .before .before .before .before .read-next .ensures .most) (c .before .before .before .before .before .before .before .before .before .before .before .before .before .before .before .before .before .before .loop .inv .1)
 
 loop-less : tie.Need-loop-less Inv-loop μ-loop
-loop-less c = cursor-less _ _ _ _ (c .before .before .before .before .before .before .before .before .before .before .before .before .before .before .before .before .before .if3 .taken) (c .before .before .before .before .before .before .before .before .before .before .read-step .ensures .counts) (c .next .ensures)
+loop-less c = cursor-less _ _ _ _ (c .before .before .before .before .before .before .before .before .before .before .before .before .before .before .before .before .before .if3 .taken) (c .before .before .before .before .before .before .before .before .before .before .read-next .ensures .counts) (c .next .ensures)
 
 loop-again : tie.Need-loop-again Inv-loop μ-loop
 unfolding readOne
-loop-again c = (λ nw. reading-next _ _ _ _ _ _ _ _ _ _ _ _ _ _ (c .before .before .before .before .before .before .before .before .before .before .before .before .before .before .before .before .before .if3 .taken) (needs-more _ _ _ _ _ _ _ (c .before .before .before .before .before .before .before .before .before .before .before .before .before .before .before .before .before .before .before .loop .inv .1) (c .before .before .before .before .before .before .before .before .before .before .before .before .before .before .before .before .before .if3 .taken)) (c .before .before .before .before .before .before .before .before .before .before .before .before .before .before .before .before .before .before .before .loop .inv .0 nw) (c .before .before .before .before .before .before .before .before .before .before .read-step .ensures) (c .before .change-in-place .ensures _ nw) (c .next .ensures), cursor-needs _ _ _ _ (c .before .before .before .before .before .before .before .before .before .before .before .before .before .before .before .before .before .if3 .taken) (c .before .before .before .before .before .before .before .before .before .before .read-step .ensures .counts) (c .next .ensures) _ _ _ _ _ _ (c .before .before .before .before .before .before .before .before .before .before .read-step .ensures .most) (c .before .before .before .before .before .before .before .before .before .before .before .before .before .before .before .before .before .before .before .loop .inv .1), c .before .before .before .before .before .before .before .before .before .before .read-step .kept .1 .1 .1 .1 .1 .1 .0 ∙ c .before .before .before .before .before .before .before .before .before .before .before .before .before .before .before .before .before .before .before .loop .inv .2, c .before .before .before .before .before .before .before .before .before .before .read-step .kept .1 .1 .1 .1 .1 .1 .1 .1 .0 ∙ c .before .before .before .before .before .before .before .before .before .before .before .before .before .before .before .before .before .before .before .loop .inv .3, c .before .before .before .before .before .before .before .before .before .before .read-step .kept .1 .1 .1 .1 .1 .1 .1 .1 .1 .0 ∙ c .before .before .before .before .before .before .before .before .before .before .before .before .before .before .before .before .before .before .before .loop .inv .4)
+loop-again c = (λ nw. reading-next _ _ _ _ _ _ _ _ _ _ _ _ _ _ (c .before .before .before .before .before .before .before .before .before .before .before .before .before .before .before .before .before .if3 .taken) (needs-more _ _ _ _ _ _ _ (c .before .before .before .before .before .before .before .before .before .before .before .before .before .before .before .before .before .before .before .loop .inv .1) (c .before .before .before .before .before .before .before .before .before .before .before .before .before .before .before .before .before .if3 .taken)) (c .before .before .before .before .before .before .before .before .before .before .before .before .before .before .before .before .before .before .before .loop .inv .0 nw) (c .before .before .before .before .before .before .before .before .before .before .read-next .ensures) (c .before .change-in-place .ensures _ nw) (c .next .ensures), cursor-needs _ _ _ _ (c .before .before .before .before .before .before .before .before .before .before .before .before .before .before .before .before .before .if3 .taken) (c .before .before .before .before .before .before .before .before .before .before .read-next .ensures .counts) (c .next .ensures) _ _ _ _ _ _ (c .before .before .before .before .before .before .before .before .before .before .read-next .ensures .most) (c .before .before .before .before .before .before .before .before .before .before .before .before .before .before .before .before .before .before .before .loop .inv .1), c .before .before .before .before .before .before .before .before .before .before .read-next .kept .1 .1 .1 .1 .1 .1 .0 ∙ c .before .before .before .before .before .before .before .before .before .before .before .before .before .before .before .before .before .before .before .loop .inv .2, c .before .before .before .before .before .before .before .before .before .before .read-next .kept .1 .1 .1 .1 .1 .1 .1 .1 .0 ∙ c .before .before .before .before .before .before .before .before .before .before .before .before .before .before .before .before .before .before .before .loop .inv .3, c .before .before .before .before .before .before .before .before .before .before .read-next .kept .1 .1 .1 .1 .1 .1 .1 .1 .1 .0 ∙ c .before .before .before .before .before .before .before .before .before .before .before .before .before .before .before .before .before .before .before .loop .inv .4)
 
 word-of-requires : tie.Need-word-of-requires Inv-loop μ-loop
 word-of-requires c κs = search needs
@@ -108,8 +108,8 @@ unit486-read-in-place-spec =
     returns-2
     begin-requires
     loop-holds
-    slice-aggregate-read-step
-    read-step-requires
+    slice-aggregate-read-next
+    read-next-requires
     change-in-place-requires
     next-requires
     loop-less

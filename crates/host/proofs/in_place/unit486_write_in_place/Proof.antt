@@ -7,9 +7,9 @@ use Rattle.directory.specs.Steps.{directoryOf}
 use Rattle.words.specs.Bytes.{bytesOf}
 use Rattle.memory.specs.Parity.{memory}
 use Rattle.access.specs.Access.{state, allOf, writeOne}
-use Rattle.access_steps.specs.AccessLoop.{accessBegin, restOf, AccessNeeds}
-use Rattle.access_steps.proofs.Steps.{needs-lengths, needs-more, cursor-less, cursor-needs, cursor-steps}
-use Rattle.access.proofs.AccessLoop.{AccessInvariant, access-invariant-begin, writing-next}
+use Rattle.doubleword.specs.Cursor.{accessBegin, AccessNeeds}
+use Rattle.doubleword.proofs.Cursors.{needs-lengths, needs-more, cursor-less, cursor-needs, cursor-next}
+use Rattle.access.proofs.AccessLoop.{restOf, AccessInvariant, access-invariant-begin, writing-next}
 use Rattle.access.proofs.Calls.{needs-begin, write-input-refused, write-later-refused, write-made}
 use Rattle.host.proofs.in_place.unit486_write_in_place.Statement.{statement}
 use Rattle.host.proofs.in_place.unit486_write_in_place.Tie as tie
@@ -78,24 +78,24 @@ loop-holds : tie.Need-loop-holds Inv-loop μ-loop
 unfolding bytesOf
 loop-holds c = rw (c .begin .ensures, c .before .bytes-of .ensures) (access-invariant-begin _ _ _ _ _ refl, needs-begin (directoryOf (now (c .before .before .before .before .before .before .before .before .before .before .before .before .before .before .before .before .before .before .before .before .args .tags)) (now (c .before .before .before .before .before .before .before .before .before .before .before .before .before .before .before .before .before .before .before .before .args .valid)) (now (c .before .before .before .before .before .before .before .before .before .before .before .before .before .before .before .before .before .before .before .before .args .lru)) (c .before .before .before .before .before .before .before .before .before .before .before .before .before .before .before .before .before .before .before .before .args .cd) (c .before .before .before .before .before .before .before .before .before .before .before .before .before .before .before .before .before .before .before .before .args .nw)) (memory (now (c .before .before .before .before .before .before .before .before .before .before .before .before .before .before .before .before .before .before .before .before .args .ram)) (now (c .before .before .before .before .before .before .before .before .before .before .before .before .before .before .before .before .before .before .before .before .args .parity))) (now (c .before .before .before .before .before .before .before .before .before .before .before .before .before .before .before .before .before .before .before .before .args .«data»)) (c .before .before .before .before .before .before .before .before .before .before .before .before .before .before .before .before .before .before .before .before .args .address) (c .before .before .before .before .before .before .before .before .before .before .before .before .before .before .before .before .before .before .before .before .args .width) (now (c .before .before .before .before .before .before .before .before .before .before .before .before .before .before .before .before .before .before .before .before .args .answers)) (now (c .before .before .before .before .before .before .before .before .before .before .before .before .before .before .before .before .before .before .before .before .args .log)) _ (c .before .before .before .before .before .before .before .before .before .before .input-number .ensures) (c .before .before .before .before .before .before .before .before .before .if1 .left), refl, refl, refl, refl)
 
-slice-aggregate-write-step : tie.Need-slice-aggregate-write-step Inv-loop μ-loop
-slice-aggregate-write-step c = search needs
+slice-aggregate-write-next : tie.Need-slice-aggregate-write-next Inv-loop μ-loop
+slice-aggregate-write-next c = search needs
 
-write-step-requires : tie.Need-write-step-requires Inv-loop μ-loop
-write-step-requires c κs = (c .before .before .before .before .before .before .before .if3 .taken, needs-lengths (c .before .before .before .before .before .before .before .before .before .loop .inv .4) (c .before .before .before .before .before .before .before .before .before .loop .inv .5) (c .before .before .before .before .before .before .before .before .before .loop .inv .2) (c .before .before .before .before .before .before .before .before .before .loop .inv .3) refl (c .before .before .before .before .before .before .before .before .before .loop .inv .1))
+write-next-requires : tie.Need-write-next-requires Inv-loop μ-loop
+write-next-requires c κs = (c .before .before .before .before .before .before .before .if3 .taken, needs-lengths (c .before .before .before .before .before .before .before .before .before .loop .inv .4) (c .before .before .before .before .before .before .before .before .before .loop .inv .5) (c .before .before .before .before .before .before .before .before .before .loop .inv .2) (c .before .before .before .before .before .before .before .before .before .loop .inv .3) refl (c .before .before .before .before .before .before .before .before .before .loop .inv .1))
 
 change-in-place-requires : tie.Need-change-in-place-requires Inv-loop μ-loop
-change-in-place-requires c κs = c .before .before .before .before .before .before .before .before .before .before .before .write-step .ensures .below
+change-in-place-requires c κs = c .before .before .before .before .before .before .before .before .before .before .before .write-next .ensures .below
 
 next-requires : tie.Need-next-requires Inv-loop μ-loop
-next-requires c κs = cursor-steps _ _ _ _ _ _ _ _ _ (c .before .before .before .before .before .before .before .before .before .before .before .before .write-step .ensures .counts) (c .before .before .before .before .before .before .before .before .before .before .before .before .write-step .ensures .most) (c .before .before .before .before .before .before .before .before .before .before .before .before .before .before .before .before .before .before .before .before .before .before .loop .inv .1)
+next-requires c κs = cursor-next _ _ _ _ _ _ _ _ _ (c .before .before .before .before .before .before .before .before .before .before .before .before .write-next .ensures .counts) (c .before .before .before .before .before .before .before .before .before .before .before .before .write-next .ensures .most) (c .before .before .before .before .before .before .before .before .before .before .before .before .before .before .before .before .before .before .before .before .before .before .loop .inv .1)
 
 loop-less : tie.Need-loop-less Inv-loop μ-loop
-loop-less c = cursor-less _ _ _ _ (c .before .before .before .before .before .before .before .before .before .before .before .before .before .before .before .before .before .before .before .before .before .if3 .taken) (c .before .before .before .before .before .before .before .before .before .before .before .before .before .write-step .ensures .counts) (c .next .ensures)
+loop-less c = cursor-less _ _ _ _ (c .before .before .before .before .before .before .before .before .before .before .before .before .before .before .before .before .before .before .before .before .before .if3 .taken) (c .before .before .before .before .before .before .before .before .before .before .before .before .before .write-next .ensures .counts) (c .next .ensures)
 
 loop-again : tie.Need-loop-again Inv-loop μ-loop
 unfolding writeOne
-loop-again c = (writing-next _ _ _ _ _ _ _ _ _ _ _ _ _ (c .before .before .before .before .before .before .before .before .before .before .before .before .before .before .before .before .before .before .before .before .before .if3 .taken) (needs-more _ _ _ _ _ _ _ (c .before .before .before .before .before .before .before .before .before .before .before .before .before .before .before .before .before .before .before .before .before .before .before .loop .inv .1) (c .before .before .before .before .before .before .before .before .before .before .before .before .before .before .before .before .before .before .before .before .before .if3 .taken)) (c .before .before .before .before .before .before .before .before .before .before .before .before .before .before .before .before .before .before .before .before .before .before .before .loop .inv .0) (c .before .before .before .before .before .before .before .before .before .before .before .before .before .write-step .ensures) (c .before .change-in-place .ensures _ _) (c .next .ensures), cursor-needs _ _ _ _ (c .before .before .before .before .before .before .before .before .before .before .before .before .before .before .before .before .before .before .before .before .before .if3 .taken) (c .before .before .before .before .before .before .before .before .before .before .before .before .before .write-step .ensures .counts) (c .next .ensures) _ _ _ _ _ _ (c .before .before .before .before .before .before .before .before .before .before .before .before .before .write-step .ensures .most) (c .before .before .before .before .before .before .before .before .before .before .before .before .before .before .before .before .before .before .before .before .before .before .before .loop .inv .1), c .before .before .before .before .before .before .before .before .before .before .before .before .before .write-step .kept .1 .1 .1 .1 .1 .0 ∙ c .before .before .before .before .before .before .before .before .before .before .before .before .before .before .before .before .before .before .before .before .before .before .before .loop .inv .2, c .before .before .before .before .before .before .before .before .before .before .before .before .before .write-step .kept .1 .1 .1 .1 .1 .1 .1 .0 ∙ c .before .before .before .before .before .before .before .before .before .before .before .before .before .before .before .before .before .before .before .before .before .before .before .loop .inv .3, c .before .before .before .before .before .before .before .before .before .before .before .before .before .write-step .kept .1 .1 .1 .0 ∙ c .before .before .before .before .before .before .before .before .before .before .before .before .before .before .before .before .before .before .before .before .before .before .before .loop .inv .4, c .before .before .before .before .before .before .before .before .before .before .before .before .before .write-step .kept .1 .1 .1 .1 .0 ∙ c .before .before .before .before .before .before .before .before .before .before .before .before .before .before .before .before .before .before .before .before .before .before .before .loop .inv .5)
+loop-again c = (writing-next _ _ _ _ _ _ _ _ _ _ _ _ _ (c .before .before .before .before .before .before .before .before .before .before .before .before .before .before .before .before .before .before .before .before .before .if3 .taken) (needs-more _ _ _ _ _ _ _ (c .before .before .before .before .before .before .before .before .before .before .before .before .before .before .before .before .before .before .before .before .before .before .before .loop .inv .1) (c .before .before .before .before .before .before .before .before .before .before .before .before .before .before .before .before .before .before .before .before .before .if3 .taken)) (c .before .before .before .before .before .before .before .before .before .before .before .before .before .before .before .before .before .before .before .before .before .before .before .loop .inv .0) (c .before .before .before .before .before .before .before .before .before .before .before .before .before .write-next .ensures) (c .before .change-in-place .ensures _ _) (c .next .ensures), cursor-needs _ _ _ _ (c .before .before .before .before .before .before .before .before .before .before .before .before .before .before .before .before .before .before .before .before .before .if3 .taken) (c .before .before .before .before .before .before .before .before .before .before .before .before .before .write-next .ensures .counts) (c .next .ensures) _ _ _ _ _ _ (c .before .before .before .before .before .before .before .before .before .before .before .before .before .write-next .ensures .most) (c .before .before .before .before .before .before .before .before .before .before .before .before .before .before .before .before .before .before .before .before .before .before .before .loop .inv .1), c .before .before .before .before .before .before .before .before .before .before .before .before .before .write-next .kept .1 .1 .1 .1 .1 .0 ∙ c .before .before .before .before .before .before .before .before .before .before .before .before .before .before .before .before .before .before .before .before .before .before .before .loop .inv .2, c .before .before .before .before .before .before .before .before .before .before .before .before .before .write-next .kept .1 .1 .1 .1 .1 .1 .1 .0 ∙ c .before .before .before .before .before .before .before .before .before .before .before .before .before .before .before .before .before .before .before .before .before .before .before .loop .inv .3, c .before .before .before .before .before .before .before .before .before .before .before .before .before .write-next .kept .1 .1 .1 .0 ∙ c .before .before .before .before .before .before .before .before .before .before .before .before .before .before .before .before .before .before .before .before .before .before .before .loop .inv .4, c .before .before .before .before .before .before .before .before .before .before .before .before .before .write-next .kept .1 .1 .1 .1 .0 ∙ c .before .before .before .before .before .before .before .before .before .before .before .before .before .before .before .before .before .before .before .before .before .before .before .loop .inv .5)
 
 cast-t33 : tie.Need-cast-t33 Inv-loop μ-loop
 cast-t33 c = omega (arith, c .before .before .before .loop .inv .1 .made, c .before .before .before .loop .inv .1 .last)
@@ -140,8 +140,8 @@ unit486-write-in-place-spec =
     bytes-of-requires
     begin-requires
     loop-holds
-    slice-aggregate-write-step
-    write-step-requires
+    slice-aggregate-write-next
+    write-next-requires
     change-in-place-requires
     next-requires
     loop-less

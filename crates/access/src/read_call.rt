@@ -1,0 +1,67 @@
+// The read call.
+ghost use mathlib.Core.Path.{_≡_};
+ghost use Rattle.memory.specs.Parity.{memory};
+ghost use Rattle.access.specs.Access.{after, readCall, state};
+use crate::outcome::Outcome;
+use crate::outcome::refused;
+use directory::Directory;
+use doubleword::AccessCursor;
+use doubleword::Change;
+use doubleword::changed_by;
+use reading::read_next;
+use refusal::input_number;
+use refusal::states_number;
+use words::word_of;
+
+pub fn read(
+    mut given: Directory,
+    ram: &[u8],
+    parity: &[u8],
+    data: &mut [u8],
+    address: u32,
+    width: u32,
+    pcd: bool,
+    answers: &[u8],
+    log: &mut [u32],
+) -> Outcome
+    ensures { λ r. ⌜ after r (memory (now (ram .entry)) (now (parity .entry))) (now («data» .exit)) (now (log .exit))
+        ≡ readCall (state given (memory (now (ram .entry)) (now (parity .entry))) (now («data» .entry))) address width pcd (now (answers .entry)) (now (log .entry)) ⌝ }
+{
+    let number = input_number(ram, parity, data, answers, log, address, width);
+    if number != 0 {
+        return refused(given, number);
+    }
+    let bad = states_number(&given.tags, &given.valid, &given.lru, address, width);
+    if bad != 0 {
+        return refused(given, bad);
+    }
+    let mut operand = [0u8; 4];
+    let mut cursor = AccessCursor::begin(address, width);
+    while 0 < cursor.left {
+        let done = read_next(
+            &given.tags,
+            &given.valid,
+            &given.lru,
+            !given.cd & !pcd,
+            ram,
+            parity,
+            data,
+            answers,
+            log,
+            &mut operand,
+            cursor,
+        );
+        let change = done.change;
+        match change {
+            Change::Unchanged => {}
+            _ => given = changed_by(given, done.line, change),
+        }
+        cursor = cursor.next(done.count, done.cycles);
+    }
+    Outcome {
+        directory: given,
+        number: 0,
+        value: word_of(operand),
+        cycles: cursor.cycles as u32,
+    }
+}

@@ -1,0 +1,71 @@
+-- Document 01, 'One doubleword': what one doubleword of a read does, by what the directory answers for its line.
+use Prim.Native.Nat.{ℕ, _+_, _/_}
+use mathlib.Core.Bool.{Bool, cond, _&&_}
+use mathlib.Core.List.{List, [], map}
+use lib.ListN.{getD, replicate}
+use lib.Seq.{sets}
+use Rattle.ways.specs.declared.ways.Found.{Found}
+use Rattle.ways.specs.declared.ways.Found.the-variants.{At, Nothing}
+use Rattle.words.specs.Bytes.{bytesAt}
+use Rattle.memory.specs.Parity.{Memory}
+use Rattle.bus.specs.Bus.{ken, Cycle, cyclesOf, burst, lastAnswer, through, bufferAfter}
+use Rattle.bus.specs.Record.{readRecord, plainRead, filling}
+use Rattle.doubleword.specs.declared.change.Change.{Change}
+use Rattle.doubleword.specs.declared.change.Change.the-variants.{Unchanged, Use, Fill}
+use Rattle.doubleword.specs.Doubleword.{Doubleword, dataOffset, Done, plainCycles}
+
+-- "Read hit: from the data array, no cycle, whatever CD and PCD are."
+unfoldable pub readHit : ℕ → Memory → List ℕ → Doubleword → Done
+readHit way m array w =
+    record {
+      change = Use way;
+      memory = m;
+      array = array;
+      bytes = bytesAt array (dataOffset (w .line) way + w .wanted .from) (w .wanted .count);
+      records = [];
+    }
+
+-- The line buffer after read cycles.
+abbrev pub bufferOf : Memory → Doubleword → List Cycle → List ℕ
+bufferOf m w cs = through (bufferAfter (m .ram) (w .line)) cs (replicate 16 0)
+
+-- "Otherwise the wanted bytes only."
+unfoldable pub readPlain : Memory → List ℕ → Doubleword → Done
+readPlain m array w =
+    record {
+      change = Unchanged;
+      memory = m;
+      array = array;
+      bytes = bytesAt (bufferOf m w (plainCycles w)) (w .wanted .from) (w .wanted .count);
+      records = map (readRecord plainRead m (w .line)) (plainCycles w);
+    }
+
+-- "Fill: all four bytes of each doubleword of the line".
+abbrev pub fillCycles : Doubleword → List Cycle
+fillCycles w = cyclesOf (w .answers) (burst (w .wanted .from / 4))
+
+-- "A kept fill writes the victim's bytes, tag and valid mark. A dropped one changes neither directory nor data array."
+abbrev pub keptChange : Bool → ℕ → Change
+keptChange kept victim = cond kept (Fill victim) Unchanged
+
+abbrev pub keptArray : Bool → ℕ → ℕ → List ℕ → List ℕ → List ℕ
+keptArray kept victim line buffer array = cond kept (sets array (dataOffset line victim) (bytesAt buffer 0 16)) array
+
+-- "It is kept only if the last cycle also has KEN#; others in between don't matter."
+unfoldable pub readFill : ℕ → Memory → List ℕ → Doubleword → Done
+readFill victim m array w =
+    let kept = ken (lastAnswer 0 (fillCycles w)) in
+    let buffer = bufferOf m w (fillCycles w) in
+    record {
+      change = keptChange kept victim;
+      memory = m;
+      array = keptArray kept victim (w .line) buffer array;
+      bytes = bytesAt buffer (w .wanted .from) (w .wanted .count);
+      records = map (readRecord filling m (w .line)) (fillCycles w);
+    }
+
+-- "Read miss: a fill when CD = 0, PCD = 0 and the first cycle has KEN#." (001, 002) `mayFill`: CD = 0 and PCD = 0.
+unfoldable pub readDone : Found → ℕ → Bool → Memory → List ℕ → Doubleword → Done
+readDone (At way) victim mayFill m array w = readHit way m array w
+readDone Nothing victim mayFill m array w =
+    cond (mayFill && ken (getD (w .answers) 0 0)) (readFill victim m array w) (readPlain m array w)

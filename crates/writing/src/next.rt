@@ -1,0 +1,55 @@
+// The next doubleword of a write.
+ghost use Prim.Native.Nat.{_<_};
+ghost use lib.ListN.{length};
+ghost use Rattle.ways.specs.Ways.{lookupIn};
+ghost use Rattle.memory.specs.Parity.{memory};
+ghost use Rattle.doubleword.specs.Cursor.{AccessNeeds, lineAddress, nextDoubleword};
+ghost use Rattle.writing.specs.Writing.{writeDone};
+ghost use Rattle.writing.specs.WritingCode.{WriteNext};
+use crate::writing::write_doubleword;
+use doubleword::AccessCursor;
+use doubleword::NextResult;
+
+// The doubleword at a cursor, by lent fields of the directory. stays: CD = NW = 1, where a hit makes no cycle.
+pub fn write_next<'a>(
+    tags: &'a [u32; 512],
+    valid: &'a [bool; 512],
+    stays: bool,
+    ram: &mut [u8],
+    parity: &mut [u8],
+    data: &mut [u8],
+    answers: &[u8],
+    log: &mut [u32],
+    operand: &[u8],
+    cursor: AccessCursor,
+) -> NextResult
+    requires { ⌜ (0 < cursor .left) × AccessNeeds cursor (length (now ram)) (length (now parity)) (length (now «data»)) (length (now answers)) (length (now log)) (length (now operand)) ⌝ }
+    ensures { λ r. ⌜ WriteNext (writeDone (lookupIn (now (tags .entry)) (now (valid .entry)) (lineAddress cursor)) stays
+        (memory (now (ram .entry)) (now (parity .entry))) (now («data» .entry)) (now (operand .entry)) (nextDoubleword cursor (now (answers .entry))))
+        cursor (now (log .entry)) r (memory (now (ram .exit)) (now (parity .exit))) (now («data» .exit)) (now (log .exit)) ⌝ }
+{
+    let w = cursor.wanted();
+    let from = cursor.group * 16;
+    let to = from + 16;
+    let group = &answers[from..to];
+    let moved = write_doubleword(
+        tags,
+        valid,
+        stays,
+        ram,
+        parity,
+        data,
+        group,
+        log,
+        operand,
+        w,
+        cursor.cycles,
+    );
+    let change = moved.change;
+    NextResult {
+        line: w.line,
+        change,
+        count: w.count,
+        cycles: moved.cycles,
+    }
+}
