@@ -53,7 +53,7 @@ module _ (s : State) (address width : ℕ) where
 
 -- an external write
 module _ (d : Directory) (m : Memory) (address : ℕ) (bytes : List ℕ) where
-  pub external-write-grouped : externalWriteNumber d m address bytes ≡ orElse (orElse (memoryNumber (length (m .ram)) (length (m .parity))) (externalNumber (length (m .ram)) address (length bytes))) (statesNumberOf d address (length bytes))
+  external-write-grouped : externalWriteNumber d m address bytes ≡ orElse (orElse (memoryNumber (length (m .ram)) (length (m .parity))) (externalNumber (length (m .ram)) address (length bytes))) (statesNumberOf d address (length bytes))
   unfolding externalWriteNumber
   external-write-grouped = sym (or-grouped (memoryNumber (length (m .ram)) (length (m .parity))) (externalNumber (length (m .ram)) address (length bytes)) (statesNumberOf d address (length bytes)))
 

@@ -28,7 +28,7 @@ or-nothing a b z = same-or _ a 0 (λ e. zero-or a b e ∙ z ∙ sym e) (λ n. fi
 
 -- 1 to 3 are not met by document 01's lengths
 module _ (ram parity : ℕ) (g : GoodMemory ram parity) where
-  pub ram-zero : ramNumber ram ≡ 0
+  ram-zero : ramNumber ram ≡ 0
   ram-zero = rw (le-ltb ram 16 (g .least), le-ltb 16777216 ram (g .most), eq-eqb (ram % 16) 0 (g .whole))
 
   memory-clear : memoryNumber ram parity ≡ 0

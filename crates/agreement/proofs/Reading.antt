@@ -47,7 +47,7 @@ pub use-lines : (d : Directory) (r w : ℕ) (m array : List ℕ) → Lines d m a
 use-lines d r w m array = fewer-lines d (afterUse d r w) m array (λ s v tag sl vl h. use-held d r w s v tag h)
 
 -- what a doubleword of a read leaves
-pub record ReadMatches (s : State) (m : List ℕ) (w : Doubleword) (done : Done) : Type 0 where
+record ReadMatches (s : State) (m : List ℕ) (w : Doubleword) (done : Done) : Type 0 where
   pub coherent : Coherent (next s w done) m
   pub gives : done .bytes ≡ wantedBytes m w
   pub no-error : NoParityErrors (done .records)
@@ -130,7 +130,7 @@ module _ (s : State) (m : List ℕ) (c : Coherent s m) (w : Doubleword) (ok : Pr
       (λ _ _. read-plain)
       refl
 
-  pub read-one : (pcd : Bool) → ReadMatches s m w (readOne pcd s w)
+  read-one : (pcd : Bool) → ReadMatches s m w (readOne pcd s w)
   unfolding readOne
   read-one pcd =
       read-found (not (d .cd) && not pcd) (λ h. not-true _ (both (not (d .cd)) (not pcd) h .0)) (lookupOf d (w .line)) refl

@@ -48,7 +48,7 @@ coherent-stored s m c a x fits d g o array al l =
     }
 
 -- what a doubleword of a write leaves
-pub record WriteMatches (s : State) (m : List ℕ) (w : Doubleword) (done : Done) : Type 0 where
+record WriteMatches (s : State) (m : List ℕ) (w : Doubleword) (done : Done) : Type 0 where
   pub coherent : Coherent (next s w done) m
   pub no-error : NoParityErrors (done .records)
 
@@ -110,7 +110,7 @@ module _ (operand : List ℕ) (s : State) (m : List ℕ) (c : Coherent s m) (w :
       refl
   write-found Nothing e = write-miss e
 
-  pub write-one : WriteMatches s (memoryWritten operand m w) w (writeOne operand s w)
+  write-one : WriteMatches s (memoryWritten operand m w) w (writeOne operand s w)
   unfolding writeOne
   write-one = write-found (lookupOf d (w .line)) refl
 

@@ -65,10 +65,10 @@ module _ (start : ℕ) (cursor : CycleCursor) (x : ℕ) where
   abbrev size : ℕ
   size = sizeOf x (run (cursor .from) (cursor .count))
 
-  abbrev pub doneNext : CycleCursor
+  abbrev doneNext : CycleCursor
   doneNext = record { from = cursor .from; count = 0; turn = cursor .turn; left = 0; cycles = cursor .cycles + 1; answer = x }
 
-  abbrev pub wholeNext : CycleCursor
+  abbrev wholeNext : CycleCursor
   wholeNext =
       record {
         from = burstAt start (cursor .turn + 1);
@@ -79,7 +79,7 @@ module _ (start : ℕ) (cursor : CycleCursor) (x : ℕ) where
         answer = x;
       }
 
-  abbrev pub partNext : CycleCursor
+  abbrev partNext : CycleCursor
   partNext =
       record {
         from = cursor .from + size;
@@ -103,7 +103,7 @@ module _ (start : ℕ) (cursor : CycleCursor) (x : ℕ) where
   next-part n = rw (ne-eqb _ _ n)
 
   -- what holds of each of the three holds of the next cursor
-  pub next-cases :
+  next-cases :
       (P : CycleCursor → Type 0) →
       (size ≡ cursor .count → cursor .left ≡ 0 → P doneNext) →
       (size ≡ cursor .count → (cursor .left ≡ 0 → ⊥) → P wholeNext) →

@@ -38,7 +38,7 @@ unfolding cyclesOf
 none-made [] = refl
 none-made (x ∷ xs) = refl
 
-pub rest-done : (start : ℕ) (xs : List ℕ) (cursor : CycleCursor) → cursor .count ≡ 0 → restAt start xs cursor ≡ []
+rest-done : (start : ℕ) (xs : List ℕ) (cursor : CycleCursor) → cursor .count ≡ 0 → restAt start xs cursor ≡ []
 unfolding restAt
 rest-done start xs cursor e = rw (wanted-none start cursor e, none-made (drop (cursor .cycles) xs))
 
@@ -46,7 +46,7 @@ module _ (start : ℕ) (xs : List ℕ) (cursor : CycleCursor) (some : 0 < cursor
   abbrev here : ℕ
   here = getD xs (cursor .cycles) 0
 
-  pub rest-next : restAt start xs cursor ≡ cycleAt start cursor here ∷ restAt start xs (cycleNext start cursor here)
+  rest-next : restAt start xs cursor ≡ cycleAt start cursor here ∷ restAt start xs (cycleNext start cursor here)
   unfolding restAt cyclesOf
   rest-next =
       rw (
@@ -80,7 +80,7 @@ module _ {S : Type 0} (f : Run → S → S) (make : Cycle → Record) (start fir
         lengths = refl;
       }
 
-  pub cycles-more : (cursor : CycleCursor) → CycleNeeds cursor (length xs) → 0 < cursor .count → cursor .cycles < length xs
+  cycles-more : (cursor : CycleCursor) → CycleNeeds cursor (length xs) → 0 < cursor .count → cursor .cycles < length xs
   cycles-more cursor r some = omega (arith, r .enough)
 
   pub cycle-invariant-next : {begin : CycleCursor} {log₀ : List ℕ} {s₀ : S} {cursor : CycleCursor} {log : List ℕ} {s : S} (u : CycleCursor) (log′ : List ℕ) (s′ : S) →
@@ -107,7 +107,7 @@ module _ {S : Type 0} (f : Run → S → S) (make : Cycle → Record) (start fir
         lengths = rw el (length-sets log (3 * (first + cursor .cycles)) (wordsOf (make (cycleAt start cursor x) ∷ [])) ∙ k .lengths);
       }
 
-  pub cycle-invariant-end : {begin : CycleCursor} {log₀ : List ℕ} {s₀ : S} {cursor : CycleCursor} {log : List ℕ} {s : S} → cursor .count ≡ 0 → CycleInvariant begin log₀ s₀ cursor log s →
+  cycle-invariant-end : {begin : CycleCursor} {log₀ : List ℕ} {s₀ : S} {cursor : CycleCursor} {log : List ℕ} {s : S} → cursor .count ≡ 0 → CycleInvariant begin log₀ s₀ cursor log s →
       (log ≡ logged log₀ first (map make (restAt start xs begin)))
       × (s ≡ through f (restAt start xs begin) s₀)
       × (cursor .cycles ≡ length (restAt start xs begin))

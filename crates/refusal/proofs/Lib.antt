@@ -1,3 +1,3 @@
 -- Laws that several proofs cite.
-pub mod Numbers
+mod Numbers
 pub mod Accepted

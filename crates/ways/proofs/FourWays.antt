@@ -72,7 +72,7 @@ module _ (p : ℕ → Bool) where
   found-below (At w) e n l = lowest-at w e .0
   found-below Nothing e n l = l
 
-  pub way-or-below : (n : ℕ) → n < 4 → wayOr (lowestOf p) n < 4
+  way-or-below : (n : ℕ) → n < 4 → wayOr (lowestOf p) n < 4
   way-or-below = found-below (lowestOf p) refl
 
 -- an LRU number names a way below 4, and stays below 8

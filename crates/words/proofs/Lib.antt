@@ -1,4 +1,4 @@
 -- Laws that several proofs cite.
 pub mod Places
 pub mod Moves
-pub mod Words
+mod Words
