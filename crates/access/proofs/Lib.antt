@@ -1,5 +1,5 @@
 -- Laws that several proofs cite.
-pub mod Values
+mod Values
 pub mod AccessLoop
 pub mod Calls
 pub mod Bench
