@@ -1,7 +1,8 @@
 // The doublewords of an access, the lowest first.
 ghost use mathlib.Core.Path.{_≡_};
-ghost use Prim.Native.Nat.{_+_, _≤_, _<_};
-ghost use Rattle.doubleword.specs.Cursor.{accessBegin, accessNext, wantedOf};
+ghost use Prim.Native.Nat.{_+_, _*_, _≤_, _<_};
+ghost use lib.ListN.{length};
+ghost use Rattle.doubleword.specs.Cursor.{accessBegin, accessNext, groupAt, wantedOf};
 use crate::change::Change;
 use crate::change::Wanted;
 
@@ -50,6 +51,16 @@ impl AccessCursor {
             count,
             place: self.place,
         }
+    }
+
+    // The group of answers that serves the next doubleword.
+    pub fn group_of<'a>(self, answers: &'a [u8]) -> &'a [u8]
+        requires { ⌜ self .group * 16 + 16 ≤ length (now answers) ⌝ }
+        ensures { λ r. ⌜ (now r ≡ groupAt self (now (answers .entry))) × (length (now r) ≡ 16) ⌝ }
+    {
+        let from = self.group * 16;
+        let to = from + 16;
+        &answers[from..to]
     }
 
     // What is left after a doubleword: so many bytes, and so many cycles.

@@ -23,7 +23,7 @@ use Rattle.bus.specs.Cursor.{cycleBegin, wantedAt, CycleNeeds}
 use Rattle.bus.proofs.Sizing.{wanted-some, burst-later}
 use Rattle.cycles.specs.CycleLoop.{BufferNeeds, ReadCycles}
 use Rattle.doubleword.specs.declared.change.Change.{Change}
-use Rattle.doubleword.specs.declared.change.Change.the-variants.{Unchanged, Use, Fill}
+use Rattle.doubleword.specs.declared.change.Change.the-variants.{Use}
 use Rattle.doubleword.specs.declared.change.DoublewordResult.{DoublewordResult}
 use Rattle.doubleword.specs.declared.change.Wanted.{Wanted}
 use Rattle.doubleword.specs.declared.cursor.AccessCursor.{AccessCursor}
@@ -36,7 +36,7 @@ use Rattle.reading.specs.Reading.{readHit, readPlain, fillCycles, keptCh
 use Rattle.reading.specs.ReadingCode.{missCycles, missKind, ReadMiss, Reads, ReadNext}
 
 -- the cursor that the cycles of a doubleword that missed begin with
-abbrev pub fillStart : Wanted → CycleCursor
+abbrev fillStart : Wanted → CycleCursor
 fillStart w = cycleBegin (w .from / 4 * 4) 4 3
 
 abbrev pub missStart : Bool → Wanted → CycleCursor
@@ -161,7 +161,7 @@ unfolding readDone readHit readFill readPlain
 read-below (At way) victim mayFill m array w h l = h way refl
 read-below Nothing victim mayFill m array w h l =
     by-test (λ b. BelowFour (cond b (readFill victim m array w) (readPlain m array w) .change)) (mayFill && ken (getD (w .answers) 0 0))
-    (λ _. by-test (λ b. BelowFour (cond b (Fill victim) Unchanged)) (ken (lastAnswer 0 (fillCycles w))) (λ _. l) (λ _. tt))
+    (λ _. by-test (λ b. BelowFour (keptChange b victim)) (ken (lastAnswer 0 (fillCycles w))) (λ _. l) (λ _. tt))
     (λ _. tt)
 
 pub reads-below : (tags : List ℕ) (valid : List Bool) (lru : List ℕ) (mayFill : Bool) (m : Memory) (array : List ℕ) (w : Doubleword) {place first : ℕ} {log₀ operand₀ : List ℕ} {r : DoublewordResult} {array′ log operand : List ℕ} →

@@ -31,9 +31,7 @@ pub fn read_next<'a>(
         cursor (now (log .entry)) (now (operand .entry)) r (now («data» .exit)) (now (log .exit)) (now (operand .exit)) ⌝ }
 {
     let w = cursor.wanted();
-    let from = cursor.group * 16;
-    let to = from + 16;
-    let group = &answers[from..to];
+    let group = cursor.group_of(answers);
     let moved = read_doubleword(
         tags,
         valid,

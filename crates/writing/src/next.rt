@@ -29,9 +29,7 @@ pub fn write_next<'a>(
         cursor (now (log .entry)) r (memory (now (ram .exit)) (now (parity .exit))) (now («data» .exit)) (now (log .exit)) ⌝ }
 {
     let w = cursor.wanted();
-    let from = cursor.group * 16;
-    let to = from + 16;
-    let group = &answers[from..to];
+    let group = cursor.group_of(answers);
     let moved = write_doubleword(
         tags,
         valid,
