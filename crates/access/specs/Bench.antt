@@ -22,11 +22,11 @@ always answer = replicate 32 answer
 abbrev pub benchLog : List ℕ
 benchLog = replicate 96 0
 
-abbrev pub reading : ℕ → ℕ → List ℕ → After
-reading address width answers = readCall (enabled 32 8) address width false answers benchLog
+abbrev pub benchRead : ℕ → ℕ → List ℕ → After
+benchRead address width answers = readCall (enabled 32 8) address width false answers benchLog
 
-abbrev pub writing : ℕ → ℕ → ℕ → List ℕ → After
-writing address width value answers = writeCall (enabled 32 8) address width value answers benchLog
+abbrev pub benchWrite : ℕ → ℕ → ℕ → List ℕ → After
+benchWrite address width value answers = writeCall (enabled 32 8) address width value answers benchLog
 
 -- All records of a call, three words each, as many as it counts cycles.
 abbrev pub recordsLeft : After → List ℕ
@@ -48,17 +48,17 @@ wayAfter n a = lookupOf (afterReads (afterControl afterReset false false) (take 
 
 pub record BenchTable : Type 0 where
   -- "32-bit write at 0: flags 95."
-  pub write-at-0 : recordsLeft (writing 0 4 287454020 (always 1)) ≡ 0 ∷ 95 ∷ 287454020 ∷ []
+  pub write-at-0 : recordsLeft (benchWrite 0 4 287454020 (always 1)) ≡ 0 ∷ 95 ∷ 287454020 ∷ []
   -- "Fill from 4: addresses 4, 0, 12, 8, flags 47, 47, 47, 111."
-  pub fill-from-4 : recordsLeft (reading 4 4 (always 1)) ≡ 4 ∷ 47 ∷ 0 ∷ 0 ∷ 47 ∷ 0 ∷ 12 ∷ 47 ∷ 0 ∷ 8 ∷ 111 ∷ 0 ∷ []
+  pub fill-from-4 : recordsLeft (benchRead 4 4 (always 1)) ≡ 4 ∷ 47 ∷ 0 ∷ 0 ∷ 47 ∷ 0 ∷ 12 ∷ 47 ∷ 0 ∷ 8 ∷ 111 ∷ 0 ∷ []
   -- "Two bytes read at 3, no KEN#: 72, then 65."
-  pub two-at-3 : recordsLeft (reading 3 2 (always 0)) ≡ 0 ∷ 72 ∷ 0 ∷ 4 ∷ 65 ∷ 0 ∷ []
+  pub two-at-3 : recordsLeft (benchRead 3 2 (always 0)) ≡ 0 ∷ 72 ∷ 0 ∷ 4 ∷ 65 ∷ 0 ∷ []
   -- "Two read at 1, BS16#: 2, 68."
-  pub two-at-1 : recordsLeft (reading 1 2 (always 4)) ≡ 0 ∷ 2 ∷ 0 ∷ 0 ∷ 68 ∷ 0 ∷ []
+  pub two-at-1 : recordsLeft (benchRead 1 2 (always 4)) ≡ 0 ∷ 2 ∷ 0 ∷ 0 ∷ 68 ∷ 0 ∷ []
   -- "Two read at 0, answer 6: 1, 66."
-  pub two-at-0 : recordsLeft (reading 0 2 (always 6)) ≡ 0 ∷ 1 ∷ 0 ∷ 0 ∷ 66 ∷ 0 ∷ []
+  pub two-at-0 : recordsLeft (benchRead 0 2 (always 6)) ≡ 0 ∷ 1 ∷ 0 ∷ 0 ∷ 66 ∷ 0 ∷ []
   -- "Fill under BS8#: 16 cycles."
-  pub byte-fill : reading 0 1 (always 3) .outcome .cycles ≡ 16
+  pub byte-fill : benchRead 0 1 (always 3) .outcome .cycles ≡ 16
   -- "Empty set filled from 0, 800, 1000, 1800, 2000 (hex): ways 0, 1, 2, 3, 0."
   pub first-way : wayAfter 1 0 ≡ At 0
   pub second-way : wayAfter 2 0x800 ≡ At 1
@@ -68,7 +68,7 @@ pub record BenchTable : Type 0 where
   -- "A sixth at 2800: way 2."
   pub sixth-way : wayAfter 6 0x2800 ≡ At 2
   -- "KEN# first only: nothing held."
-  pub ken-first-only : reading 0 4 (1 ∷ replicate 31 0) .outcome .directory ≡ enabled 32 8 .directory
+  pub ken-first-only : benchRead 0 4 (1 ∷ replicate 31 0) .outcome .directory ≡ enabled 32 8 .directory
   -- "Width 3: 4."
-  pub width-3-read : reading 0 3 (always 1) .outcome .number ≡ 4
-  pub width-3-written : writing 0 3 1 (always 1) .outcome .number ≡ 4
+  pub width-3-read : benchRead 0 3 (always 1) .outcome .number ≡ 4
+  pub width-3-written : benchWrite 0 3 1 (always 1) .outcome .number ≡ 4

@@ -16,8 +16,8 @@ use Rattle.laws.proofs.Lists.{sets-append}
 use Rattle.words.specs.Bytes.{bytesAt}
 use Rattle.memory.specs.Parity.{Memory, stored, Agrees}
 use Rattle.bus.proofs.Flags.{words-length}
-use Rattle.bus.specs.Bus.{Run, run, sizeOf, wantedAfter, Cycle, cyclesOf, burst, through, bufferAfter, memoryAfter}
-use Rattle.bus.specs.Record.{Record, lanesOf, flagsOf, readRecord, writeRecord, writing, wordsOf, logged}
+use Rattle.bus.specs.Bus.{Run, run, sizeOf, wantedAfter, Cycle, cyclesOf, burst, afterCycles, bufferAfter, memoryAfter}
+use Rattle.bus.specs.Record.{Record, lanesOf, flagsOf, readRecord, writeRecord, writeKind, wordsOf, logged}
 use Rattle.bus.proofs.Sizing.{size-some, size-most}
 use Rattle.words.proofs.Places.{bytes-at, bytes-length, sets-above, sets-below, sets-in}
 use Rattle.agreement.proofs.Bytes.{bytes-split, bytes-same, bytes-sets}
@@ -38,9 +38,9 @@ total [] = 0
 total (w ∷ ws) = w .count + total ws
 
 -- the same work on the wanted bytes themselves
-abbrev over : {S : Type 0} → (Run → S → S) → List Run → S → S
-over f [] s = s
-over f (w ∷ ws) s = over f ws (f w s)
+abbrev afterRuns : {S : Type 0} → (Run → S → S) → List Run → S → S
+afterRuns f [] s = s
+afterRuns f (w ∷ ws) s = afterRuns f ws (f w s)
 
 -- what is left after a cycle: the other wanted bytes, or the rest of these before them
 left-cases : (P : List Run → Type 0) (x : ℕ) (w : Run) (ws : List Run) → (sizeOf x w ≡ w .count → P ws) →
@@ -64,18 +64,18 @@ left-total x w ws = left-cases (λ l. sizeOf x w + total l ≡ w .count + total 
 
 -- cycles do what the wanted bytes ask for, for any work that can be done in parts
 module _ {S : Type 0} (f : Run → S → S) (split : (a m n : ℕ) (s : S) → f (run a (m + n)) s ≡ f (run (a + m) n) (f (run a m) s)) where
-  through-cycles : (xs : List ℕ) (ws : List Run) → Each ws → total ws ≤ length xs → (s : S) → through f (cyclesOf xs ws) s ≡ over f ws s
-  unfolding through cyclesOf
-  through-cycles [] [] g l s = refl
-  through-cycles [] (w ∷ ws) g l s = absurd (omega (arith, g .0 .some))
-  through-cycles (x ∷ xs) [] g l s = refl
-  through-cycles (x ∷ xs) (w ∷ ws) g l s =
-      through-cycles xs (wantedAfter x w ws) (left-each x w ws (g .0) (g .1)) (omega (arith, left-total x w ws, size-some x (w .from) (w .count) (g .0 .some))) (f (run (w .from) (sizeOf x w)) s)
-      ∙ left-cases (λ l. over f l (f (run (w .from) (sizeOf x w)) s) ≡ over f ws (f w s)) x w ws
+  cycles-as-runs : (xs : List ℕ) (ws : List Run) → Each ws → total ws ≤ length xs → (s : S) → afterCycles f (cyclesOf xs ws) s ≡ afterRuns f ws s
+  unfolding afterCycles cyclesOf
+  cycles-as-runs [] [] g l s = refl
+  cycles-as-runs [] (w ∷ ws) g l s = absurd (omega (arith, g .0 .some))
+  cycles-as-runs (x ∷ xs) [] g l s = refl
+  cycles-as-runs (x ∷ xs) (w ∷ ws) g l s =
+      cycles-as-runs xs (wantedAfter x w ws) (left-each x w ws (g .0) (g .1)) (omega (arith, left-total x w ws, size-some x (w .from) (w .count) (g .0 .some))) (f (run (w .from) (sizeOf x w)) s)
+      ∙ left-cases (λ l. afterRuns f l (f (run (w .from) (sizeOf x w)) s) ≡ afterRuns f ws (f w s)) x w ws
       (λ e. rw e)
       (λ k.
       let e : sizeOf x w + (w .count - sizeOf x w) ≡ w .count = omega arith in
-      ap (over f ws) (rw e at (sym (split (w .from) (sizeOf x w) (w .count - sizeOf x w) s))))
+      ap (afterRuns f ws) (rw e at (sym (split (w .from) (sizeOf x w) (w .count - sizeOf x w) s))))
 
 -- READS
 
@@ -111,28 +111,28 @@ module _ (ram : List ℕ) (line : ℕ) where
         ]
       ]
 
-  over-keeps : (ws : List Run) → Each ws → (b : List ℕ) → length b ≡ 16 → (o : ℕ) → SameByte b o → SameByte (over (bufferAfter ram line) ws b) o
-  over-keeps [] g b l o h = h
-  over-keeps (w ∷ ws) g b l o h = over-keeps ws (g .1) _ (brought-length w b l) o (keeps w b o (rw l (g .0 .line)) h)
+  runs-keep : (ws : List Run) → Each ws → (b : List ℕ) → length b ≡ 16 → (o : ℕ) → SameByte b o → SameByte (afterRuns (bufferAfter ram line) ws b) o
+  runs-keep [] g b l o h = h
+  runs-keep (w ∷ ws) g b l o h = runs-keep ws (g .1) _ (brought-length w b l) o (keeps w b o (rw l (g .0 .line)) h)
 
   abbrev covers : ℕ → List Run → Bool
   covers o [] = false
   covers o (w ∷ ws) = (leb (w .from) o && ltb o (w .from + w .count)) || covers o ws
 
-  over-lands : (ws : List Run) → Each ws → (b : List ℕ) → length b ≡ 16 → (o : ℕ) → covers o ws ≡ true → SameByte (over (bufferAfter ram line) ws b) o
-  over-lands [] g b l o h = absurd (let z : _≡_ {A = ℕ} 0 1 = cc in omega arith)
-  over-lands (w ∷ ws) g b l o h =
-      by-test (λ c. (leb (w .from) o && ltb o (w .from + w .count)) ≡ c → (c || covers o ws) ≡ true → SameByte (over (bufferAfter ram line) ws (bufferAfter ram line w b)) o)
+  runs-land : (ws : List Run) → Each ws → (b : List ℕ) → length b ≡ 16 → (o : ℕ) → covers o ws ≡ true → SameByte (afterRuns (bufferAfter ram line) ws b) o
+  runs-land [] g b l o h = absurd (let z : _≡_ {A = ℕ} 0 1 = cc in omega arith)
+  runs-land (w ∷ ws) g b l o h =
+      by-test (λ c. (leb (w .from) o && ltb o (w .from + w .count)) ≡ c → (c || covers o ws) ≡ true → SameByte (afterRuns (bufferAfter ram line) ws (bufferAfter ram line w b)) o)
       (leb (w .from) o && ltb o (w .from + w .count))
       (λ _ e _.
       let p = both (leb (w .from) o) _ e in
-      over-keeps ws (g .1) _ (brought-length w b l) o (lands w b o (rw l (g .0 .line)) (leb-true _ _ (p .0)) (ltb-true _ _ (p .1))))
-      (λ _ e k. over-lands ws (g .1) _ (brought-length w b l) o k)
+      runs-keep ws (g .1) _ (brought-length w b l) o (lands w b o (rw l (g .0 .line)) (leb-true _ _ (p .0)) (ltb-true _ _ (p .1))))
+      (λ _ e k. runs-land ws (g .1) _ (brought-length w b l) o k)
       refl
       h
 
-  brought-cycles : (xs : List ℕ) (ws : List Run) → Each ws → total ws ≤ length xs → (b : List ℕ) → through (bufferAfter ram line) (cyclesOf xs ws) b ≡ over (bufferAfter ram line) ws b
-  brought-cycles = through-cycles (bufferAfter ram line) (brought-split ram line)
+  brought-cycles : (xs : List ℕ) (ws : List Run) → Each ws → total ws ≤ length xs → (b : List ℕ) → afterCycles (bufferAfter ram line) (cyclesOf xs ws) b ≡ afterRuns (bufferAfter ram line) ws b
+  brought-cycles = cycles-as-runs (bufferAfter ram line) (brought-split ram line)
 
 -- what the burst order covers, whatever it starts with
 allBelow : (ℕ → Bool) → ℕ → Bool
@@ -187,16 +187,16 @@ burst-covers ram line (suc (suc (suc q))) = all-below (λ o. covers ram line o (
 
 -- a fill brings all of RAM's line
 pub fill-buffer : (ram : List ℕ) (line q : ℕ) (xs : List ℕ) → 16 ≤ length xs → (o : ℕ) → o < 16 →
-    getD (through (bufferAfter ram line) (cyclesOf xs (burst q)) (replicate 16 0)) o 0 ≡ getD ram (line + o) 0
+    getD (afterCycles (bufferAfter ram line) (cyclesOf xs (burst q)) (replicate 16 0)) o 0 ≡ getD ram (line + o) 0
 fill-buffer ram line q xs l o k =
     let t = burst-total q in
     rw (brought-cycles ram line xs (burst q) (burst-each q) (omega arith) (replicate 16 0))
-    (over-lands ram line (burst q) (burst-each q) (replicate 16 0) refl o (burst-covers ram line q o k))
+    (runs-land ram line (burst q) (burst-each q) (replicate 16 0) refl o (burst-covers ram line q o k))
 
 -- a plain read brings the wanted bytes
-pub plain-bytes : (ram : List ℕ) (line : ℕ) (w : Run) → OneDoubleword w → (xs : List ℕ) → 16 ≤ length xs →
-    bytesAt (through (bufferAfter ram line) (cyclesOf xs (w ∷ [])) (replicate 16 0)) (w .from) (w .count) ≡ bytesAt ram (line + w .from) (w .count)
-plain-bytes ram line w g xs l =
+pub wanted-bytes : (ram : List ℕ) (line : ℕ) (w : Run) → OneDoubleword w → (xs : List ℕ) → 16 ≤ length xs →
+    bytesAt (afterCycles (bufferAfter ram line) (cyclesOf xs (w ∷ [])) (replicate 16 0)) (w .from) (w .count) ≡ bytesAt ram (line + w .from) (w .count)
+wanted-bytes ram line w g xs l =
     rw (brought-cycles ram line xs (w ∷ []) (g, tt) (omega (arith, g .line)) (replicate 16 0))
     (bytes-same _ ram (w .from) (line + w .from) (w .count) λ o b.
     let e : line + (w .from + o) ≡ line + w .from + o = omega arith in
@@ -210,11 +210,11 @@ sent-split buffer line a m n s =
     rw (bytes-split buffer a m n, stored-append s (line + a) (bytesAt buffer a m) (bytesAt buffer (a + m) n), bytes-length buffer a m, e)
 
 -- write cycles store the wanted bytes
-pub plain-stored : (x : List ℕ) (line : ℕ) (w : Run) → OneDoubleword w → length x ≡ w .count → (xs : List ℕ) → 16 ≤ length xs → (m : Memory) →
-    through (memoryAfter (sets (replicate 16 0) (w .from) x) line) (cyclesOf xs (w ∷ [])) m ≡ stored m (line + w .from) x
-plain-stored x line w g e xs l m =
+pub wanted-stored : (x : List ℕ) (line : ℕ) (w : Run) → OneDoubleword w → length x ≡ w .count → (xs : List ℕ) → 16 ≤ length xs → (m : Memory) →
+    afterCycles (memoryAfter (sets (replicate 16 0) (w .from) x) line) (cyclesOf xs (w ∷ [])) m ≡ stored m (line + w .from) x
+wanted-stored x line w g e xs l m =
     let buffer = sets (replicate 16 0) (w .from) x in
-    through-cycles (memoryAfter buffer line) (sent-split buffer line) xs (w ∷ []) (g, tt) (omega (arith, g .line)) m
+    cycles-as-runs (memoryAfter buffer line) (sent-split buffer line) xs (w ∷ []) (g, tt) (omega (arith, g .line)) m
     ∙ ap (stored m (line + w .from)) (rw e at (bytes-sets (replicate 16 0) (w .from) x (rw e (g .line))))
 
 -- RECORDS
@@ -292,7 +292,7 @@ no-error-reads kind k m a line l =
 pub no-error-writes : (buffer : List ℕ) (line : ℕ) (cs : List Cycle) → EachCycle cs → NoParityErrors (map (writeRecord buffer line) cs)
 unfolding writeRecord
 no-error-writes buffer line =
-    no-error-map (writeRecord buffer line) λ c g. no-error-flags (c .moved .from % 4) (c .moved .count) writing (omega arith) (g .lanes) (c .last)
+    no-error-map (writeRecord buffer line) λ c g. no-error-flags (c .moved .from % 4) (c .moved .count) writeKind (omega arith) (g .lanes) (c .last)
 
 -- the flags that a log has for the records put into it
 words-at : (rs : List Record) (k : ℕ) → NoParityErrors rs → getD (wordsOf rs) (3 * k + 1) 0 / 128 % 2 ≡ 0

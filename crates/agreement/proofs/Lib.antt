@@ -4,7 +4,7 @@ mod Bytes
 mod Memories
 mod Cycles
 mod Coherence
-mod Parts
+mod Doublewords
 mod Reading
 mod Writing
 mod Snooping

@@ -18,16 +18,16 @@ use Rattle.ways.proofs.FourWays.{victim-below}
 use Rattle.directory.proofs.Laws.{lookup-at, use-held, use-control, use-well-formed, fill-control, fill-address-well-formed}
 use Rattle.words.specs.Bytes.{bytesAt}
 use Rattle.bus.specs.Bus.{ken, burst, lastAnswer}
-use Rattle.bus.specs.Record.{plainRead, filling}
+use Rattle.bus.specs.Record.{plainKind, fillKind}
 use Rattle.doubleword.specs.declared.change.Change.the-variants.{Unchanged, Fill}
 use Rattle.doubleword.specs.Doubleword.{Doubleword, Done, changed, dataOffset, plainCycles}
 use Rattle.reading.specs.Reading.{fillCycles, bufferOf, readHit, readPlain, readFill, readDone}
 use Rattle.access.specs.Access.{State, state, Progress, readOne, next, allOf}
 use Rattle.words.proofs.Places.{bytes-at, bytes-length}
 use Rattle.agreement.proofs.Bytes.{bytes-same}
-use Rattle.agreement.proofs.Cycles.{NoParityErrors, no-error-append, no-error-reads, cycles-within, burst-each, fill-buffer, plain-bytes}
+use Rattle.agreement.proofs.Cycles.{NoParityErrors, no-error-append, no-error-reads, cycles-within, burst-each, fill-buffer, wanted-bytes}
 use Rattle.agreement.proofs.Coherence.{Lines, NwInvariant, Coherent, fewer-lines, held-bytes, filled-lines}
-use Rattle.agreement.proofs.Parts.{Proper, EachProper, wantedBytes, allWanted}
+use Rattle.agreement.proofs.Doublewords.{Proper, EachProper, wantedBytes, allWanted}
 
 -- another directory and data array beside the same memory
 pub coherent-with : (s : State) (m : List ℕ) → Coherent s m → (d : Directory) → WellFormed d → NwInvariant d → (array : List ℕ) → length array ≡ 8192 → Lines d m array → Coherent (state d (s .memory) array) m
@@ -74,8 +74,8 @@ module _ (s : State) (m : List ℕ) (c : Coherent s m) (w : Doubleword) (ok : Pr
   read-plain =
       record {
         coherent = coherent-with s m c d (c .formed) (c .nw) (s .array) (c .arrayLength) (c .lines);
-        gives = plain-bytes (s .memory .ram) (w .line) (w .wanted) (ok .within) (w .answers) (ok .enough) ∙ ap (λ (l : List ℕ). wantedBytes l w) (c .rams);
-        no-error = no-error-reads plainRead (omega arith) (s .memory) (c .agrees) (w .line) fits (plainCycles w) (cycles-within (w .answers) (w .wanted ∷ []) (ok .within, tt));
+        gives = wanted-bytes (s .memory .ram) (w .line) (w .wanted) (ok .within) (w .answers) (ok .enough) ∙ ap (λ (l : List ℕ). wantedBytes l w) (c .rams);
+        no-error = no-error-reads plainKind (omega arith) (s .memory) (c .agrees) (w .line) fits (plainCycles w) (cycles-within (w .answers) (w .wanted ∷ []) (ok .within, tt));
       }
 
   -- the line buffer after a fill has the memory's line
@@ -117,7 +117,7 @@ module _ (s : State) (m : List ℕ) (c : Coherent s m) (w : Doubleword) (ok : Pr
         gives = bytes-same buffer m (w .wanted .from) (w .line + w .wanted .from) (w .wanted .count) (λ o l.
             let f : w .line + w .wanted .from + o ≡ w .line + (w .wanted .from + o) = omega arith in
             rw f (buffer-is (w .wanted .from + o) (omega (arith, ok .within .line))));
-        no-error = no-error-reads filling (omega arith) (s .memory) (c .agrees) (w .line) fits (fillCycles w) (cycles-within (w .answers) (burst (w .wanted .from / 4)) (burst-each _));
+        no-error = no-error-reads fillKind (omega arith) (s .memory) (c .agrees) (w .line) fits (fillCycles w) (cycles-within (w .answers) (burst (w .wanted .from / 4)) (burst-each _));
       }
 
   read-found : (mayFill : Bool) → (mayFill ≡ true → d .cd ≡ false) → (f : Found) → lookupOf d (w .line) ≡ f → ReadMatches s m w (readDone f victim mayFill (s .memory) (s .array) w)

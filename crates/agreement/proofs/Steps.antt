@@ -30,7 +30,7 @@ use Rattle.agreement.specs.Agreement.{NoParityError, setsNw}
 use Rattle.agreement.proofs.Bytes.{bytes-same, operand-bytes}
 use Rattle.agreement.proofs.Cycles.{logged-no-error}
 use Rattle.agreement.proofs.Coherence.{Lines, Empty, NwInvariant, Coherent, fewer-lines, no-lines, line-around}
-use Rattle.agreement.proofs.Parts.{parts-proper, parts-wanted, parts-written}
+use Rattle.agreement.proofs.Doublewords.{doublewords-proper, doublewords-wanted, doublewords-written}
 use Rattle.agreement.proofs.Reading.{coherent-with, read-all}
 use Rattle.agreement.proofs.Writing.{write-all}
 use Rattle.agreement.proofs.Snooping.{snooped-nw, snooped-lines, external-coherent}
@@ -79,12 +79,12 @@ module _ (s : State) (m : List ℕ) (c : Coherent s m) where
       (λ z.
       let k = arguments-accepted (length m) a w xs (length log) (sym (read-number s m c a w xs log) ∙ z) in
       let b : w ≤ 4 * groupCount - a % 4 = omega (arith, k .four) in
-      let r = read-all (doublewordsOf groupCount xs a w 0) s m c pcd (parts-proper groupCount xs a w 0 (length m) (k .served) b (k .inside) whole) in
+      let r = read-all (doublewordsOf groupCount xs a w 0) s m c pcd (doublewords-proper groupCount xs a w 0 (length m) (k .served) b (k .inside) whole) in
       rw (read-done s a w pcd xs log z)
       (record {
         coherent = r .coherent;
         numbers = refl;
-        values = ap valueOf (r .gives ∙ parts-wanted groupCount m xs a w 0 b);
+        values = ap valueOf (r .gives ∙ doublewords-wanted groupCount m xs a w 0 b);
         views = refl;
         no-error = logged-no-error log (readAll s a w pcd xs .records) (r .no-error);
       }))
@@ -99,10 +99,10 @@ module _ (s : State) (m : List ℕ) (c : Coherent s m) where
       let q = or-zero (argumentNumber (length m) a w xs (length log)) (valueNumber w v) (sym (write-number s m c a w v xs log) ∙ z) in
       let k = arguments-accepted (length m) a w xs (length log) (q .0) in
       let b : w ≤ 4 * groupCount - a % 4 = omega (arith, k .four) in
-      let r = write-all (operandOf v) (doublewordsOf groupCount xs a w 0) s m c (parts-proper groupCount xs a w 0 (length m) (k .served) b (k .inside) whole) in
+      let r = write-all (operandOf v) (doublewordsOf groupCount xs a w 0) s m c (doublewords-proper groupCount xs a w 0 (length m) (k .served) b (k .inside) whole) in
       rw (write-done s a w v xs log z)
       (record {
-        coherent = rw (parts-written groupCount (operandOf v) m xs a w 0 b, operand-bytes v w (k .four)) at (r .coherent);
+        coherent = rw (doublewords-written groupCount (operandOf v) m xs a w 0 b, operand-bytes v w (k .four)) at (r .coherent);
         numbers = refl;
         values = refl;
         views = refl;

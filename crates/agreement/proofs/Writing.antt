@@ -15,7 +15,7 @@ use Rattle.directory.specs.Steps.{lookupOf, afterUse}
 use Rattle.directory.specs.WellFormed.{WellFormed}
 use Rattle.directory.proofs.Laws.{lookup-at, lookup-nothing, use-kept, use-well-formed}
 use Rattle.memory.specs.Parity.{stored}
-use Rattle.bus.specs.Bus.{memoryAfter, through}
+use Rattle.bus.specs.Bus.{memoryAfter, afterCycles}
 use Rattle.bus.specs.Record.{writeRecord}
 use Rattle.doubleword.specs.declared.change.Change.the-variants.{Unchanged, Use}
 use Rattle.doubleword.specs.Doubleword.{Doubleword, Done, changed, dataOffset, plainCycles}
@@ -24,9 +24,9 @@ use Rattle.access.specs.Access.{State, state, Progress, writeOne, next, allOf}
 use Rattle.words.proofs.Places.{bytes-length}
 use Rattle.memory.proofs.Bits.{stored-lengths}
 use Rattle.agreement.proofs.Memories.{stored-ram, stored-agrees}
-use Rattle.agreement.proofs.Cycles.{NoParityErrors, no-error-append, no-error-writes, cycles-within, plain-stored}
+use Rattle.agreement.proofs.Cycles.{NoParityErrors, no-error-append, no-error-writes, cycles-within, wanted-stored}
 use Rattle.agreement.proofs.Coherence.{Lines, NwInvariant, Coherent, line-set, line-tag, stored-miss, stored-hit}
-use Rattle.agreement.proofs.Parts.{Proper, EachProper, givenOf, memoryWritten, allWritten}
+use Rattle.agreement.proofs.Doublewords.{Proper, EachProper, givenOf, memoryWritten, allWritten}
 use Rattle.agreement.proofs.Reading.{use-nw, use-lines}
 
 -- bytes stored in RAM with their parity, and in the plain memory, beside a directory whose lines have them
@@ -62,8 +62,8 @@ module _ (operand : List ℕ) (s : State) (m : List ℕ) (c : Coherent s m) (w :
   size : length x ≡ w .wanted .count
   size = bytes-length operand (w .place) (w .wanted .count)
 
-  written-plain : through (memoryAfter (writeBuffer operand w) (w .line)) (plainCycles w) (s .memory) ≡ stored (s .memory) (w .line + w .wanted .from) x
-  written-plain = plain-stored x (w .line) (w .wanted) (ok .within) size (w .answers) (ok .enough) (s .memory)
+  written-plain : afterCycles (memoryAfter (writeBuffer operand w) (w .line)) (plainCycles w) (s .memory) ≡ stored (s .memory) (w .line + w .wanted .from) x
+  written-plain = wanted-stored x (w .line) (w .wanted) (ok .within) size (w .answers) (ok .enough) (s .memory)
 
   own-no-error : NoParityErrors (map (writeRecord (writeBuffer operand w) (w .line)) (plainCycles w))
   own-no-error = no-error-writes (writeBuffer operand w) (w .line) (plainCycles w) (cycles-within (w .answers) (w .wanted ∷ []) (ok .within, tt))

@@ -70,9 +70,9 @@ lastAnswer x [] = x
 lastAnswer x (c ∷ cs) = lastAnswer (c .answer) cs
 
 -- What cycles do, one after another, to what they work on.
-unfoldable pub through : {S : Type 0} → (Run → S → S) → List Cycle → S → S
-through f [] s = s
-through f (c ∷ cs) s = through f cs (f (c .moved) s)
+unfoldable pub afterCycles : {S : Type 0} → (Run → S → S) → List Cycle → S → S
+afterCycles f [] s = s
+afterCycles f (c ∷ cs) s = afterCycles f cs (f (c .moved) s)
 
 -- "Bytes keep their own lanes": a read cycle brings bytes of RAM's line into the same places of a line buffer, a write cycle sends them from there.
 abbrev pub bufferAfter : List ℕ → ℕ → Run → List ℕ → List ℕ

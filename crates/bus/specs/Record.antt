@@ -19,14 +19,14 @@ lanesOf lane zero = 0
 lanesOf lane (suc n) = 2 ^ lane + lanesOf (suc lane) n
 
 -- "16 write; 32 fill"
-abbrev pub plainRead : ℕ
-plainRead = 0
+abbrev pub plainKind : ℕ
+plainKind = 0
 
-abbrev pub writing : ℕ
-writing = 16
+abbrev pub writeKind : ℕ
+writeKind = 16
 
-abbrev pub filling : ℕ
-filling = 32
+abbrev pub fillKind : ℕ
+fillKind = 32
 
 -- "64 the last cycle made for this doubleword of the access, in a fill only its very last; 128 read with wrong parity in a moved byte."
 unfoldable pub flagsOf : ℕ → ℕ → ℕ → Bool → Bool → ℕ
@@ -48,7 +48,7 @@ unfoldable pub writeRecord : List ℕ → ℕ → Cycle → Record
 writeRecord buffer line c =
     record {
       address = line + c .moved .from / 4 * 4;
-      flags = flagsOf (c .moved .from % 4) (c .moved .count) writing (c .last) false;
+      flags = flagsOf (c .moved .from % 4) (c .moved .count) writeKind (c .last) false;
       word = wordIn (c .moved .from % 4) (bytesAt buffer (c .moved .from) (c .moved .count));
     }
 

@@ -11,7 +11,7 @@ use lib.Seq.{drop-cons, sets, length-sets}
 use Rattle.bus.specs.declared.cycle.CycleCursor.{CycleCursor}
 use Rattle.words.specs.Bytes.{bytesAt, wordIn}
 use Rattle.memory.specs.Parity.{Memory, stored, wrongIn}
-use Rattle.bus.specs.Bus.{Run, run, sizeOf, Cycle, cyclesOf, lastAnswer, through, bufferAfter, memoryAfter}
+use Rattle.bus.specs.Bus.{Run, run, sizeOf, Cycle, cyclesOf, lastAnswer, afterCycles, bufferAfter, memoryAfter}
 use Rattle.bus.specs.Record.{Record, flagsOf, readRecord, writeRecord, wordsOf, logged}
 use Rattle.bus.specs.Cursor.{wantedAt, cycleNext, cycleAt, CycleNeeds}
 use Rattle.cycles.specs.CycleLoop.{BufferNeeds, ReadCycle, ReadCycles, WriteCycle, WriteCycles}
@@ -62,7 +62,7 @@ module _ (start : ℕ) (xs : List ℕ) (cursor : CycleCursor) (some : 0 < cursor
 module _ {S : Type 0} (f : Run → S → S) (make : Cycle → Record) (start first : ℕ) (xs : List ℕ) where
   pub record CycleInvariant (begin : CycleCursor) (log₀ : List ℕ) (s₀ : S) (cursor : CycleCursor) (log : List ℕ) (s : S) : Type 0 where
     pub logs : logged log (first + cursor .cycles) (map make (restAt start xs cursor)) ≡ logged log₀ first (map make (restAt start xs begin))
-    pub works : through f (restAt start xs cursor) s ≡ through f (restAt start xs begin) s₀
+    pub works : afterCycles f (restAt start xs cursor) s ≡ afterCycles f (restAt start xs begin) s₀
     pub made : cursor .cycles + length (restAt start xs cursor) ≡ length (restAt start xs begin)
     pub ends : lastAnswer (cursor .answer) (restAt start xs cursor) ≡ lastAnswer 0 (restAt start xs begin)
     pub ready : CycleNeeds cursor (length xs)
@@ -89,7 +89,7 @@ module _ {S : Type 0} (f : Run → S → S) (make : Cycle → Record) (start fir
       log′ ≡ logged log (first + cursor .cycles) (make (cycleAt start cursor (getD xs (cursor .cycles) 0)) ∷ []) →
       s′ ≡ f (cycleAt start cursor (getD xs (cursor .cycles) 0) .moved) s →
       CycleInvariant begin log₀ s₀ u log′ s′
-  unfolding through lastAnswer
+  unfolding afterCycles lastAnswer
   cycle-invariant-next {begin} {log₀} {s₀} {cursor} {log} {s} u log′ s′ sl some k eu el es =
       let x = getD xs (cursor .cycles) 0 in
       let more = cycles-more cursor (k .ready) some in
@@ -109,10 +109,10 @@ module _ {S : Type 0} (f : Run → S → S) (make : Cycle → Record) (start fir
 
   cycle-invariant-end : {begin : CycleCursor} {log₀ : List ℕ} {s₀ : S} {cursor : CycleCursor} {log : List ℕ} {s : S} → cursor .count ≡ 0 → CycleInvariant begin log₀ s₀ cursor log s →
       (log ≡ logged log₀ first (map make (restAt start xs begin)))
-      × (s ≡ through f (restAt start xs begin) s₀)
+      × (s ≡ afterCycles f (restAt start xs begin) s₀)
       × (cursor .cycles ≡ length (restAt start xs begin))
       × (cursor .answer ≡ lastAnswer 0 (restAt start xs begin))
-  unfolding through lastAnswer wordsOf
+  unfolding afterCycles lastAnswer wordsOf
   cycle-invariant-end {cursor = cursor} z k =
       let r = rest-done start xs cursor z in
       (rw r at (k .logs), rw r at (k .works), (let m = rw r at (k .made) in omega arith), rw r at (k .ends))

@@ -5,7 +5,7 @@ use mathlib.Core.List.{List, [], _∷_, map}
 use lib.ListN.{length}
 use Rattle.memory.specs.Parity.{Memory}
 use Rattle.bus.specs.declared.cycle.CycleCursor.{CycleCursor}
-use Rattle.bus.specs.Bus.{cyclesOf, bufferAfter, memoryAfter, through, lastAnswer}
+use Rattle.bus.specs.Bus.{cyclesOf, bufferAfter, memoryAfter, afterCycles, lastAnswer}
 use Rattle.bus.specs.Record.{logged, readRecord, writeRecord}
 use Rattle.bus.specs.Cursor.{wantedAt, cycleNext, cycleAt}
 
@@ -28,7 +28,7 @@ pub record ReadCycle (kind : ℕ) (m : Memory) (start line first : ℕ) (cursor 
 -- What all read cycles from a cursor on leave.
 pub record ReadCycles (kind : ℕ) (m : Memory) (answers : List ℕ) (start line first : ℕ) (cursor : CycleCursor) (log₀ buffer₀ : List ℕ) (r : CycleCursor) (log buffer : List ℕ) : Type 0 where
   pub logs : log ≡ logged log₀ first (map (readRecord kind m line) (cyclesOf answers (wantedAt start cursor)))
-  pub brings : buffer ≡ through (bufferAfter (m .ram) line) (cyclesOf answers (wantedAt start cursor)) buffer₀
+  pub brings : buffer ≡ afterCycles (bufferAfter (m .ram) line) (cyclesOf answers (wantedAt start cursor)) buffer₀
   pub made : r .cycles ≡ length (cyclesOf answers (wantedAt start cursor))
   pub ends : r .answer ≡ lastAnswer 0 (cyclesOf answers (wantedAt start cursor))
   pub most : r .cycles ≤ length answers
@@ -42,6 +42,6 @@ pub record WriteCycle (buffer : List ℕ) (line first : ℕ) (cursor : CycleCurs
 -- What all write cycles from a cursor on leave.
 pub record WriteCycles (buffer answers : List ℕ) (line first : ℕ) (cursor : CycleCursor) (m₀ : Memory) (log₀ : List ℕ) (r : CycleCursor) (m : Memory) (log : List ℕ) : Type 0 where
   pub logs : log ≡ logged log₀ first (map (writeRecord buffer line) (cyclesOf answers (wantedAt 0 cursor)))
-  pub sends : m ≡ through (memoryAfter buffer line) (cyclesOf answers (wantedAt 0 cursor)) m₀
+  pub sends : m ≡ afterCycles (memoryAfter buffer line) (cyclesOf answers (wantedAt 0 cursor)) m₀
   pub made : r .cycles ≡ length (cyclesOf answers (wantedAt 0 cursor))
   pub most : r .cycles ≤ length answers

@@ -17,8 +17,8 @@ use Rattle.words.specs.Bytes.{bytesAt}
 use Rattle.memory.specs.Parity.{Memory}
 use Rattle.bus.specs.declared.cycle.CycleCursor.{CycleCursor}
 use Rattle.bus.specs.Groups.{groupSize}
-use Rattle.bus.specs.Bus.{ken, Cycle, cyclesOf, lastAnswer, through, bufferAfter}
-use Rattle.bus.specs.Record.{readRecord, wordsOf, plainRead, filling}
+use Rattle.bus.specs.Bus.{ken, Cycle, cyclesOf, lastAnswer, afterCycles, bufferAfter}
+use Rattle.bus.specs.Record.{readRecord, wordsOf, plainKind, fillKind}
 use Rattle.bus.specs.Cursor.{cycleBegin, wantedAt, CycleNeeds}
 use Rattle.bus.proofs.Sizing.{wanted-some, burst-later}
 use Rattle.cycles.specs.CycleLoop.{BufferNeeds, ReadCycles}
@@ -99,7 +99,7 @@ missed-done true m w victim first array₀ log₀ operand₀ cursor change log b
       arrays = ea ∙ rw (q, k .brings);
       logs = k .logs;
       bytes = eo ∙ rw (k .brings);
-      made = k .made ∙ sym (length-map (fillCycles w) (readRecord filling m (w .line)));
+      made = k .made ∙ sym (length-map (fillCycles w) (readRecord fillKind m (w .line)));
       most = k .most;
     }
 missed-done false m w victim first array₀ log₀ operand₀ cursor change log buffer array operand k ec ea eo =
@@ -108,7 +108,7 @@ missed-done false m w victim first array₀ log₀ operand₀ cursor change log 
       arrays = ea;
       logs = k .logs;
       bytes = eo ∙ rw (k .brings);
-      made = k .made ∙ sym (length-map (plainCycles w) (readRecord plainRead m (w .line)));
+      made = k .made ∙ sym (length-map (plainCycles w) (readRecord plainKind m (w .line)));
       most = k .most;
     }
 
@@ -120,8 +120,8 @@ read-memory Nothing victim mayFill m array w =
     by-test (λ b. cond b (readFill victim m array w) (readPlain m array w) .memory ≡ m) (mayFill && ken (getD (w .answers) 0 0)) (λ _. refl) (λ _. refl)
 
 -- read cycles leave the length of the line buffer
-through-length : (ram : List ℕ) (line : ℕ) (cs : List Cycle) (buffer : List ℕ) → length (through (bufferAfter ram line) cs buffer) ≡ length buffer
-unfolding through
+through-length : (ram : List ℕ) (line : ℕ) (cs : List Cycle) (buffer : List ℕ) → length (afterCycles (bufferAfter ram line) cs buffer) ≡ length buffer
+unfolding afterCycles
 through-length ram line [] buffer = refl
 through-length ram line (c ∷ cs) buffer =
     through-length ram line cs (bufferAfter ram line (c .moved) buffer)

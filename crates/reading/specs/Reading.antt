@@ -8,8 +8,8 @@ use Rattle.ways.specs.declared.ways.Found.{Found}
 use Rattle.ways.specs.declared.ways.Found.the-variants.{At, Nothing}
 use Rattle.words.specs.Bytes.{bytesAt}
 use Rattle.memory.specs.Parity.{Memory}
-use Rattle.bus.specs.Bus.{ken, Cycle, cyclesOf, burst, lastAnswer, through, bufferAfter}
-use Rattle.bus.specs.Record.{readRecord, plainRead, filling}
+use Rattle.bus.specs.Bus.{ken, Cycle, cyclesOf, burst, lastAnswer, afterCycles, bufferAfter}
+use Rattle.bus.specs.Record.{readRecord, plainKind, fillKind}
 use Rattle.doubleword.specs.declared.change.Change.{Change}
 use Rattle.doubleword.specs.declared.change.Change.the-variants.{Unchanged, Use, Fill}
 use Rattle.doubleword.specs.Doubleword.{Doubleword, dataOffset, Done, plainCycles}
@@ -27,7 +27,7 @@ readHit way m array w =
 
 -- The line buffer after read cycles.
 abbrev pub bufferOf : Memory → Doubleword → List Cycle → List ℕ
-bufferOf m w cs = through (bufferAfter (m .ram) (w .line)) cs (replicate 16 0)
+bufferOf m w cs = afterCycles (bufferAfter (m .ram) (w .line)) cs (replicate 16 0)
 
 -- "Otherwise the wanted bytes only."
 unfoldable pub readPlain : Memory → List ℕ → Doubleword → Done
@@ -37,7 +37,7 @@ readPlain m array w =
       memory = m;
       array = array;
       bytes = bytesAt (bufferOf m w (plainCycles w)) (w .wanted .from) (w .wanted .count);
-      records = map (readRecord plainRead m (w .line)) (plainCycles w);
+      records = map (readRecord plainKind m (w .line)) (plainCycles w);
     }
 
 -- "Fill: all four bytes of each doubleword of the line".
@@ -61,7 +61,7 @@ readFill victim m array w =
       memory = m;
       array = keptArray kept victim (w .line) buffer array;
       bytes = bytesAt buffer (w .wanted .from) (w .wanted .count);
-      records = map (readRecord filling m (w .line)) (fillCycles w);
+      records = map (readRecord fillKind m (w .line)) (fillCycles w);
     }
 
 -- "Read miss: a fill when CD = 0, PCD = 0 and the first cycle has KEN#." (001, 002) `mayFill`: CD = 0 and PCD = 0.

@@ -8,8 +8,8 @@ use lib.Seq.{sets}
 use Rattle.memory.specs.Parity.{Memory}
 use Rattle.bus.specs.declared.cycle.CycleCursor.{CycleCursor}
 use Rattle.bus.specs.Groups.{groupSize}
-use Rattle.bus.specs.Bus.{Cycle, bufferAfter, through, lastAnswer}
-use Rattle.bus.specs.Record.{logged, readRecord, plainRead, filling}
+use Rattle.bus.specs.Bus.{Cycle, bufferAfter, afterCycles, lastAnswer}
+use Rattle.bus.specs.Record.{logged, readRecord, plainKind, fillKind}
 use Rattle.doubleword.specs.declared.change.DoublewordResult.{DoublewordResult}
 use Rattle.doubleword.specs.declared.cursor.AccessCursor.{AccessCursor}
 use Rattle.doubleword.specs.declared.cursor.NextResult.{NextResult}
@@ -23,12 +23,12 @@ abbrev pub missCycles : Bool → Doubleword → List Cycle
 missCycles fills w = cond fills (fillCycles w) (plainCycles w)
 
 abbrev pub missKind : Bool → ℕ
-missKind fills = cond fills filling plainRead
+missKind fills = cond fills fillKind plainKind
 
 -- What they leave: their records, their bytes in the line buffer, their count and last answer.
 pub record ReadMiss (fills : Bool) (m : Memory) (w : Doubleword) (first : ℕ) (log₀ buffer₀ : List ℕ) (r : CycleCursor) (log buffer : List ℕ) : Type 0 where
   pub logs : log ≡ logged log₀ first (map (readRecord (missKind fills) m (w .line)) (missCycles fills w))
-  pub brings : buffer ≡ through (bufferAfter (m .ram) (w .line)) (missCycles fills w) buffer₀
+  pub brings : buffer ≡ afterCycles (bufferAfter (m .ram) (w .line)) (missCycles fills w) buffer₀
   pub made : r .cycles ≡ length (missCycles fills w)
   pub ends : r .answer ≡ lastAnswer 0 (missCycles fills w)
   pub most : r .cycles ≤ groupSize

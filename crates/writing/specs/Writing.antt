@@ -8,7 +8,7 @@ use Rattle.ways.specs.declared.ways.Found.{Found}
 use Rattle.ways.specs.declared.ways.Found.the-variants.{At, Nothing}
 use Rattle.words.specs.Bytes.{bytesAt}
 use Rattle.memory.specs.Parity.{Memory}
-use Rattle.bus.specs.Bus.{through, memoryAfter}
+use Rattle.bus.specs.Bus.{afterCycles, memoryAfter}
 use Rattle.bus.specs.Record.{writeRecord}
 use Rattle.doubleword.specs.declared.change.Change.{Change}
 use Rattle.doubleword.specs.declared.change.Change.the-variants.{Unchanged, Use}
@@ -24,7 +24,7 @@ unfoldable pub writeThrough : Change → Memory → List ℕ → List ℕ → Do
 writeThrough change m array operand w =
     record {
       change = change;
-      memory = through (memoryAfter (writeBuffer operand w) (w .line)) (plainCycles w) m;
+      memory = afterCycles (memoryAfter (writeBuffer operand w) (w .line)) (plainCycles w) m;
       array = array;
       bytes = [];
       records = map (writeRecord (writeBuffer operand w) (w .line)) (plainCycles w);

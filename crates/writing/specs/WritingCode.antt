@@ -5,7 +5,7 @@ use mathlib.Core.List.{List, map}
 use lib.ListN.{length}
 use Rattle.memory.specs.Parity.{Memory}
 use Rattle.bus.specs.Groups.{groupSize}
-use Rattle.bus.specs.Bus.{memoryAfter, through}
+use Rattle.bus.specs.Bus.{memoryAfter, afterCycles}
 use Rattle.bus.specs.Record.{logged, writeRecord}
 use Rattle.doubleword.specs.declared.change.DoublewordResult.{DoublewordResult}
 use Rattle.doubleword.specs.declared.cursor.AccessCursor.{AccessCursor}
@@ -18,7 +18,7 @@ use Rattle.writing.specs.Writing.{writeBuffer}
 -- What the write cycles of a doubleword leave.
 pub record WritesThrough (operand : List ℕ) (w : Doubleword) (first : ℕ) (m₀ : Memory) (log₀ : List ℕ) (r : ℕ) (m : Memory) (log : List ℕ) : Type 0 where
   pub logs : log ≡ logged log₀ first (map (writeRecord (writeBuffer operand w) (w .line)) (plainCycles w))
-  pub sends : m ≡ through (memoryAfter (writeBuffer operand w) (w .line)) (plainCycles w) m₀
+  pub sends : m ≡ afterCycles (memoryAfter (writeBuffer operand w) (w .line)) (plainCycles w) m₀
   pub made : r ≡ length (plainCycles w)
   pub most : r ≤ groupSize
 

@@ -43,42 +43,42 @@ abbrev pub allWritten : List ℕ → List ℕ → List Doubleword → List ℕ
 allWritten operand m [] = m
 allWritten operand m (w ∷ ws) = allWritten operand (memoryWritten operand m w) ws
 
-pub parts-proper : (g : ℕ) (xs : List ℕ) (a n place size : ℕ) → length xs ≡ groupSize * g → n ≤ 4 * g - a % 4 → a + n ≤ size → size % 16 ≡ 0 → EachProper size (doublewordsOf g xs a n place)
+pub doublewords-proper : (g : ℕ) (xs : List ℕ) (a n place size : ℕ) → length xs ≡ groupSize * g → n ≤ 4 * g - a % 4 → a + n ≤ size → size % 16 ≡ 0 → EachProper size (doublewordsOf g xs a n place)
 unfolding doublewordsOf
-parts-proper zero xs a n place size l b i z = tt
-parts-proper (suc g) xs a zero place size l b i z = tt
-parts-proper (suc g) xs a (suc n) place size l b i z = (
+doublewords-proper zero xs a n place size l b i z = tt
+doublewords-proper (suc g) xs a zero place size l b i z = tt
+doublewords-proper (suc g) xs a (suc n) place size l b i z = (
   record {
     aligned = omega arith;
     within = record { some = omega arith; lanes = omega arith; line = omega arith };
     inside = omega arith;
     enough = rw (length-take 16 xs) (omega arith);
   },
-  parts-proper g (drop 16 xs) (a + min (suc n) (4 - a % 4)) (suc n - min (suc n) (4 - a % 4)) (place + min (suc n) (4 - a % 4)) size (rw (length-drop 16 xs) (omega arith)) (omega arith) (omega arith) z,
+  doublewords-proper g (drop 16 xs) (a + min (suc n) (4 - a % 4)) (suc n - min (suc n) (4 - a % 4)) (place + min (suc n) (4 - a % 4)) size (rw (length-drop 16 xs) (omega arith)) (omega arith) (omega arith) z,
 )
 
-pub parts-wanted : (g : ℕ) (m xs : List ℕ) (a n place : ℕ) → n ≤ 4 * g - a % 4 → allWanted m (doublewordsOf g xs a n place) ≡ bytesAt m a n
+pub doublewords-wanted : (g : ℕ) (m xs : List ℕ) (a n place : ℕ) → n ≤ 4 * g - a % 4 → allWanted m (doublewordsOf g xs a n place) ≡ bytesAt m a n
 unfolding doublewordsOf bytesAt
-parts-wanted zero m xs a n place b = let e : n ≡ 0 = omega arith in rw e
-parts-wanted (suc g) m xs a zero place b = refl
-parts-wanted (suc g) m xs a (suc n) place b =
+doublewords-wanted zero m xs a n place b = let e : n ≡ 0 = omega arith in rw e
+doublewords-wanted (suc g) m xs a zero place b = refl
+doublewords-wanted (suc g) m xs a (suc n) place b =
     let k = min (suc n) (4 - a % 4) in
     let e : a / 16 * 16 + a % 16 ≡ a = omega arith in
     let f : k + (suc n - k) ≡ suc n = omega arith in
-    rw (e, parts-wanted g m (drop 16 xs) (a + k) (suc n - k) (place + k) (omega arith)) (rw f at (sym (bytes-split m a k (suc n - k))))
+    rw (e, doublewords-wanted g m (drop 16 xs) (a + k) (suc n - k) (place + k) (omega arith)) (rw f at (sym (bytes-split m a k (suc n - k))))
 
-pub parts-written : (g : ℕ) (operand m xs : List ℕ) (a n place : ℕ) → n ≤ 4 * g - a % 4 → allWritten operand m (doublewordsOf g xs a n place) ≡ sets m a (bytesAt operand place n)
+pub doublewords-written : (g : ℕ) (operand m xs : List ℕ) (a n place : ℕ) → n ≤ 4 * g - a % 4 → allWritten operand m (doublewordsOf g xs a n place) ≡ sets m a (bytesAt operand place n)
 unfolding doublewordsOf bytesAt
-parts-written zero operand m xs a n place b = let e : n ≡ 0 = omega arith in rw e
-parts-written (suc g) operand m xs a zero place b = refl
-parts-written (suc g) operand m xs a (suc n) place b =
+doublewords-written zero operand m xs a n place b = let e : n ≡ 0 = omega arith in rw e
+doublewords-written (suc g) operand m xs a zero place b = refl
+doublewords-written (suc g) operand m xs a (suc n) place b =
     let k = min (suc n) (4 - a % 4) in
     let e : a / 16 * 16 + a % 16 ≡ a = omega arith in
     let f : k + (suc n - k) ≡ suc n = omega arith in
     let x = bytesAt operand place k in
     let y = bytesAt operand (place + k) (suc n - k) in
     ap (λ (i : ℕ). allWritten operand (sets m i x) (doublewordsOf g (drop 16 xs) (a + k) (suc n - k) (place + k))) e
-    ∙ parts-written g operand (sets m a x) (drop 16 xs) (a + k) (suc n - k) (place + k) (omega arith)
+    ∙ doublewords-written g operand (sets m a x) (drop 16 xs) (a + k) (suc n - k) (place + k) (omega arith)
     ∙ ap (λ (i : ℕ). sets (sets m a x) (a + i) y) (sym (bytes-length operand place k))
     ∙ sym (sets-append m a x y)
     ∙ ap (sets m a) (rw f at (sym (bytes-split operand place k (suc n - k))))
