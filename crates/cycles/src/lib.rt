@@ -14,7 +14,8 @@ use memory::store_bytes;
 use words::copy_bytes;
 use words::lane_word;
 
-// One read cycle: its record, and its bytes into the line buffer.
+// One read cycle: its record, and its bytes into the line buffer. start: the doubleword of the line, 0 to 3, that a burst begins
+// with; first: the place of the first record in the log; kind: as for flags_of.
 fn read_cycle(
     ram: &[u8],
     parity: &[u8],
