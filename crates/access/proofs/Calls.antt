@@ -1,37 +1,25 @@
--- The calls as wholes: refused or done, by their number.
-use Prim.Native.Nat.{ℕ, zero, suc}
+-- Reads and writes as wholes: refused or done, by their number.
+use Prim.Native.Nat.{ℕ}
 use mathlib.Core.Path.{_≡_, refl, sym, _∙_, ap}
 use mathlib.Core.Bool.{Bool}
-use mathlib.Core.List.{List, [], _∷_}
+use mathlib.Core.List.{List}
 use native.Mathlib.Omega.{arith}
-use lib.ListN.{length, getD, replicate}
+use lib.ListN.{length, replicate}
 use borrow.Author.Tests.{eq-eqb, ne-eqb}
 use Rattle.laws.proofs.Tests.{cond-true, cond-false}
 use Rattle.directory.specs.declared.steps.Directory.{Directory}
-use Rattle.directory.specs.Steps.{afterSnoop}
-use Rattle.words.specs.Bytes.{bytesAt, valueOf}
-use Rattle.memory.specs.Parity.{Memory, stored}
+use Rattle.words.specs.Bytes.{valueOf}
+use Rattle.memory.specs.Parity.{Memory}
 use Rattle.doubleword.specs.declared.cursor.AccessCursor.{AccessCursor}
 use Rattle.bus.specs.Groups.{groupCount}
 use Rattle.doubleword.specs.Doubleword.{Doubleword, Done, doublewordsOf}
-use Rattle.refusal.specs.Refusal.{orElse, memoryNumber, externalNumber, statesNumberOf, lentNumber, argumentNumber, valueNumber}
-use Rattle.access.specs.Access.{State, state, Progress, allOf, readOne, writeOne, after, outcome, refused, accepted, readNumber, writeNumber, readAll, writeAll, operandOf, readCall, writeCall}
-use Rattle.access.specs.Masters.{written, externalWriteNumber, externalCall}
+use Rattle.refusal.specs.Refusal.{orElse, statesNumberOf, lentNumber, argumentNumber, valueNumber}
+use Rattle.refusal.specs.Outcome.{outcome}
+use Rattle.access.specs.Access.{State, state, Progress, allOf, readOne, writeOne, after, refused, accepted, readNumber, writeNumber, readAll, writeAll, operandOf, readCall, writeCall}
 use Rattle.doubleword.specs.Cursor.{accessBegin, AccessNeeds}
-use Rattle.refusal.proofs.Accepted.{or-zero, zero-or, first-or, or-grouped, GoodMemory, GoodExternal, memory-accepted, lent-accepted, arguments-accepted, external-accepted}
+use Rattle.refusal.proofs.Accepted.{or-zero, zero-or, first-or, or-grouped, lent-accepted, arguments-accepted}
 use Rattle.access.proofs.AccessLoop.{restOf, AccessInvariant, access-invariant-end, ReadInvariant, reading-end}
 use Rattle.access.proofs.Values.{all-length, value-padded}
-
--- all bytes of a list
-bytes-shift : (x : ℕ) (l : List ℕ) (i n : ℕ) → bytesAt (x ∷ l) (suc i) n ≡ bytesAt l i n
-unfolding bytesAt
-bytes-shift x l i zero = refl
-bytes-shift x l i (suc n) = ap (λ (r : List ℕ). getD l i 0 ∷ r) (bytes-shift x l (suc i) n)
-
-pub bytes-all : (l : List ℕ) → bytesAt l 0 (length l) ≡ l
-unfolding bytesAt
-bytes-all [] = refl
-bytes-all (x ∷ l) = ap (λ (r : List ℕ). x ∷ r) (bytes-shift x l 0 (length l) ∙ bytes-all l)
 
 -- a read and a write by their numbers
 module _ (s : State) (address width : ℕ) where
@@ -50,47 +38,6 @@ module _ (s : State) (address width : ℕ) where
   pub write-done : (value : ℕ) (answers log : List ℕ) → writeNumber s address width value answers log ≡ 0 → writeCall s address width value answers log ≡ accepted 0 (writeAll s address width value answers) log
   unfolding writeCall
   write-done value answers log z = cond-true _ _ _ (eq-eqb _ 0 z)
-
--- an external write
-module _ (d : Directory) (m : Memory) (address : ℕ) (bytes : List ℕ) where
-  external-write-grouped : externalWriteNumber d m address bytes ≡ orElse (orElse (memoryNumber (length (m .ram)) (length (m .parity))) (externalNumber (length (m .ram)) address (length bytes))) (statesNumberOf d address (length bytes))
-  unfolding externalWriteNumber
-  external-write-grouped = sym (or-grouped (memoryNumber (length (m .ram)) (length (m .parity))) (externalNumber (length (m .ram)) address (length bytes)) (statesNumberOf d address (length bytes)))
-
-  pub external-refused : (n : ℕ) → externalWriteNumber d m address bytes ≡ n → (n ≡ 0 → ⊥) → externalCall d m address bytes ≡ written (outcome d n 0 0) m
-  unfolding externalCall
-  external-refused n e h = rw e (cond-false _ _ _ (ne-eqb n 0 h))
-
-  pub external-done : externalWriteNumber d m address bytes ≡ 0 → externalCall d m address bytes ≡ written (outcome (afterSnoop d address) 0 0 0) (stored m address bytes)
-  unfolding externalCall
-  external-done e = cond-true _ _ _ (eq-eqb _ 0 e)
-
-  -- the same by the numbers that the code has: the input's, then the state's
-  module _ (lent own : ℕ) (el : lent ≡ memoryNumber (length (m .ram)) (length (m .parity))) (eo : own ≡ externalNumber (length (m .ram)) address (length bytes)) (n : ℕ) (en : n ≡ orElse lent own) where
-    input-number : externalWriteNumber d m address bytes ≡ orElse n (statesNumberOf d address (length bytes))
-    input-number = external-write-grouped ∙ rw (en, el, eo)
-
-    pub input-refused : (n ≡ 0 → ⊥) → written (outcome d n 0 0) m ≡ externalCall d m address bytes
-    input-refused h = sym (external-refused n (input-number ∙ first-or n _ h) h)
-
-    pub input-good : n ≡ 0 → GoodMemory (length (m .ram)) (length (m .parity)) × GoodExternal (length (m .ram)) address (length bytes)
-    input-good z =
-        let p = or-zero lent own (sym en ∙ z) in
-        (memory-accepted _ _ (sym el ∙ p .0), external-accepted _ _ _ (sym eo ∙ p .1))
-
-    module _ (z : n ≡ 0) (bad : ℕ) (eb : bad ≡ statesNumberOf d address (length bytes)) where
-      whole-number : externalWriteNumber d m address bytes ≡ bad
-      whole-number = input-number ∙ zero-or n _ z ∙ sym eb
-
-      pub state-refused : (bad ≡ 0 → ⊥) → written (outcome d bad 0 0) m ≡ externalCall d m address bytes
-      state-refused h = sym (external-refused bad whole-number h)
-
-      pub external-made : bad ≡ 0 → (d′ : Directory) (m′ : Memory) → d′ ≡ afterSnoop d address → m′ ≡ stored m address (bytesAt bytes 0 (length bytes)) →
-          written (outcome d′ 0 0 0) m′ ≡ externalCall d m address bytes
-      external-made b d′ m′ ed em =
-          ap (λ (x : Directory). written (outcome x 0 0 0) m′) ed
-          ∙ ap (λ (x : Memory). written (outcome (afterSnoop d address) 0 0 0) x) (em ∙ ap (stored m address) (bytes-all bytes))
-          ∙ sym (external-done (whole-number ∙ b))
 
 -- what the loops leave is what an accepted call leaves
 whole : (one : State → Doubleword → Done) (xs : List ℕ) (p : Progress) (cursor : AccessCursor) (d : Directory) (m : Memory) (array log log₀ : List ℕ) (value v : ℕ) →

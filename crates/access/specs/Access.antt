@@ -15,7 +15,8 @@ use Rattle.doubleword.specs.Doubleword.{Doubleword, doublewordsOf, changed, Don
 use Rattle.reading.specs.Reading.{readDone}
 use Rattle.writing.specs.Writing.{writeDone}
 use Rattle.refusal.specs.Refusal.{orElse, lentNumber, argumentNumber, valueNumber, statesNumberOf}
-use Rattle.access.specs.declared.outcome.Outcome.{Outcome}
+use Rattle.refusal.specs.declared.outcome.Outcome.{Outcome}
+use Rattle.refusal.specs.Outcome.{outcome}
 
 -- What a call is lent and changes: directory, RAM with its parity, data array (`array`).
 pub record State : Type 0 where
@@ -70,11 +71,6 @@ pub record After : Type 0 where
 
 abbrev pub after : Outcome → Memory → List ℕ → List ℕ → After
 after o m array log = record { outcome = o; memory = m; array = array; log = log }
-
--- "The result is number, value (0 except from a read), cycle count (0 except from reads and writes)."
-abbrev pub outcome : Directory → ℕ → ℕ → ℕ → Outcome
-outcome d number value cycles =
-    record { directory = d; number = number; value = value; cycles = cycles }
 
 -- "Number, value 0, count 0; nothing lent changes; the directory comes back as given."
 abbrev pub refused : ℕ → State → List ℕ → After

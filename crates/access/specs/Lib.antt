@@ -1,4 +1,3 @@
 -- Accesses by document 01, in its order: what a reader must believe of this crate.
 pub mod Access
-pub mod Masters
 pub mod Bench

@@ -1,15 +1,7 @@
-// The calls by value: reads, writes, other masters, control, flush and reset.
+// Reads and writes by value: the calls for every input.
 // RAM, parity array, data array, answers and log are lent by the caller.
-mod master;
-mod outcome;
 mod read_call;
 mod write_call;
 
-pub use master::control;
-pub use master::external_write;
-pub use master::flush;
-pub use master::reset;
-pub use master::snoop;
-pub use outcome::Outcome;
 pub use read_call::read;
 pub use write_call::write;

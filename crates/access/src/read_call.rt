@@ -2,14 +2,14 @@
 ghost use mathlib.Core.Path.{_≡_};
 ghost use Rattle.memory.specs.Parity.{memory};
 ghost use Rattle.access.specs.Access.{after, readCall, state};
-use crate::outcome::Outcome;
-use crate::outcome::refused;
 use directory::Directory;
 use doubleword::AccessCursor;
 use doubleword::Change;
 use doubleword::changed_by;
 use reading::read_next;
+use refusal::Outcome;
 use refusal::input_number;
+use refusal::refused;
 use refusal::states_number;
 use words::word_of;
 

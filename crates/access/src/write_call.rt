@@ -2,14 +2,14 @@
 ghost use mathlib.Core.Path.{_≡_};
 ghost use Rattle.memory.specs.Parity.{memory};
 ghost use Rattle.access.specs.Access.{after, state, writeCall};
-use crate::outcome::Outcome;
-use crate::outcome::refused;
 use directory::Directory;
 use doubleword::AccessCursor;
 use doubleword::Change;
 use doubleword::changed_by;
+use refusal::Outcome;
 use refusal::input_number;
 use refusal::or_else;
+use refusal::refused;
 use refusal::states_number;
 use refusal::value_number;
 use words::bytes_of;

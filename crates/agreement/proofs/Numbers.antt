@@ -13,7 +13,7 @@ use Rattle.ways.specs.Address.{setOf}
 use Rattle.directory.specs.Steps.{stateNumberOf, controlRefused}
 use Rattle.directory.proofs.SetState.{good-state-zero}
 use Rattle.access.specs.Access.{State, readNumber, writeNumber}
-use Rattle.access.specs.Masters.{externalWriteNumber}
+use Rattle.masters.specs.Masters.{externalWriteNumber}
 use Rattle.refusal.specs.Refusal.{when, orElse, ramNumber, memoryNumber, arrayNumber, lentNumber, badWidth, badAnswers, argumentNumber, valueNumber, externalNumber, viewAddressNumber, viewInputNumber, statesNumberIn, statesNumberOf}
 use Rattle.refusal.proofs.Accepted.{zero-or, first-or, GoodMemory}
 use Rattle.views.specs.View.{viewNumberIn}

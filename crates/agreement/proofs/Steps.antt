@@ -17,11 +17,13 @@ use Rattle.directory.proofs.Laws.{lookup-at, reset-none, reset-control, reset-w
 use Rattle.words.specs.Bytes.{bytesAt, valueOf}
 use Rattle.bus.specs.Groups.{groupCount}
 use Rattle.doubleword.specs.Doubleword.{dataOffset, doublewordsOf}
-use Rattle.access.specs.Access.{State, after, outcome, refused, accepted, operandOf, readNumber, writeNumber, readAll, writeAll, readCall, writeCall}
-use Rattle.access.specs.Masters.{externalWriteNumber}
+use Rattle.refusal.specs.Outcome.{outcome}
+use Rattle.access.specs.Access.{State, after, refused, accepted, operandOf, readNumber, writeNumber, readAll, writeAll, readCall, writeCall}
+use Rattle.masters.specs.Masters.{externalWriteNumber}
 use Rattle.refusal.specs.Refusal.{argumentNumber, valueNumber}
 use Rattle.refusal.proofs.Accepted.{or-zero, arguments-accepted, external-accepted}
-use Rattle.access.proofs.Calls.{read-refused, read-done, write-refused, write-done, external-refused, external-done}
+use Rattle.access.proofs.Calls.{read-refused, read-done, write-refused, write-done}
+use Rattle.masters.proofs.External.{external-refused, external-done}
 use Rattle.views.specs.View.{shown}
 use Rattle.views.proofs.Viewing.{view-refused, view-done}
 use Rattle.agreement.specs.Calls.{Call, read, write, external, snoop, flush, control, view, reset, Step, callStep, directoryStep, step, nextState, viewNumberOf}

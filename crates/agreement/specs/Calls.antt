@@ -3,9 +3,10 @@ use Prim.Native.Nat.{ℕ}
 use mathlib.Core.Bool.{Bool}
 use mathlib.Core.List.{List, []}
 use lib.ListN.{length}
-use Rattle.access.specs.declared.outcome.Outcome.{Outcome}
-use Rattle.access.specs.Access.{State, state, After, after, outcome, readCall, writeCall}
-use Rattle.access.specs.Masters.{Written, externalCall, snoopOutcome, controlOutcome, flushOutcome, resetOutcome}
+use Rattle.refusal.specs.declared.outcome.Outcome.{Outcome}
+use Rattle.refusal.specs.Outcome.{outcome}
+use Rattle.access.specs.Access.{State, state, After, after, readCall, writeCall}
+use Rattle.masters.specs.Masters.{Written, externalCall, snoopOutcome, controlOutcome, flushOutcome, resetOutcome}
 use Rattle.views.specs.View.{viewNumberIn, viewIn}
 
 -- "the calls' arguments except directory, RAM, parity and data array": "The log, the board's answers and an external write's bytes are each call's own and may be anything."

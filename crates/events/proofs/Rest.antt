@@ -10,7 +10,7 @@ use borrow.Author.Tests.{lt-ltb, le-ltb}
 use Rattle.laws.proofs.Lists.{sets-append}
 use Rattle.bytes.specs.Bytes.{indexOf}
 use Rattle.memory.specs.Parity.{Memory}
-use Rattle.access.specs.declared.outcome.Outcome.{Outcome}
+use Rattle.refusal.specs.declared.outcome.Outcome.{Outcome}
 use Rattle.access.specs.Access.{State, state}
 use Rattle.fields.specs.Fields.{newline, linesOf, withoutEmptyEnd, partsOf}
 use Rattle.rows.specs.Row.{header, rowOf}

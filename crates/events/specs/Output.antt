@@ -6,7 +6,7 @@ use lib.Dec.{ltb}
 use lib.ListN.{length, replicate}
 use Rattle.directory.specs.Steps.{afterReset}
 use Rattle.memory.specs.Parity.{memory}
-use Rattle.access.specs.declared.outcome.Outcome.{Outcome}
+use Rattle.refusal.specs.declared.outcome.Outcome.{Outcome}
 use Rattle.access.specs.Access.{State, state}
 use Rattle.fields.specs.Fields.{linesOf}
 use Rattle.rows.specs.Row.{header, rowOf}

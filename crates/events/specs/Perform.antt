@@ -4,9 +4,10 @@ use mathlib.Core.List.{List}
 use lib.ListN.{drop, replicate}
 use Rattle.memory.specs.Parity.{Memory}
 use Rattle.bus.specs.Groups.{groupSize, groupCount}
-use Rattle.access.specs.declared.outcome.Outcome.{Outcome}
-use Rattle.access.specs.Access.{State, After, outcome, readCall, writeCall}
-use Rattle.access.specs.Masters.{Written, externalCall, snoopOutcome, controlOutcome, flushOutcome, resetOutcome}
+use Rattle.refusal.specs.declared.outcome.Outcome.{Outcome}
+use Rattle.refusal.specs.Outcome.{outcome}
+use Rattle.access.specs.Access.{State, After, readCall, writeCall}
+use Rattle.masters.specs.Masters.{Written, externalCall, snoopOutcome, controlOutcome, flushOutcome, resetOutcome}
 use Rattle.board.specs.Board.{boardAnswers}
 use Rattle.lines.specs.declared.Event.{Event}
 use Rattle.lines.specs.declared.Event.the-variants.{Malformed, Read, Write, External, Snoop, Flush, Control, Reset}

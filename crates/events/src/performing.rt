@@ -3,16 +3,17 @@ ghost use mathlib.Core.Path.{_≡_};
 ghost use Prim.Native.Nat.{_≤_};
 ghost use lib.ListN.{length};
 ghost use Rattle.memory.specs.Parity.{memory};
-ghost use Rattle.access.specs.Access.{outcome, readCall, state, writeCall};
-ghost use Rattle.access.specs.Masters.{externalCall, written};
+ghost use Rattle.refusal.specs.Outcome.{outcome};
+ghost use Rattle.access.specs.Access.{readCall, state, writeCall};
+ghost use Rattle.masters.specs.Masters.{externalCall, written};
 ghost use Rattle.board.specs.Board.{boardAnswers};
 ghost use Rattle.fields.specs.Fields.{pairBytes};
 ghost use Rattle.events.specs.Perform.{accessEvent, lineDone, performed, zeroLog};
-use access::Outcome;
 use directory::Directory;
 use fields::pair_bytes;
 use lines::Event;
 use lines::scan;
+use refusal::Outcome;
 
 // The line's event with the board's answers. A malformed line answers 11.
 pub fn perform(
@@ -37,10 +38,10 @@ pub fn perform(
         Event::External(address, from) => {
             perform_external(given, ram, parity, address, &line[from..])
         }
-        Event::Snoop(address) => access::snoop(given, address),
-        Event::Flush => access::flush(given),
-        Event::Control(cd, nw) => access::control(given, cd, nw),
-        Event::Reset => access::reset(),
+        Event::Snoop(address) => masters::snoop(given, address),
+        Event::Flush => masters::flush(given),
+        Event::Control(cd, nw) => masters::control(given, cd, nw),
+        Event::Reset => masters::reset(),
     }
 }
 
@@ -125,5 +126,5 @@ fn perform_external(
 {
     let mut bytes = [0u8; 80];
     let count = pair_bytes(pairs, &mut bytes);
-    access::external_write(given, ram, parity, address, &bytes[..count])
+    masters::external_write(given, ram, parity, address, &bytes[..count])
 }

@@ -7,7 +7,7 @@ use native.Mathlib.Omega.{arith}
 use lib.ListN.{length}
 use lib.Seq.{sets}
 use Rattle.words.specs.Bytes.{bytesAt}
-use Rattle.access.proofs.Calls.{bytes-all}
+use Rattle.words.proofs.Places.{bytes-all}
 use Rattle.views.specs.View.{viewIn}
 use Rattle.views.proofs.Viewing.{view-most}
 

@@ -1,2 +1,3 @@
--- The numbers by which a call is turned away: what a reader must believe of this crate.
+-- What a call answers, and the numbers by which it is turned away: what a reader must believe of this crate.
+pub mod Outcome
 pub mod Refusal

@@ -1,5 +1,7 @@
-// The numbers that turn a call away: of the input, then of the state in every touched set. 0 where none is met.
+// What a call answers, and the numbers that turn it away: of the input, then of the state in every touched set. 0 where none
+// is met.
 mod input;
+mod outcome;
 mod state;
 
 pub use input::bad_width;
@@ -9,4 +11,6 @@ pub use input::memory_number;
 pub use input::or_else;
 pub use input::value_number;
 pub use input::view_input_number;
+pub use outcome::Outcome;
+pub use outcome::refused;
 pub use state::states_number;

@@ -9,8 +9,8 @@ use crate::script::digits;
 use crate::script::letter_of;
 use crate::script::number;
 use crate::stores::store_line;
-use access::Outcome;
 use directory::Directory;
+use refusal::Outcome;
 
 // Address and width of an access, then PCD or the value; and the place after them.
 struct Access {
@@ -157,7 +157,7 @@ fn external_line(
     let address = number(line, 1);
     let mut values = [0u8; 64];
     let n = bytes(line, address.next, &mut values);
-    let done = access::external_write(d, ram, parity, address.value, &values[..n]);
+    let done = masters::external_write(d, ram, parity, address.value, &values[..n]);
     call_row(b'X', done, ram, parity, data, log)
 }
 
@@ -208,9 +208,9 @@ fn directory_call(letter: u8, line: &[u8], d: Directory) -> Outcome {
     let first = number(line, 1);
     let second = number(line, first.next);
     match letter {
-        b'S' => access::snoop(d, first.value),
-        b'F' => access::flush(d),
-        b'C' => access::control(d, first.value == 1, second.value == 1),
-        _ => access::reset(),
+        b'S' => masters::snoop(d, first.value),
+        b'F' => masters::flush(d),
+        b'C' => masters::control(d, first.value == 1, second.value == 1),
+        _ => masters::reset(),
     }
 }

@@ -66,3 +66,14 @@ module _ (src : List ℕ) (at lane count : ℕ) where
 
   pub lanes-length : length lanes ≡ 4
   lanes-length = length-sets (replicate 4 0) lane (bytesAt src at count)
+
+-- all bytes of a list
+bytes-shift : (x : ℕ) (l : List ℕ) (i n : ℕ) → bytesAt (x ∷ l) (suc i) n ≡ bytesAt l i n
+unfolding bytesAt
+bytes-shift x l i zero = refl
+bytes-shift x l i (suc n) = ap (λ (r : List ℕ). getD l i 0 ∷ r) (bytes-shift x l (suc i) n)
+
+pub bytes-all : (l : List ℕ) → bytesAt l 0 (length l) ≡ l
+unfolding bytesAt
+bytes-all [] = refl
+bytes-all (x ∷ l) = ap (λ (r : List ℕ). x ∷ r) (bytes-shift x l 0 (length l) ∙ bytes-all l)

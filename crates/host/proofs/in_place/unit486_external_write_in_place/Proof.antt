@@ -1,4 +1,4 @@
-use Rattle.access.proofs.Calls.{input-refused, input-good, state-refused, external-made}
+use Rattle.masters.proofs.External.{input-refused, input-good, state-refused, external-made}
 use Rattle.memory.specs.Parity.{memory}
 use Rattle.directory.specs.Steps.{directoryOf}
 use mathlib.Core.Bool.{true}

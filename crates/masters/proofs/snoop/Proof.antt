@@ -1,6 +1,6 @@
 use borrow.Author.Needs.{needs}
-use Rattle.access.proofs.master.snoop.Statement.{statement}
-use Rattle.access.proofs.master.snoop.Tie as tie
+use Rattle.masters.proofs.snoop.Statement.{statement}
+use Rattle.masters.proofs.snoop.Tie as tie
 
 snoop-requires : tie.Need-snoop-requires
 snoop-requires c κs = search needs

@@ -1,10 +1,10 @@
 use denote.Ref.{now}
 use native.Mathlib.Omega.{arith}
 use Rattle.memory.specs.Parity.{memory}
-use Rattle.access.proofs.Calls.{input-refused, input-good, state-refused, external-made}
+use Rattle.masters.proofs.External.{input-refused, input-good, state-refused, external-made}
 use borrow.Author.Needs.{needs}
-use Rattle.access.proofs.master.external_write.Statement.{statement}
-use Rattle.access.proofs.master.external_write.Tie as tie
+use Rattle.masters.proofs.external_write.Statement.{statement}
+use Rattle.masters.proofs.external_write.Tie as tie
 
 memory-number-requires : tie.Need-memory-number-requires
 memory-number-requires c κs = search needs

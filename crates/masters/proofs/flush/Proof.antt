@@ -1,6 +1,6 @@
 use borrow.Author.Needs.{needs}
-use Rattle.access.proofs.master.flush.Statement.{statement}
-use Rattle.access.proofs.master.flush.Tie as tie
+use Rattle.masters.proofs.flush.Statement.{statement}
+use Rattle.masters.proofs.flush.Tie as tie
 
 flushed-requires : tie.Need-flushed-requires
 flushed-requires c κs = search needs

@@ -1,6 +1,6 @@
 use borrow.Author.Needs.{needs}
-use Rattle.access.proofs.master.control.Statement.{statement}
-use Rattle.access.proofs.master.control.Tie as tie
+use Rattle.masters.proofs.control.Statement.{statement}
+use Rattle.masters.proofs.control.Tie as tie
 
 control-requires : tie.Need-control-requires
 control-requires c κs = search needs

@@ -1,14 +1,14 @@
-// Other masters' writes and snoops, and the calls on the directory alone.
+// The calls by value of other masters, writes and snoops, and those on the directory alone: control, flush and reset.
 ghost use mathlib.Core.Path.{_≡_};
 ghost use Rattle.memory.specs.Parity.{memory};
-ghost use Rattle.access.specs.Masters.{controlOutcome, externalCall, flushOutcome, resetOutcome, snoopOutcome, written};
-use crate::outcome::Outcome;
-use crate::outcome::refused;
+ghost use Rattle.masters.specs.Masters.{controlOutcome, externalCall, flushOutcome, resetOutcome, snoopOutcome, written};
 use directory::Directory;
 use memory::store_bytes;
+use refusal::Outcome;
 use refusal::external_number;
 use refusal::memory_number;
 use refusal::or_else;
+use refusal::refused;
 use refusal::states_number;
 
 // Another master's write: the bytes into RAM with their parity, then a snoop. The data array is not touched.

@@ -1,7 +1,7 @@
 // What a call answers: 0 where it was done or the number that turned it away, a read's value, the count of cycles, and the
 // directory.
 ghost use mathlib.Core.Path.{_≡_};
-ghost use Rattle.access.specs.Access.{outcome};
+ghost use Rattle.refusal.specs.Outcome.{outcome};
 use directory::Directory;
 
 #[repr(C)]

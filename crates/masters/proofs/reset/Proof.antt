@@ -1,6 +1,6 @@
 use borrow.Author.Needs.{needs}
-use Rattle.access.proofs.master.reset.Statement.{statement}
-use Rattle.access.proofs.master.reset.Tie as tie
+use Rattle.masters.proofs.reset.Statement.{statement}
+use Rattle.masters.proofs.reset.Tie as tie
 
 reset-requires : tie.Need-reset-requires
 reset-requires c κs = search needs

@@ -9,8 +9,8 @@ use Rattle.directory.specs.declared.steps.DirectoryResult.{DirectoryResult}
 use Rattle.directory.specs.Steps.{afterSnoop, afterReset, afterFlush, snoopCall, controlCall}
 use Rattle.memory.specs.Parity.{Memory, stored}
 use Rattle.refusal.specs.Refusal.{orElse, memoryNumber, externalNumber, statesNumberOf}
-use Rattle.access.specs.declared.outcome.Outcome.{Outcome}
-use Rattle.access.specs.Access.{outcome}
+use Rattle.refusal.specs.declared.outcome.Outcome.{Outcome}
+use Rattle.refusal.specs.Outcome.{outcome}
 
 -- What an external write leaves: its answer with the directory, and memory.
 pub record Written : Type 0 where
