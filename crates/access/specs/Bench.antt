@@ -22,6 +22,7 @@ always answer = replicate 32 answer
 abbrev pub benchLog : List ℕ
 benchLog = replicate 96 0
 
+-- A read and a write of such a unit with 32 bytes of RAM.
 abbrev pub benchRead : ℕ → ℕ → List ℕ → After
 benchRead address width answers = readCall (enabled 32 8) address width false answers benchLog
 
@@ -32,7 +33,7 @@ benchWrite address width value answers = writeCall (enabled 32 8) address width 
 abbrev pub recordsLeft : After → List ℕ
 recordsLeft a = take (3 * a .outcome .cycles) (a .log)
 
--- The directory after reads that fill, one after another, and the way that then holds an address.
+-- The directory after reads that fill, one after another.
 abbrev pub afterReads : Directory → List ℕ → Directory
 afterReads d [] = d
 afterReads d (a ∷ rest) =
@@ -40,12 +41,15 @@ afterReads d (a ∷ rest) =
     (readCall (state d (memory (replicate 10256 0) (replicate 2564 0)) (replicate 8192 0)) a 4 false (always 1) benchLog .outcome .directory)
     rest
 
+-- "0, 800, 1000, 1800, 2000 (hex)", and the sixth at 2800.
 abbrev pub benchAddresses : List ℕ
 benchAddresses = 0 ∷ 0x800 ∷ 0x1000 ∷ 0x1800 ∷ 0x2000 ∷ 0x2800 ∷ []
 
+-- The way that holds an address after the first n of these reads.
 abbrev pub wayAfter : ℕ → ℕ → Found
 wayAfter n a = lookupOf (afterReads (afterControl afterReset false false) (take n benchAddresses)) a
 
+-- Each row is a field, in the table's order.
 pub record BenchTable : Type 0 where
   -- "32-bit write at 0: flags 95."
   pub write-at-0 : recordsLeft (benchWrite 0 4 287454020 (always 1)) ≡ 0 ∷ 95 ∷ 287454020 ∷ []
