@@ -2,173 +2,19 @@
 //
 // Both sides get the same work on states of their own. A row is timed in turns, library and baseline,
 // and the median of each side counts. What the calls answered is summed up, and after each row the sums,
-// the directory and every buffer are compared: work that differs ends the program with 1. No time does.
-#include <algorithm>
-#include <chrono>
+// the directory and every buffer are compared: work that differs, or that is not what the row says, ends
+// the program with 1. No time does.
 #include <cstdio>
 #include <cstdlib>
 #include <cstring>
 #include <string>
 #include <vector>
 
-#include "baseline/unit.h"
-#include "differential/random.h"
-#include "unit486.h"
+#include "benchmark/sides.h"
+#include "benchmark/timing.h"
+#include "benchmark/turns.h"
 
 namespace {
-
-constexpr int turns = 51;
-constexpr uint32_t ram_bytes = 65536;
-constexpr uint32_t calls = 16384; // of one turn
-
-// One side's state, and the sum of what its calls answered.
-struct Side {
-    unit486_directory directory;
-    std::vector<uint8_t> ram, parity, data;
-    uint8_t answers[UNIT486_ANSWERS];
-    uint32_t log[UNIT486_LOG_WORDS] = {};
-    uint64_t sum = 0;
-    uint64_t cycles = 0;
-    unit486_buffers lent;
-    unit486_board board;
-
-    Side() : ram(ram_bytes), parity(ram_bytes / 4), data(UNIT486_DATA_BYTES)
-    {
-        lent = {ram.data(), ram.size(), parity.data(), parity.size(), data.data(), data.size()};
-        board = {answers, UNIT486_ANSWERS, log, UNIT486_LOG_WORDS};
-        Random random(486);
-        for (uint32_t k = 0; k < ram_bytes; ++k) {
-            ram[k] = random.byte();
-            parity[k / 4] = static_cast<uint8_t>(parity[k / 4] | __builtin_parity(ram[k]) << k % 4);
-        }
-        baseline::reset(directory);
-        baseline::control(directory, false, false);
-        std::memset(answers, UNIT486_KEN, sizeof answers);
-        // The first 8 KB of RAM are held: 512 lines.
-        for (uint32_t line = 0; line < UNIT486_DATA_BYTES; line += UNIT486_LINE_BYTES)
-            baseline::read(directory, lent, line, 4, false, board);
-    }
-
-    Side(const Side &) = delete; // lent and board point into it
-    Side &operator=(const Side &) = delete;
-
-    void note(const unit486_result &result)
-    {
-        sum += result.number + result.value + log[2];
-        cycles += result.cycles;
-    }
-
-    bool same_as(const Side &other) const
-    {
-        return sum == other.sum && cycles == other.cycles && ram == other.ram && parity == other.parity &&
-               data == other.data &&
-               std::memcmp(&directory, &other.directory, offsetof(unit486_directory, nw) + 1) == 0 &&
-               std::memcmp(log, other.log, sizeof log) == 0;
-    }
-};
-
-// The calls of each side under one name each.
-struct Library {
-    static unit486_result read(Side &side, uint32_t address, bool pcd)
-    {
-        return unit486_read(&side.directory, &side.lent, address, 4, pcd, &side.board);
-    }
-    static unit486_result write(Side &side, uint32_t address, uint32_t value)
-    {
-        return unit486_write(&side.directory, &side.lent, address, 4, value, &side.board);
-    }
-    static uint32_t external_write(Side &side, uint32_t address, const uint8_t *bytes, size_t count)
-    {
-        return unit486_external_write(&side.directory, &side.lent, address, bytes, count);
-    }
-    static uint32_t view(Side &side, uint32_t address, uint8_t *shown)
-    {
-        return unit486_line_view(&side.directory, &side.lent, address, shown);
-    }
-    static uint32_t snoop(Side &side, uint32_t address) { return unit486_snoop(&side.directory, address); }
-    static uint32_t drop_line(Side &side, uint32_t address)
-    {
-        return unit486_drop_line(&side.directory, address);
-    }
-    static void flush(Side &side) { unit486_flush(&side.directory); }
-    static uint32_t control(Side &side, bool cd)
-    {
-        return unit486_control_directory(&side.directory, cd, false).number;
-    }
-    static size_t run(const std::string &text, std::vector<uint8_t> &output)
-    {
-        return unit486_run(
-            reinterpret_cast<const uint8_t *>(text.data()), text.size(), output.data(), output.size());
-    }
-};
-
-struct Baseline {
-    static unit486_result read(Side &side, uint32_t address, bool pcd)
-    {
-        return baseline::read(side.directory, side.lent, address, 4, pcd, side.board);
-    }
-    static unit486_result write(Side &side, uint32_t address, uint32_t value)
-    {
-        return baseline::write(side.directory, side.lent, address, 4, value, side.board);
-    }
-    static uint32_t external_write(Side &side, uint32_t address, const uint8_t *bytes, size_t count)
-    {
-        return baseline::external_write(side.directory, side.lent, address, bytes, count);
-    }
-    static uint32_t view(Side &side, uint32_t address, uint8_t *shown)
-    {
-        return baseline::view(side.directory, side.lent, address, shown);
-    }
-    static uint32_t snoop(Side &side, uint32_t address) { return baseline::snoop(side.directory, address); }
-    static uint32_t drop_line(Side &side, uint32_t address)
-    {
-        return baseline::snoop(side.directory, address);
-    }
-    static void flush(Side &side) { baseline::flush(side.directory); }
-    static uint32_t control(Side &side, bool cd) { return baseline::control(side.directory, cd, false); }
-    static size_t run(const std::string &text, std::vector<uint8_t> &output)
-    {
-        return baseline::run(
-            reinterpret_cast<const uint8_t *>(text.data()), text.size(), output.data(), output.size());
-    }
-};
-
-double seconds_of(const std::chrono::steady_clock::time_point &start)
-{
-    return std::chrono::duration<double>(std::chrono::steady_clock::now() - start).count();
-}
-
-double median(std::vector<double> times)
-{
-    std::sort(times.begin(), times.end());
-    return times[times.size() / 2];
-}
-
-// Median seconds of a turn of each side, and the median of the turns' ratios. The two halves of a turn
-// are neighbours in time, so a slow moment slows both down.
-struct Times {
-    double library, baseline, ratio;
-};
-
-// Who is first alternates, and the first turn is not counted.
-template <class First, class Second> Times time_both(First library, Second baseline)
-{
-    std::vector<double> times[2], ratios;
-    for (int turn = 0; turn <= turns; ++turn) {
-        double seconds[2] = {};
-        for (const int side : {turn % 2, 1 - turn % 2}) {
-            const auto start = std::chrono::steady_clock::now();
-            side == 0 ? library() : baseline();
-            seconds[side] = seconds_of(start);
-        }
-        if (turn == 0)
-            continue;
-        times[0].push_back(seconds[0]);
-        times[1].push_back(seconds[1]);
-        ratios.push_back(seconds[0] / seconds[1]);
-    }
-    return {median(times[0]), median(times[1]), median(ratios)};
-}
 
 void require(bool same, const char *name)
 {
@@ -178,127 +24,169 @@ void require(bool same, const char *name)
     std::exit(1);
 }
 
-// A row: one turn's calls on each side, given as a function of a side's state. So many cycles for each
-// call show that the calls are what the row says: hits, fills, plain reads.
-template <class Turn> void row(const char *name, uint32_t cycles, Turn turn, uint8_t answer = UNIT486_KEN)
+// What every call of a row does: so many cycles, which show that the calls are hits, fills or plain reads
+// as the row says; or the number by which it is refused.
+struct Expected {
+    uint32_t cycles, number;
+};
+
+constexpr Expected done{0, UNIT486_DONE};
+constexpr Expected cycles(uint32_t count) { return {count, UNIT486_DONE}; }
+constexpr Expected refused(unit486_number number) { return {0, number}; }
+
+void unprepared(Side &) {}
+
+// What the board answers in every cycle.
+auto answered(uint8_t answer)
+{
+    return [answer](Side &side) { std::memset(side.answers, answer, sizeof side.answers); };
+}
+
+// A row: one turn's calls, given as a function of a side's state.
+template <class Turn, class Prepare = void (*)(Side &)>
+void row(const char *name, Expected expected, Turn turn, Prepare prepare = unprepared)
 {
     Side library, baseline;
-    std::memset(library.answers, answer, sizeof library.answers);
-    std::memset(baseline.answers, answer, sizeof baseline.answers);
+    for (Side *side : {&library, &baseline}) {
+        side->number = expected.number;
+        prepare(*side);
+    }
     const Times times = time_both([&] { turn(library, Library{}); }, [&] { turn(baseline, Baseline{}); });
     require(library.same_as(baseline), name);
-    require(baseline.cycles == uint64_t{cycles} * calls * (turns + 1), name);
-    std::printf("| %-44s | %9.1f | %9.1f | %6.2f |\n", name, times.library / calls * 1e9,
+    require(library.other_numbers == 0 && baseline.other_numbers == 0, name);
+    require(baseline.cycles == uint64_t{expected.cycles} * calls * (turns + 1), name);
+    std::printf("| %-48s | %9.1f | %9.1f | %6.2f |\n", name, times.library / calls * 1e9,
         times.baseline / calls * 1e9, times.ratio);
 }
 
-// Addresses of held doublewords in random order, the same for both sides.
-std::vector<uint32_t> random_addresses()
+// All lines are dropped one by one, then marked valid again: a look at 512 bytes and a store of them for
+// 512 snoops.
+template <class Snoop> auto drops(Snoop snoop)
 {
-    Random random(1);
-    std::vector<uint32_t> made(calls);
-    for (uint32_t &address : made)
-        address = random.below(UNIT486_DATA_BYTES / 4) * 4;
-    return made;
+    return each(each_line(), [=](Side &side, auto unit, uint32_t address) {
+        const uint32_t number = snoop(side, unit, address);
+        if (address == held_bytes - UNIT486_LINE_BYTES) {
+            require(std::memchr(side.directory.valid, 1, UNIT486_LINES) == nullptr, "snoop hit");
+            std::memset(side.directory.valid, 1, UNIT486_LINES);
+        }
+        return number;
+    });
 }
 
-void read_rows()
+void hit_rows()
 {
-    const std::vector<uint32_t> addresses = random_addresses();
-    row("read hit, sequential", 0, [](Side &side, auto unit) {
-        for (uint32_t k = 0; k < calls; ++k)
-            side.note(unit.read(side, k * 4 % UNIT486_DATA_BYTES, false));
-    });
-    row("read hit, random", 0, [&](Side &side, auto unit) {
-        for (const uint32_t address : addresses)
-            side.note(unit.read(side, address, false));
-    });
-    // All of RAM in turn, 32 tags for each set: each line is gone before it is read again. The lines that
-    // are held at first come last.
-    const auto fills = [](Side &side, auto unit) {
-        for (uint32_t k = 0; k < calls; ++k)
-            side.note(unit.read(side, (UNIT486_DATA_BYTES + k * UNIT486_LINE_BYTES) % ram_bytes, false));
+    row("read hit, sequential", done, reads(each_doubleword(), 4));
+    row("read hit, random", done, reads(aligned(4), 4));
+    row("read hit of 1 byte", done, reads(aligned(1), 1));
+    row("read hit of 2 bytes", done, reads(aligned(2), 2));
+    row("read hit in two doublewords of one line", done, reads(in_two_doublewords(), 4));
+    row("read hit in two lines", done, reads(in_two_lines(), 4));
+}
+
+// All of RAM in turn, 32 tags for each set: each line is gone before it is read again. The lines that are
+// held at first come last.
+void fill_rows()
+{
+    const auto every = [](uint32_t bytes) {
+        return in_order([=](uint32_t k) { return (held_bytes + k * bytes) % ram_bytes; });
     };
-    row("read miss with fill, 32-bit bus (4 cycles)", 4, fills);
-    row("read miss with fill, BS16# (8 cycles)", 8, fills, UNIT486_KEN | UNIT486_BS16);
-    row("read miss with fill, BS8# (16 cycles)", 16, fills, UNIT486_KEN | UNIT486_BS8);
-    row("plain read (PCD = 1, 1 cycle)", 1, [](Side &side, auto unit) {
-        for (uint32_t k = 0; k < calls; ++k)
-            side.note(unit.read(side, UNIT486_DATA_BYTES + k * 4 % UNIT486_DATA_BYTES, true));
-    });
+    const Addresses lines = every(UNIT486_LINE_BYTES);
+    Addresses pairs = every(2 * UNIT486_LINE_BYTES);
+    for (uint32_t &address : pairs)
+        address += UNIT486_LINE_BYTES - 2;
+    row("read miss with fill, 32-bit bus (4 cycles)", cycles(4), reads(lines, 4));
+    row("read miss with fill, BS16# (8 cycles)", cycles(8), reads(lines, 4),
+        answered(UNIT486_KEN | UNIT486_BS16));
+    row("read miss with fill, BS8# (16 cycles)", cycles(16), reads(lines, 4),
+        answered(UNIT486_KEN | UNIT486_BS8));
+    row("fill of two lines (8 cycles)", cycles(8), reads(pairs, 4));
+}
+
+void plain_read_rows()
+{
+    const auto plain = reads(not_held(each_doubleword()), 4, true);
+    row("plain read (PCD = 1, 1 cycle)", cycles(1), plain);
+    row("plain read, BS16# (2 cycles)", cycles(2), plain, answered(UNIT486_BS16));
+    row("plain read, BS8# (4 cycles)", cycles(4), plain, answered(UNIT486_BS8));
+    row("plain read in two doublewords (2 cycles)", cycles(2),
+        reads(not_held(in_two_doublewords()), 4, true));
 }
 
 void write_rows()
 {
-    const std::vector<uint32_t> addresses = random_addresses();
-    row("write hit, through to RAM (1 cycle)", 1, [&](Side &side, auto unit) {
-        for (const uint32_t address : addresses)
-            side.note(unit.write(side, address, address * 2654435761u));
-    });
-    row("write miss (1 cycle)", 1, [&](Side &side, auto unit) {
-        for (const uint32_t address : addresses)
-            side.note(unit.write(side, UNIT486_DATA_BYTES + address, address * 2654435761u));
-    });
-}
-
-// All 512 lines dropped one by one, then marked valid again: a look at 512 bytes and a store of them for
-// 512 snoops.
-template <class Snoop> void drop_all(Side &side, Snoop snoop)
-{
-    for (uint32_t k = 0; k < calls; ++k) {
-        side.sum += snoop(k % UNIT486_LINES * UNIT486_LINE_BYTES);
-        if (k % UNIT486_LINES != UNIT486_LINES - 1)
-            continue;
-        require(std::memchr(side.directory.valid, 1, UNIT486_LINES) == nullptr, "snoop hit");
-        std::memset(side.directory.valid, 1, UNIT486_LINES);
-    }
+    const auto hits = writes(aligned(4), 4);
+    const auto misses = writes(not_held(aligned(4)), 4);
+    row("write hit, through to RAM (1 cycle)", cycles(1), hits);
+    row("write miss (1 cycle)", cycles(1), misses);
+    row("write hit of 1 byte (1 cycle)", cycles(1), writes(aligned(1), 1));
+    row("write hit of 2 bytes (1 cycle)", cycles(1), writes(aligned(2), 2));
+    row("write hit, BS16# (2 cycles)", cycles(2), hits, answered(UNIT486_BS16));
+    row("write hit, BS8# (4 cycles)", cycles(4), hits, answered(UNIT486_BS8));
+    row("write hit in two doublewords (2 cycles)", cycles(2), writes(in_two_doublewords(), 4));
+    row("write hit in two lines (2 cycles)", cycles(2), writes(in_two_lines(), 4));
+    row("write miss, BS8# (4 cycles)", cycles(4), misses, answered(UNIT486_BS8));
+    row("write that stays in the cache (CD = NW = 1)", done, hits,
+        [](Side &side) { side.directory.cd = side.directory.nw = true; });
 }
 
 void master_rows()
 {
-    row("snoop hit", 0, [](Side &side, auto unit) {
-        drop_all(side, [&](uint32_t address) { return unit.snoop(side, address); });
-    });
-    row("snoop hit, thin call (drop_line)", 0, [](Side &side, auto unit) {
-        drop_all(side, [&](uint32_t address) { return unit.drop_line(side, address); });
-    });
-    row("snoop miss", 0, [](Side &side, auto unit) {
-        for (uint32_t k = 0; k < calls; ++k)
-            side.sum += unit.snoop(side, UNIT486_DATA_BYTES + k * UNIT486_LINE_BYTES);
-    });
-    const auto external = [](uint32_t count) {
-        return [count](Side &side, auto unit) {
-            uint8_t bytes[UNIT486_LINE_BYTES];
-            for (uint32_t k = 0; k < calls; ++k) {
-                std::memset(bytes, static_cast<int>(k), sizeof bytes);
-                side.sum +=
-                    unit.external_write(side, UNIT486_DATA_BYTES + k * 16 % UNIT486_DATA_BYTES, bytes, count);
-            }
-        };
-    };
-    row("external write, 4 bytes, line not held", 0, external(4));
-    row("external write, 16 bytes, line not held", 0, external(16));
+    const auto snoop = [](Side &side, auto unit, uint32_t address) { return unit.snoop(side, address); };
+    const auto thin = [](Side &side, auto unit, uint32_t address) { return unit.drop_line(side, address); };
+    row("snoop hit", done, drops(snoop));
+    row("snoop hit, thin call (drop_line)", done, drops(thin));
+    row("snoop miss", done, each(not_held(each_line()), snoop));
+    row("external write, 4 bytes, line not held", done, external_writes(not_held(each_line()), 4));
+    row("external write, 16 bytes, line not held", done, external_writes(not_held(each_line()), 16));
 }
 
 void directory_rows()
 {
-    row("flush", 0, [](Side &side, auto unit) {
-        for (uint32_t k = 0; k < calls; ++k) {
-            side.directory.valid[k % UNIT486_LINES] = true;
-            unit.flush(side);
-        }
-    });
-    row("control (by value)", 0, [](Side &side, auto unit) {
-        for (uint32_t k = 0; k < calls; ++k)
-            side.sum += unit.control(side, k % 2 != 0);
-    });
-    row("line view of a held line", 0, [](Side &side, auto unit) {
-        uint8_t shown[UNIT486_LINE_BYTES];
-        for (uint32_t k = 0; k < calls; ++k) {
-            side.sum += unit.view(side, k * 4 % UNIT486_DATA_BYTES, shown);
-            side.sum += shown[k % UNIT486_LINE_BYTES];
-        }
-    });
+    row("flush", done, each(each_line(), [](Side &side, auto unit, uint32_t address) {
+        side.directory.valid[address / UNIT486_LINE_BYTES] = true;
+        unit.flush(side);
+        return UNIT486_DONE;
+    }));
+    row("reset", done, each(each_line(), [](Side &side, auto unit, uint32_t address) {
+        side.directory.valid[address / UNIT486_LINE_BYTES] = true;
+        unit.reset(side);
+        return UNIT486_DONE;
+    }));
+    row("control", done, each(each_line(), [](Side &side, auto unit, uint32_t address) {
+        return unit.control(side, address / UNIT486_LINE_BYTES % 2 != 0, false);
+    }));
+    row("line view of a held line", done,
+        each(each_doubleword(), [](Side &side, auto unit, uint32_t address) {
+            const uint32_t number = unit.view(side, address);
+            side.sum += side.shown[address % UNIT486_LINE_BYTES];
+            return number;
+        }));
+}
+
+// In each set the second line gets the tag of the first.
+void double_tags(Side &side)
+{
+    for (uint32_t first = 0; first < UNIT486_LINES; first += UNIT486_WAYS)
+        side.directory.tags[first + 1] = side.directory.tags[first];
+}
+
+void refused_rows()
+{
+    const Addresses beyond = in_order([](uint32_t k) { return ram_bytes + k; });
+    row("refused read, width 3 (number 4)", refused(UNIT486_WRONG_WIDTH), reads(aligned(4), 3));
+    row("refused read, beyond RAM (number 5)", refused(UNIT486_BEYOND_RAM), reads(beyond, 4));
+    row("refused read, two lines of one tag (number 21)", refused(UNIT486_TWO_OF_ONE_TAG),
+        reads(aligned(4), 4), double_tags);
+    row("refused write, value too large (number 8)", refused(UNIT486_LARGE_VALUE),
+        each(aligned(1), [](Side &side, auto unit, uint32_t address) {
+            return unit.write(side, address, 1, 256 + address);
+        }));
+    row("refused external write, across lines (number 10)", refused(UNIT486_WRONG_EXTERNAL_WRITE),
+        external_writes(in_two_lines(), 4));
+    row("refused view, beyond RAM (number 5)", refused(UNIT486_BEYOND_RAM),
+        each(beyond, [](Side &side, auto unit, uint32_t address) { return unit.view(side, address); }));
+    row("refused control, CD = 0 and NW = 1 (number 9)", refused(UNIT486_WRONG_CONTROL),
+        each(each_line(), [](Side &side, auto unit, uint32_t) { return unit.control(side, false, true); }));
 }
 
 // One event of a mix with a hot set: half reads, a quarter writes, other masters.
@@ -328,7 +216,7 @@ void program_row()
         [&] { lengths[1] = Baseline::run(text, baseline); });
     require(lengths[0] == lengths[1] && library == baseline, "event program");
     std::printf("\nThe event program on %zu events (%zu bytes):\n\n", events, text.size());
-    std::printf("| %-44s | %9.0f | %9.0f | %6.2f |\n", "events per second; ratio of times",
+    std::printf("| %-48s | %9.0f | %9.0f | %6.2f |\n", "events per second; ratio of times",
         events / times.library, events / times.baseline, times.ratio);
 }
 
@@ -340,12 +228,19 @@ int main(int argc, char **)
         std::fprintf(stderr, "usage: benchmark\n");
         return 2;
     }
+    if (unit486_version() != UNIT486_VERSION) {
+        std::fprintf(stderr, "benchmark: the library has another version than the header\n");
+        return 2;
+    }
     std::printf("Median of %d turns of %u calls, nanoseconds for each call.\n\n", turns, calls);
-    std::printf("| %-44s | %9s | %9s | %6s |\n", "call", "library", "baseline", "ratio");
+    std::printf("| %-48s | %9s | %9s | %6s |\n", "call", "library", "baseline", "ratio");
     std::printf("|---|---|---|---|\n");
-    read_rows();
+    hit_rows();
+    fill_rows();
+    plain_read_rows();
     write_rows();
     master_rows();
     directory_rows();
+    refused_rows();
     program_row();
 }

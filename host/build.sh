@@ -1,7 +1,9 @@
 #!/bin/sh
-# Builds the host's programs into target/host/ of the repository, with g++ alone.
+# Builds the host's programs into target/host/ of the repository, with a C++ compiler alone.
 #
 #     host/build.sh [LIBRARY]     default: target/staticlib/libhost.a, which `rt staticlib host` writes
+#
+# From the environment: CXX, the compiler (g++), and CXXFLAGS_BASELINE, how it optimises the baseline (-O2).
 set -eu
 usage() {
     echo "usage: host/build.sh [LIBRARY]" >&2
@@ -17,17 +19,18 @@ if [ ! -f "$library" ]; then
 fi
 library=$(cd "$(dirname "$library")" && pwd)/$(basename "$library")
 cd "$root"
-flags="-std=c++17 -O2 -Wall -Wextra -Werror -Ihost/include -Ihost"
+cxx=${CXX:-g++}
+flags="-std=c++17 -Wall -Wextra -Werror -Ihost/include -Ihost"
 out=target/host
 mkdir -p $out
 # The header must be C too.
-g++ -x c -std=c11 -Wall -Wextra -Wpedantic -Werror -fsyntax-only host/include/unit486.h
+echo '#include "unit486.h"' | $cxx -x c -std=c11 -Wall -Wextra -Wpedantic -Werror -Ihost/include -fsyntax-only -
 for part in unit program; do
-    g++ $flags -c host/baseline/$part.cpp -o $out/baseline_$part.o
+    $cxx $flags ${CXXFLAGS_BASELINE:--O2} -c host/baseline/$part.cpp -o $out/baseline_$part.o
 done
 baseline="$out/baseline_unit.o $out/baseline_program.o"
-g++ $flags host/example/example.cpp "$library" -o $out/example
-g++ $flags host/differential.cpp $baseline "$library" -o $out/differential
-g++ $flags host/benchmark.cpp $baseline "$library" -o $out/benchmark
-g++ $flags host/rows.cpp $baseline -o $out/rows
+$cxx $flags -O2 host/example/example.cpp "$library" -o $out/example
+$cxx $flags -O2 host/differential.cpp $baseline "$library" -o $out/differential
+$cxx $flags -O2 host/benchmark.cpp $baseline "$library" -o $out/benchmark
+$cxx $flags -O2 host/rows.cpp $baseline -o $out/rows
 echo "built example, differential, benchmark and rows in $out/"

@@ -4,7 +4,7 @@
 //     differential [CALLS [SEED]]     at least so many calls; 2000000 and 1 if not given
 //
 // It ends with 1 at the first difference, and also where a number or a condition was never met; with 2
-// where an argument is no number.
+// where an argument is no number, or the library has another version than the header.
 #include <cinttypes>
 #include <cstdio>
 #include <cstdlib>
@@ -27,6 +27,10 @@ int main(int argc, char **argv)
 {
     if (argc > 3 || (argc > 1 && !is_number(argv[1])) || (argc > 2 && !is_number(argv[2]))) {
         std::fprintf(stderr, "usage: differential [CALLS [SEED]]\n");
+        return 2;
+    }
+    if (unit486_version() != UNIT486_VERSION) {
+        std::fprintf(stderr, "differential: the library has another version than the header\n");
         return 2;
     }
     const uint64_t calls = argc > 1 ? std::strtoull(argv[1], nullptr, 10) : 2000000;

@@ -162,10 +162,12 @@ struct ScriptUnit {
             answers.resize(UNIT486_ANSWERS);
             baseline::board_answers(address, width, answers.data());
         }
-        const unit486_board board{answers.data(), answers.size(), log.data(), log.size()};
+        unit486_buffers buffers = lent();
         if (letter == 'R' || letter == 'r')
-            return baseline::read(directory, lent(), address, width, third != 0, board);
-        return baseline::write(directory, lent(), address, width, third, board);
+            return baseline::read(directory, buffers, address, width, third != 0, answers.data(),
+                answers.size(), log.data(), log.size());
+        return baseline::write(directory, buffers, address, width, third, answers.data(), answers.size(),
+            log.data(), log.size());
     }
 
     unit486_result call(char letter, std::istringstream &line)
@@ -176,12 +178,14 @@ struct ScriptUnit {
         switch (letter) {
         case 'X': {
             const Bytes bytes(fields.begin() + 1, fields.end());
-            return {baseline::external_write(directory, lent(), fields[0], bytes.data(), bytes.size()), 0, 0};
+            unit486_buffers buffers = lent();
+            return {
+                baseline::external_write(directory, buffers, fields[0], bytes.data(), bytes.size()), 0, 0};
         }
         case 'S': return {baseline::snoop(directory, fields[0]), 0, 0};
         case 'C': return {baseline::control(directory, fields[0] != 0, fields[1] != 0), 0, 0};
-        case 'F': baseline::flush(directory); return {0, 0, 0};
-        default: baseline::reset(directory); return {0, 0, 0};
+        case 'F': baseline::flush(directory); return {UNIT486_DONE, 0, 0};
+        default: baseline::reset(directory); return {UNIT486_DONE, 0, 0};
         }
     }
 
@@ -191,7 +195,7 @@ struct ScriptUnit {
         line >> address;
         uint8_t shown[UNIT486_LINE_BYTES];
         const uint32_t number = baseline::view(directory, lent(), address, shown);
-        const size_t length = number == 0 ? sizeof shown : 0;
+        const size_t length = number == UNIT486_DONE ? sizeof shown : 0;
         std::printf("V\t%" PRIu32 "\t%zu\t", number, length);
         for (size_t k = 0; k < length; ++k)
             std::printf("%02x", shown[k]);

@@ -41,7 +41,7 @@ inline void read_cycle(
 {
     const uint32_t word = load(lent.ram + address) & lane_bits[lanes];
     const unsigned wrong = (dp_bits(word) ^ lent.parity[address / 4]) & lanes;
-    records.put(address, lanes | flags | (wrong ? UNIT486_WRONG_PARITY : 0), word);
+    records.put(address, lanes | flags | (wrong ? UNIT486_FLAG_WRONG_PARITY : 0), word);
 }
 
 // The cycles of a read that is no fill: "the wanted bytes only".
@@ -51,7 +51,7 @@ inline void read_cycles(
     do {
         const unsigned lanes = moved_lanes(wanted, *answers++);
         wanted &= ~lanes;
-        read_cycle(lent, address, lanes, wanted ? 0 : UNIT486_LAST, records);
+        read_cycle(lent, address, lanes, wanted ? 0 : UNIT486_FLAG_LAST, records);
     } while (wanted);
 }
 
@@ -69,7 +69,7 @@ inline bool fill_cycles(
             const unsigned lanes = moved_lanes(wanted, answer);
             wanted &= ~lanes;
             const bool last = offset == 12 && wanted == 0;
-            read_cycle(lent, doubleword, lanes, UNIT486_FILL | (last ? UNIT486_LAST : 0), records);
+            read_cycle(lent, doubleword, lanes, UNIT486_FLAG_FILL | (last ? UNIT486_FLAG_LAST : 0), records);
         } while (wanted);
     }
     return answer & UNIT486_KEN;
@@ -77,7 +77,7 @@ inline bool fill_cycles(
 
 // "Write: to RAM and the moved lanes' parity". The cycles together move all wanted lanes, so RAM and
 // parity are written once.
-inline void write_cycles(const unit486_buffers &lent, uint32_t address, unsigned wanted, uint32_t word,
+inline void write_cycles(unit486_buffers &lent, uint32_t address, unsigned wanted, uint32_t word,
     const uint8_t *answers, Records &records)
 {
     store_lanes(lent.ram + address, wanted, word);
@@ -85,7 +85,7 @@ inline void write_cycles(const unit486_buffers &lent, uint32_t address, unsigned
     do {
         const unsigned lanes = moved_lanes(wanted, *answers++);
         wanted &= ~lanes;
-        const uint32_t flags = lanes | UNIT486_WRITE | (wanted ? 0 : UNIT486_LAST);
+        const uint32_t flags = lanes | UNIT486_FLAG_WRITE | (wanted ? 0 : UNIT486_FLAG_LAST);
         records.put(address, flags, word & lane_bits[lanes]);
     } while (wanted);
 }

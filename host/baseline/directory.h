@@ -91,8 +91,8 @@ inline uint32_t state_number(const Directory &directory, unsigned set)
                            (v[2] & (t[2] > tag_limit)) | (v[3] & (t[3] > tag_limit));
     const unsigned wrong_lru = directory.lru[set] > lru_limit;
     if ((same | above | wrong_lru) == 0)
-        return 0;
-    return same ? 21 : above ? 22 : 23;
+        return UNIT486_DONE;
+    return same ? UNIT486_TWO_OF_ONE_TAG : above ? UNIT486_LARGE_TAG : UNIT486_LARGE_LRU;
 }
 
 // "Checked in every touched set, the lower address's set first"; "All of one set comes before the next
@@ -102,7 +102,7 @@ inline uint32_t states_number(const Directory &directory, uint32_t address, uint
     const unsigned lower = set_of(address);
     const unsigned upper = set_of(address + count - 1);
     const uint32_t number = state_number(directory, lower);
-    if (number != 0 || upper == lower)
+    if (number != UNIT486_DONE || upper == lower)
         return number;
     return state_number(directory, upper);
 }

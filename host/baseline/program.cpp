@@ -116,19 +116,20 @@ struct Unit {
 
     unit486_result access(const Event &event)
     {
-        const unit486_buffers lent{ram, sizeof ram, parity, sizeof parity, data, sizeof data};
+        unit486_buffers lent{ram, sizeof ram, parity, sizeof parity, data, sizeof data};
         uint8_t answers[UNIT486_ANSWERS];
         uint32_t log[UNIT486_LOG_WORDS];
         board_answers(event.address, event.width, answers);
-        const unit486_board board{answers, UNIT486_ANSWERS, log, UNIT486_LOG_WORDS};
         if (event.letter == 'R')
-            return read(directory, lent, event.address, event.width, event.first, board);
-        return write(directory, lent, event.address, event.width, event.value, board);
+            return read(directory, lent, event.address, event.width, event.first, answers, UNIT486_ANSWERS,
+                log, UNIT486_LOG_WORDS);
+        return write(directory, lent, event.address, event.width, event.value, answers, UNIT486_ANSWERS, log,
+            UNIT486_LOG_WORDS);
     }
 
     uint32_t external(const Event &event)
     {
-        const unit486_buffers lent{ram, sizeof ram, parity, sizeof parity, data, sizeof data};
+        unit486_buffers lent{ram, sizeof ram, parity, sizeof parity, data, sizeof data};
         return external_write(directory, lent, event.address, event.bytes, event.count);
     }
 
@@ -139,10 +140,10 @@ struct Unit {
         case 'W': return access(event);
         case 'X': return {external(event), 0, 0};
         case 'S': return {snoop(directory, event.address), 0, 0};
-        case 'F': flush(directory); return {0, 0, 0};
+        case 'F': flush(directory); return {UNIT486_DONE, 0, 0};
         case 'C': return {control(directory, event.first, event.second), 0, 0};
-        case 'Z': reset(directory); return {0, 0, 0};
-        default: return {11, 0, 0};
+        case 'Z': reset(directory); return {UNIT486_DONE, 0, 0};
+        default: return {UNIT486_MALFORMED_LINE, 0, 0};
         }
     }
 };
@@ -182,7 +183,7 @@ size_t run(const uint8_t *input, size_t input_length, uint8_t *output, size_t ou
     text.put(header, sizeof header - 1);
     // "Number 12 prints the header and the one row 0, 12, 0, 0."
     if (input_length > UNIT486_INPUT_MOST) {
-        text.put_row(0, {12, 0, 0});
+        text.put_row(0, {UNIT486_LONG_INPUT, 0, 0});
         return text.length;
     }
     const auto unit = std::make_unique<Unit>();

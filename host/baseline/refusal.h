@@ -17,8 +17,8 @@ inline bool good_ram(size_t length)
 inline uint32_t memory_number(const unit486_buffers &lent)
 {
     if (!good_ram(lent.ram_length))
-        return 1;
-    return lent.parity_length == lent.ram_length / 4 ? 0 : 2;
+        return UNIT486_WRONG_RAM_LENGTH;
+    return lent.parity_length == lent.ram_length / 4 ? UNIT486_DONE : UNIT486_WRONG_PARITY_LENGTH;
 }
 
 inline bool good_width(uint32_t width) { return width == 1 || width == 2 || width == 4; }
@@ -39,48 +39,48 @@ inline bool good_answers(const uint8_t *answers, size_t length)
 }
 
 // 1 to 7, of a read or a write. Address + width is a sum of 64 bits, which cannot wrap.
-inline uint32_t input_number(
-    const unit486_buffers &lent, uint32_t address, uint32_t width, const unit486_board &board)
+inline uint32_t input_number(const unit486_buffers &lent, uint32_t address, uint32_t width,
+    const uint8_t *answers, size_t answers_length, size_t log_length)
 {
     const uint32_t number = memory_number(lent);
-    if (number != 0)
+    if (number != UNIT486_DONE)
         return number;
     if (lent.data_length != UNIT486_DATA_BYTES)
-        return 3;
+        return UNIT486_WRONG_DATA_LENGTH;
     if (!good_width(width))
-        return 4;
+        return UNIT486_WRONG_WIDTH;
     if (uint64_t{address} + width > lent.ram_length)
-        return 5;
-    if (!good_answers(board.answers, board.answers_length))
-        return 6;
-    return board.log_length < UNIT486_LOG_WORDS ? 7 : 0;
+        return UNIT486_BEYOND_RAM;
+    if (!good_answers(answers, answers_length))
+        return UNIT486_WRONG_ANSWERS;
+    return log_length < UNIT486_LOG_WORDS ? UNIT486_SHORT_LOG : UNIT486_DONE;
 }
 
 // 8. "Value too large for its width."
 inline uint32_t value_number(uint32_t width, uint32_t value)
 {
-    return uint64_t{value} >> 8 * width != 0 ? 8 : 0;
+    return uint64_t{value} >> 8 * width != 0 ? UNIT486_LARGE_VALUE : UNIT486_DONE;
 }
 
 // 1, 2, 10. "External write empty, over 16 bytes, across lines or beyond RAM."
 inline uint32_t external_input_number(const unit486_buffers &lent, uint32_t address, size_t count)
 {
     const uint32_t number = memory_number(lent);
-    if (number != 0)
+    if (number != UNIT486_DONE)
         return number;
     if (count == 0 || count > UNIT486_LINE_BYTES || address % 16 + count > UNIT486_LINE_BYTES)
-        return 10;
-    return address + count > lent.ram_length ? 10 : 0;
+        return UNIT486_WRONG_EXTERNAL_WRITE;
+    return address + count > lent.ram_length ? UNIT486_WRONG_EXTERNAL_WRITE : UNIT486_DONE;
 }
 
 // 1, 3, 5. "view: address not in RAM"
 inline uint32_t view_input_number(const unit486_buffers &lent, uint32_t address)
 {
     if (!good_ram(lent.ram_length))
-        return 1;
+        return UNIT486_WRONG_RAM_LENGTH;
     if (lent.data_length != UNIT486_DATA_BYTES)
-        return 3;
-    return address < lent.ram_length ? 0 : 5;
+        return UNIT486_WRONG_DATA_LENGTH;
+    return address < lent.ram_length ? UNIT486_DONE : UNIT486_BEYOND_RAM;
 }
 
 } // namespace baseline

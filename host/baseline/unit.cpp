@@ -20,10 +20,10 @@ void reset(Directory &directory)
 uint32_t control(Directory &directory, bool cd, bool nw)
 {
     if (nw && !cd)
-        return 9;
+        return UNIT486_WRONG_CONTROL;
     directory.cd = cd;
     directory.nw = nw;
-    return 0;
+    return UNIT486_DONE;
 }
 
 // "A flush (FLUSH#, INVD and WBINVD alike) clears valid marks and nothing else (H)."
@@ -32,7 +32,7 @@ void flush(Directory &directory) { std::memset(directory.valid, 0, sizeof direct
 uint32_t snoop(Directory &directory, uint32_t address)
 {
     const uint32_t number = state_number(directory, set_of(address));
-    if (number == 0)
+    if (number == UNIT486_DONE)
         invalidate(directory, address);
     return number;
 }
@@ -46,8 +46,8 @@ static size_t data_offset(unsigned index, uint32_t address)
 // "Read miss: a fill when CD = 0, PCD = 0 and the first cycle has KEN#. Otherwise the wanted bytes only."
 // A fill brings in RAM's line as it stands, so what the cycles brought is read from RAM. Apart from
 // read_doubleword, which stays short for hits.
-[[gnu::noinline]] static uint32_t read_miss(Directory &directory, const unit486_buffers &lent,
-    uint32_t address, unsigned wanted, bool may_fill, const uint8_t *answers, Records &records)
+[[gnu::noinline]] static uint32_t read_miss(Directory &directory, unit486_buffers &lent, uint32_t address,
+    unsigned wanted, bool may_fill, const uint8_t *answers, Records &records)
 {
     if (!may_fill || !(answers[0] & UNIT486_KEN)) {
         read_cycles(lent, address, wanted, answers, records);
@@ -62,7 +62,7 @@ static size_t data_offset(unsigned index, uint32_t address)
 
 // One doubleword of a read: its wanted lanes. "Read hit: from the data array, no cycle, whatever CD and
 // PCD are."
-static uint32_t read_doubleword(Directory &directory, const unit486_buffers &lent, uint32_t address,
+static uint32_t read_doubleword(Directory &directory, unit486_buffers &lent, uint32_t address,
     unsigned wanted, bool may_fill, const uint8_t *answers, Records &records)
 {
     const unsigned way = lookup(directory, address);
@@ -76,34 +76,32 @@ static uint32_t read_doubleword(Directory &directory, const unit486_buffers &len
 // The wanted lanes of an access: 0 to 3 in the lower doubleword, 4 to 7 in the upper one.
 static unsigned wanted_lanes(uint32_t address, uint32_t width) { return ((1u << width) - 1) << address % 4; }
 
-unit486_result read(Directory &directory, const unit486_buffers &lent, uint32_t address, uint32_t width,
-    bool pcd, const unit486_board &board)
+unit486_result read(Directory &directory, unit486_buffers &lent, uint32_t address, uint32_t width, bool pcd,
+    const uint8_t *answers, size_t answers_length, uint32_t *log, size_t log_length)
 {
-    uint32_t number = input_number(lent, address, width, board);
-    if (number == 0)
+    uint32_t number = input_number(lent, address, width, answers, answers_length, log_length);
+    if (number == UNIT486_DONE)
         number = states_number(directory, address, width);
-    if (number != 0)
+    if (number != UNIT486_DONE)
         return {number, 0, 0};
-    Records records{board.log};
+    Records records{log};
     const bool may_fill = !directory.cd && !pcd;
     const unsigned wanted = wanted_lanes(address, width);
     const uint32_t lower = address & ~3u;
-    uint64_t words =
-        read_doubleword(directory, lent, lower, wanted & all_lanes, may_fill, board.answers, records);
+    uint64_t words = read_doubleword(directory, lent, lower, wanted & all_lanes, may_fill, answers, records);
     // "the lower one completed first (H)": the upper one may hit in the line that the lower one filled.
     if (wanted > all_lanes) {
-        const uint8_t *answers = board.answers + group_answers;
-        const uint64_t upper =
-            read_doubleword(directory, lent, lower + 4, wanted >> 4, may_fill, answers, records);
+        const uint64_t upper = read_doubleword(
+            directory, lent, lower + 4, wanted >> 4, may_fill, answers + group_answers, records);
         words |= upper << 32;
     }
-    return {0, static_cast<uint32_t>(words >> 8 * (address % 4)), records.count};
+    return {UNIT486_DONE, static_cast<uint32_t>(words >> 8 * (address % 4)), records.count};
 }
 
 // One doubleword of a write. "A miss never fills. With CD = NW = 1 a hit changes the data array and, as
 // a use, the LRU number; RAM and parity stay, with no cycle."
-static void write_doubleword(Directory &directory, const unit486_buffers &lent, uint32_t address,
-    unsigned wanted, uint32_t word, const uint8_t *answers, Records &records)
+static void write_doubleword(Directory &directory, unit486_buffers &lent, uint32_t address, unsigned wanted,
+    uint32_t word, const uint8_t *answers, Records &records)
 {
     const unsigned way = lookup(directory, address);
     if (way != no_way) {
@@ -116,39 +114,38 @@ static void write_doubleword(Directory &directory, const unit486_buffers &lent, 
     write_cycles(lent, address, wanted, word, answers, records);
 }
 
-unit486_result write(Directory &directory, const unit486_buffers &lent, uint32_t address, uint32_t width,
-    uint32_t value, const unit486_board &board)
+unit486_result write(Directory &directory, unit486_buffers &lent, uint32_t address, uint32_t width,
+    uint32_t value, const uint8_t *answers, size_t answers_length, uint32_t *log, size_t log_length)
 {
-    uint32_t number = input_number(lent, address, width, board);
-    if (number == 0)
+    uint32_t number = input_number(lent, address, width, answers, answers_length, log_length);
+    if (number == UNIT486_DONE)
         number = value_number(width, value);
-    if (number == 0)
+    if (number == UNIT486_DONE)
         number = states_number(directory, address, width);
-    if (number != 0)
+    if (number != UNIT486_DONE)
         return {number, 0, 0};
-    Records records{board.log};
+    Records records{log};
     const unsigned wanted = wanted_lanes(address, width);
     const uint32_t lower = address & ~3u;
     const uint64_t words = uint64_t{value} << 8 * (address % 4);
     const uint32_t low = static_cast<uint32_t>(words);
-    write_doubleword(directory, lent, lower, wanted & all_lanes, low, board.answers, records);
+    write_doubleword(directory, lent, lower, wanted & all_lanes, low, answers, records);
     if (wanted > all_lanes) {
-        const uint8_t *answers = board.answers + group_answers;
         const uint32_t high = static_cast<uint32_t>(words >> 32);
-        write_doubleword(directory, lent, lower + 4, wanted >> 4, high, answers, records);
+        write_doubleword(directory, lent, lower + 4, wanted >> 4, high, answers + group_answers, records);
     }
-    return {0, 0, records.count};
+    return {UNIT486_DONE, 0, records.count};
 }
 
 // "An external write puts 1 to 16 bytes of one line into RAM, sets their parity, then snoops. It leaves
 // no record."
 uint32_t external_write(
-    Directory &directory, const unit486_buffers &lent, uint32_t address, const uint8_t *bytes, size_t count)
+    Directory &directory, unit486_buffers &lent, uint32_t address, const uint8_t *bytes, size_t count)
 {
     uint32_t number = external_input_number(lent, address, count);
-    if (number == 0)
+    if (number == UNIT486_DONE)
         number = state_number(directory, set_of(address));
-    if (number != 0)
+    if (number != UNIT486_DONE)
         return number;
     std::memcpy(lent.ram + address, bytes, count);
     // The written lanes of the line's sixteen, four for each doubleword.
@@ -160,13 +157,13 @@ uint32_t external_write(
             store_parity(lent.parity[line / 4 + k], lanes, load(lent.ram + line + 4 * k));
     }
     invalidate(directory, address);
-    return 0;
+    return UNIT486_DONE;
 }
 
 uint32_t view_number(const Directory &directory, const unit486_buffers &lent, uint32_t address)
 {
     const uint32_t number = view_input_number(lent, address);
-    return number != 0 ? number : state_number(directory, set_of(address));
+    return number != UNIT486_DONE ? number : state_number(directory, set_of(address));
 }
 
 // "A line view is a part of the data array where the line is held, otherwise a part of RAM, always the
@@ -174,14 +171,14 @@ uint32_t view_number(const Directory &directory, const unit486_buffers &lent, ui
 uint32_t view(const Directory &directory, const unit486_buffers &lent, uint32_t address, uint8_t *shown)
 {
     const uint32_t number = view_number(directory, lent, address);
-    if (number != 0)
+    if (number != UNIT486_DONE)
         return number;
     const unsigned way = lookup(directory, address);
     const uint32_t line = line_address(address);
     const uint8_t *part =
         way == no_way ? lent.ram + line : lent.data + data_offset(line_index(set_of(address), way), line);
     std::memcpy(shown, part, UNIT486_LINE_BYTES);
-    return 0;
+    return UNIT486_DONE;
 }
 
 // "The block is (address / 1,048,576) mod 16."

@@ -12,12 +12,12 @@ uint32_t control(Directory &directory, bool cd, bool nw);
 void flush(Directory &directory);
 uint32_t snoop(Directory &directory, uint32_t address);
 
-unit486_result read(Directory &directory, const unit486_buffers &lent, uint32_t address, uint32_t width,
-    bool pcd, const unit486_board &board);
-unit486_result write(Directory &directory, const unit486_buffers &lent, uint32_t address, uint32_t width,
-    uint32_t value, const unit486_board &board);
+unit486_result read(Directory &directory, unit486_buffers &lent, uint32_t address, uint32_t width, bool pcd,
+    const uint8_t *answers, size_t answers_length, uint32_t *log, size_t log_length);
+unit486_result write(Directory &directory, unit486_buffers &lent, uint32_t address, uint32_t width,
+    uint32_t value, const uint8_t *answers, size_t answers_length, uint32_t *log, size_t log_length);
 uint32_t external_write(
-    Directory &directory, const unit486_buffers &lent, uint32_t address, const uint8_t *bytes, size_t count);
+    Directory &directory, unit486_buffers &lent, uint32_t address, const uint8_t *bytes, size_t count);
 
 uint32_t view_number(const Directory &directory, const unit486_buffers &lent, uint32_t address);
 uint32_t view(const Directory &directory, const unit486_buffers &lent, uint32_t address, uint8_t *shown);

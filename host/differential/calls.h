@@ -9,7 +9,9 @@
 
 enum class Kind {
     reset,
+    reset_by_value,
     control,
+    control_by_value,
     flush,
     snoop,
     drop_line,
@@ -22,10 +24,10 @@ enum class Kind {
     run,
 };
 
-constexpr size_t kinds = 12;
+constexpr size_t kinds = 14;
 
-constexpr const char *kind_names[kinds] = {"reset", "control", "flush", "snoop", "drop_line",
-    "external_write", "read", "write", "view", "view_number", "board_answers", "run"};
+constexpr const char *kind_names[kinds] = {"reset", "reset_by_value", "control", "control_by_value", "flush",
+    "snoop", "drop_line", "external_write", "read", "write", "view", "view_number", "board_answers", "run"};
 
 // The arguments that are not lent; each call takes those that it receives.
 struct Call {
@@ -41,48 +43,69 @@ struct Call {
 // The result of a call that answers a number alone.
 inline unit486_result number_only(uint32_t number) { return {number, 0, 0}; }
 
+// A call by value with its directory stored.
+inline unit486_result stored(unit486_directory &directory, const unit486_outcome &outcome)
+{
+    directory = outcome.directory;
+    return {outcome.number, outcome.value, outcome.cycles};
+}
+
 inline unit486_result call_library(Side &side, const Call &call)
 {
-    const unit486_buffers lent = side.lent();
-    const unit486_board board = side.board();
+    unit486_buffers lent = side.lent();
     unit486_directory *directory = &side.directory;
     switch (call.kind) {
-    case Kind::reset: return unit486_reset_directory(directory);
-    case Kind::control: return unit486_control_directory(directory, call.cd, call.nw);
-    case Kind::flush: unit486_flush(directory); return number_only(0);
+    case Kind::reset: unit486_reset(directory); return number_only(UNIT486_DONE);
+    case Kind::reset_by_value: return stored(*directory, unit486_reset_by_value());
+    case Kind::control: return number_only(unit486_control(directory, call.cd, call.nw));
+    case Kind::control_by_value:
+        return stored(*directory, unit486_control_by_value(*directory, call.cd, call.nw));
+    case Kind::flush: unit486_flush(directory); return number_only(UNIT486_DONE);
     case Kind::snoop: return number_only(unit486_snoop(directory, call.address));
     case Kind::drop_line: return number_only(unit486_drop_line(directory, call.address));
     case Kind::external_write:
         return number_only(
             unit486_external_write(directory, &lent, call.address, side.bytes.start(), side.bytes.length));
-    case Kind::read: return unit486_read(directory, &lent, call.address, call.width, call.pcd, &board);
-    case Kind::write: return unit486_write(directory, &lent, call.address, call.width, call.value, &board);
-    case Kind::view:
-        return number_only(unit486_line_view(directory, &lent, call.address, side.shown.start()));
-    case Kind::view_number: return number_only(unit486_line_view_number(directory, &lent, call.address));
-    default: unit486_board_answers(call.address, call.width, side.answers.start()); return number_only(0);
+    case Kind::read:
+        return unit486_read(directory, &lent, call.address, call.width, call.pcd, side.answers.start(),
+            side.answers.length, side.log.start(), side.log.length);
+    case Kind::write:
+        return unit486_write(directory, &lent, call.address, call.width, call.value, side.answers.start(),
+            side.answers.length, side.log.start(), side.log.length);
+    case Kind::view: return number_only(unit486_view(directory, &lent, call.address, side.shown.start()));
+    case Kind::view_number: return number_only(unit486_view_number(directory, &lent, call.address));
+    default:
+        unit486_board_answers(call.address, call.width, side.answers.start());
+        return number_only(UNIT486_DONE);
     }
 }
 
 inline unit486_result call_baseline(Side &side, const Call &call)
 {
-    const unit486_buffers lent = side.lent();
-    const unit486_board board = side.board();
+    unit486_buffers lent = side.lent();
     unit486_directory &directory = side.directory;
     switch (call.kind) {
-    case Kind::reset: baseline::reset(directory); return number_only(0);
-    case Kind::control: return number_only(baseline::control(directory, call.cd, call.nw));
-    case Kind::flush: baseline::flush(directory); return number_only(0);
+    case Kind::reset:
+    case Kind::reset_by_value: baseline::reset(directory); return number_only(UNIT486_DONE);
+    case Kind::control:
+    case Kind::control_by_value: return number_only(baseline::control(directory, call.cd, call.nw));
+    case Kind::flush: baseline::flush(directory); return number_only(UNIT486_DONE);
     case Kind::snoop:
     case Kind::drop_line: return number_only(baseline::snoop(directory, call.address));
     case Kind::external_write:
         return number_only(
             baseline::external_write(directory, lent, call.address, side.bytes.start(), side.bytes.length));
-    case Kind::read: return baseline::read(directory, lent, call.address, call.width, call.pcd, board);
-    case Kind::write: return baseline::write(directory, lent, call.address, call.width, call.value, board);
+    case Kind::read:
+        return baseline::read(directory, lent, call.address, call.width, call.pcd, side.answers.start(),
+            side.answers.length, side.log.start(), side.log.length);
+    case Kind::write:
+        return baseline::write(directory, lent, call.address, call.width, call.value, side.answers.start(),
+            side.answers.length, side.log.start(), side.log.length);
     case Kind::view: return number_only(baseline::view(directory, lent, call.address, side.shown.start()));
     case Kind::view_number: return number_only(baseline::view_number(directory, lent, call.address));
-    default: baseline::board_answers(call.address, call.width, side.answers.start()); return number_only(0);
+    default:
+        baseline::board_answers(call.address, call.width, side.answers.start());
+        return number_only(UNIT486_DONE);
     }
 }
 

@@ -77,6 +77,8 @@ template <class... More> constexpr uint32_t bits_of(int number, More... more)
 constexpr uint32_t state_bits = bits_of(21, 22, 23);
 constexpr uint32_t possible_numbers[kinds] = {
     bits_of(0),
+    bits_of(0),
+    bits_of(0, 9),
     bits_of(0, 9),
     bits_of(0),
     bits_of(0) | state_bits,
@@ -114,7 +116,7 @@ public:
         const unit486_directory &before, const Call &call, const unit486_result &result, const Side &side)
     {
         note_number(call.kind, result.number);
-        if (result.number != 0)
+        if (result.number != UNIT486_DONE)
             return;
         const bool held = is_held(before, call.address);
         if (call.kind == Kind::read)
@@ -173,11 +175,11 @@ private:
         uint32_t length = 0;
         for (uint32_t k = 0; k < result.cycles; ++k) {
             const uint32_t flags = side.log.start()[3 * k + 1];
-            const bool fill = flags & UNIT486_FILL;
+            const bool fill = flags & UNIT486_FLAG_FILL;
             ++length;
-            if (flags & UNIT486_WRONG_PARITY)
+            if (flags & UNIT486_FLAG_WRONG_PARITY)
                 note(fill ? wrong_parity_in_fill : wrong_parity_in_plain_read);
-            if (!(flags & UNIT486_LAST))
+            if (!(flags & UNIT486_FLAG_LAST))
                 continue;
             ++(fill ? groups.fills : groups.plain);
             if (fill && length > 4)

@@ -250,7 +250,8 @@ private:
             Kind kind;
         } table[] = {{440, Kind::read}, {680, Kind::write}, {770, Kind::external_write}, {830, Kind::snoop},
             {880, Kind::drop_line}, {920, Kind::view}, {940, Kind::view_number}, {955, Kind::board_answers},
-            {985, Kind::control}, {995, Kind::flush}, {1000, Kind::reset}};
+            {975, Kind::control}, {985, Kind::control_by_value}, {992, Kind::flush}, {997, Kind::reset},
+            {1000, Kind::reset_by_value}};
         size_t k = 0;
         while (roll >= table[k].below)
             ++k;

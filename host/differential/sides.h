@@ -54,8 +54,6 @@ struct Side {
     {
         return {ram.start(), ram.length, parity.start(), parity.length, data.start(), data.length};
     }
-
-    unit486_board board() { return {answers.start(), answers.length, log.start(), log.length}; }
 };
 
 // The first difference of two directories. What follows NW is padding, which no rule names.

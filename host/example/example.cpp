@@ -1,4 +1,4 @@
-// A host's first steps: fill a line, hit it, let another master write, read the new byte.
+// A host's first steps: compare versions, fill a line, hit it, let another master write, read the new byte.
 // Ends with 1 if a step is not as unit486.h says.
 #include <cstdio>
 #include <vector>
@@ -16,44 +16,66 @@ static void expect(const char *step, uint32_t seen, uint32_t documented)
     }
 }
 
-// All that the unit works on is the host's: here 64 KB of zero bytes, with which zero parity agrees, and
-// a board that answers KEN# in every cycle of its lowest blocks.
+// The number that a call answered, with its text where the call was refused.
+static void expect_number(const char *step, uint32_t seen, unit486_number documented)
+{
+    expect(step, seen, documented);
+    if (seen != UNIT486_DONE)
+        std::printf("  refused: %s\n", unit486_number_text(seen));
+}
+
+// All that the unit works on is the host's: here 64 KB of zero bytes, with which zero parity agrees.
 struct Host {
     std::vector<uint8_t> ram, parity, data;
-    uint8_t answers[UNIT486_ANSWERS];
     uint32_t log[UNIT486_LOG_WORDS];
     unit486_directory directory;
     unit486_buffers lent;
-    unit486_board board;
 
     Host() : ram(65536), parity(65536 / 4), data(UNIT486_DATA_BYTES)
     {
-        unit486_reset_directory(&directory);
-        unit486_board_answers(0, 4, answers);
+        unit486_reset(&directory);
         lent = {ram.data(), ram.size(), parity.data(), parity.size(), data.data(), data.size()};
-        board = {answers, UNIT486_ANSWERS, log, UNIT486_LOG_WORDS};
+    }
+
+    // The board is asked for each access, since it answers by address.
+    unit486_result read(uint32_t address, uint32_t width)
+    {
+        uint8_t answers[UNIT486_ANSWERS];
+        unit486_board_answers(address, width, answers);
+        return unit486_read(
+            &directory, &lent, address, width, false, answers, UNIT486_ANSWERS, log, UNIT486_LOG_WORDS);
+    }
+
+    unit486_result write(uint32_t address, uint32_t width, uint32_t value)
+    {
+        uint8_t answers[UNIT486_ANSWERS];
+        unit486_board_answers(address, width, answers);
+        return unit486_write(
+            &directory, &lent, address, width, value, answers, UNIT486_ANSWERS, log, UNIT486_LOG_WORDS);
     }
 };
 
 static constexpr uint32_t address = 0x1234;
+static constexpr uint32_t all_bytes =
+    UNIT486_FLAG_BYTE0 | UNIT486_FLAG_BYTE1 | UNIT486_FLAG_BYTE2 | UNIT486_FLAG_BYTE3;
 
 static void fill_and_hit(Host &host)
 {
-    unit486_result result = unit486_control_directory(&host.directory, false, false);
-    expect("control, CD = NW = 0: number", result.number, 0);
+    expect_number(
+        "control, CD = NW = 0: number", unit486_control(&host.directory, false, false), UNIT486_DONE);
 
-    result = unit486_write(&host.directory, &host.lent, address, 4, 0x11223344, &host.board);
+    unit486_result result = host.write(address, 4, 0x11223344);
     expect("write of 4 bytes, a miss: cycles", result.cycles, 1);
-    expect("  flags of its cycle", host.log[1], 95);
+    expect("  flags of its cycle", host.log[1], all_bytes | UNIT486_FLAG_WRITE | UNIT486_FLAG_LAST);
 
-    result = unit486_read(&host.directory, &host.lent, address, 4, false, &host.board);
+    result = host.read(address, 4);
     expect("read, a fill: cycles", result.cycles, 4);
     expect("  value", result.value, 0x11223344);
     expect("  address of the first cycle", host.log[0], 0x1234);
     expect("  address of the second, in burst order", host.log[3], 0x1230);
-    expect("  flags of the last", host.log[10], 111);
+    expect("  flags of the last", host.log[10], all_bytes | UNIT486_FLAG_FILL | UNIT486_FLAG_LAST);
 
-    result = unit486_read(&host.directory, &host.lent, address, 4, false, &host.board);
+    result = host.read(address, 4);
     expect("the same read, a hit: cycles", result.cycles, 0);
     expect("  value", result.value, 0x11223344);
 }
@@ -61,19 +83,19 @@ static void fill_and_hit(Host &host)
 static void another_master(Host &host)
 {
     const uint8_t byte = 0xAA;
-    const uint32_t number = unit486_external_write(&host.directory, &host.lent, address, &byte, 1);
-    expect("another master's write: number", number, 0);
+    expect_number("another master's write: number",
+        unit486_external_write(&host.directory, &host.lent, address, &byte, 1), UNIT486_DONE);
 
-    unit486_result result = unit486_read(&host.directory, &host.lent, address, 1, false, &host.board);
+    const unit486_result result = host.read(address, 1);
     expect("read of that byte, a fill again: cycles", result.cycles, 4);
     expect("  value", result.value, 0xAA);
 
     uint8_t shown[UNIT486_LINE_BYTES];
-    expect("line view: number", unit486_line_view(&host.directory, &host.lent, address, shown), 0);
-    expect("  the byte in it", shown[address % 16], 0xAA);
+    expect_number(
+        "line view: number", unit486_view(&host.directory, &host.lent, address, shown), UNIT486_DONE);
+    expect("  the byte in it", shown[address % UNIT486_LINE_BYTES], 0xAA);
 
-    result = unit486_read(&host.directory, &host.lent, 65534, 4, false, &host.board);
-    expect("read beyond RAM: number", result.number, 5);
+    expect_number("read beyond RAM: number", host.read(65534, 4).number, UNIT486_BEYOND_RAM);
 }
 
 int main(int argc, char **)
@@ -82,6 +104,9 @@ int main(int argc, char **)
         std::fprintf(stderr, "usage: example\n");
         return 2;
     }
+    expect("version of the library", unit486_version(), UNIT486_VERSION);
+    if (!all_as_documented)
+        return 1;
     Host host;
     fill_and_hit(host);
     another_master(host);

@@ -4,46 +4,36 @@
    nothing between calls: each works on what the caller lends it for the time of that call, so that calls
    on different directories and buffers may run at the same time.
 
+   VERSION. Before its first call a host compares unit486_version() with UNIT486_VERSION: an archive of
+   another version may have another layout, and nothing below is said of it.
+
+   NAMES. unit486_X is the call X on a whole directory, which it changes in place. unit486_X_in_place is
+   the same call on the directory's arrays; unit486_X makes it, inline. unit486_X_by_value takes and
+   gives whole directories, as copies.
+
    WHO OWNS WHAT. All of it is the caller's:
 
-     directory   unit486_directory; a new one comes from unit486_reset (CD = NW = 1, nothing held)
+     directory   unit486_directory; its first call is unit486_reset (CD = NW = 1, nothing held)
      RAM         16 to 16,777,216 bytes, a multiple of 16
      parity      one byte for each four bytes of RAM; bits 0 to 3 are DP0 to DP3, even parity. Zero bytes
                  agree with zero parity; a host that loads RAM itself sets the parity too, or loads by
-                 external writes. Wrong parity sets flag 128 and never alters data
+                 external writes. Wrong parity sets UNIT486_FLAG_WRONG_PARITY and never alters data
      data array  8,192 bytes: the line of a set and a way stands from (set * 4 + way) * 16
      answers     32 bytes, one for each cycle: 1 for KEN# + 2 for BS8# + 4 for BS16#; 0 to 15 serve the
                  lower doubleword of an access, 16 to 31 the upper one
      log         96 words or more; each cycle leaves three: doubleword address, flags, and data, where byte
-                 k of the doubleword stands in bits 8k to 8k + 7 and unmoved bytes are 0
+                 k of the doubleword stands in bits 8k to 8k + 7 and unmoved bytes are 0. Words from
+                 3 * cycles on are unchanged
 
-   Lengths are in elements; a call with a wrong one is refused by its number. Each pointer is aligned as
-   its type asks, not null even where its length is 0, and there for its whole length; nothing that a call
-   may change overlaps anything else lent to it. After the call all of it is the caller's again.
+   What a call may change is lent by a pointer that is not const. Lengths are in elements; a call with a
+   wrong one is refused by its number. Each pointer is aligned as its type asks, not null even where its
+   length is 0, and there for its whole length; nothing that a call may change overlaps anything else lent
+   to it. After the call all of it is the caller's again.
 
-   NUMBERS. 0: done. Else nothing lent has changed, the directory is as it was given, and value and
-   count are 0. Lowest first, 1 to 10 before 21 to 23; where two sets are touched, all of the lower
-   address's set comes before the other. Each only from calls that receive the thing:
-
-      1  length of RAM
-      2  length of the parity array is not RAM / 4
-      3  the data array is not 8,192 bytes
-      4  width is not 1, 2 or 4
-      5  address + width is beyond RAM (a view: the address is not in RAM)
-      6  not 32 answers, or one above 7
-      7  the log is below 96 words
-      8  the value is too large for its width
-      9  control with CD = 0 and NW = 1
-     10  external write: empty, over 16 bytes, across lines, or beyond RAM
-     21  two valid lines of a touched set have one tag
-     22  a valid tag of a touched set is above 2,097,151
-     23  the LRU number of a touched set is above 7
-
-   (11 and 12 are in the rows of unit486_run only: a malformed line, and over 65,536 bytes of input.)
-
-   FLAGS of a cycle: 1, 2, 4, 8 for moved bytes 0 to 3; 16 write; 32 fill; 64 the last cycle made for
-   this doubleword of the access, in a fill only its very last; 128 read with wrong parity in a moved
-   byte. Log words from 3 * cycles on are unchanged. */
+   NUMBERS. Each call but those that are never refused answers one of enum unit486_number. 0: done. Else
+   nothing lent has changed, the directory is as it was given, and value and count are 0. Lowest first, 1
+   to 10 before 21 to 23; where two sets are touched, all of the lower address's set comes before the
+   other. Each only from calls that receive the thing. */
 
 #ifndef UNIT486_H
 #define UNIT486_H
@@ -56,6 +46,9 @@
 #ifdef __cplusplus
 extern "C" {
 #endif
+
+/* Of this header's layout and calls. */
+#define UNIT486_VERSION 5
 
 enum {
     UNIT486_SETS = 128,
@@ -71,11 +64,39 @@ enum {
     UNIT486_OUTPUT_MOST = 2883654 /* bytes that are enough for the output of every input */
 };
 
+enum unit486_number {
+    UNIT486_DONE = 0,
+    UNIT486_WRONG_RAM_LENGTH = 1,
+    UNIT486_WRONG_PARITY_LENGTH = 2,   /* not RAM / 4 */
+    UNIT486_WRONG_DATA_LENGTH = 3,     /* not 8,192 bytes */
+    UNIT486_WRONG_WIDTH = 4,           /* not 1, 2 or 4 */
+    UNIT486_BEYOND_RAM = 5,            /* address + width is beyond RAM; a view: the address is not in RAM */
+    UNIT486_WRONG_ANSWERS = 6,         /* not 32 answers, or one above 7 */
+    UNIT486_SHORT_LOG = 7,             /* below 96 words */
+    UNIT486_LARGE_VALUE = 8,           /* too large for its width */
+    UNIT486_WRONG_CONTROL = 9,         /* CD = 0 and NW = 1 */
+    UNIT486_WRONG_EXTERNAL_WRITE = 10, /* empty, over 16 bytes, across lines, or beyond RAM */
+    UNIT486_MALFORMED_LINE = 11,       /* this and the next are in the rows of unit486_run only */
+    UNIT486_LONG_INPUT = 12,           /* over 65,536 bytes */
+    UNIT486_TWO_OF_ONE_TAG = 21,       /* valid lines of a touched set */
+    UNIT486_LARGE_TAG = 22,            /* a valid tag of a touched set is above 2,097,151 */
+    UNIT486_LARGE_LRU = 23             /* the LRU number of a touched set is above 7 */
+};
+
 /* Bits of an answer. */
 enum { UNIT486_KEN = 1, UNIT486_BS8 = 2, UNIT486_BS16 = 4 };
 
-/* Flags of a cycle; the lower four are the moved bytes. */
-enum { UNIT486_WRITE = 16, UNIT486_FILL = 32, UNIT486_LAST = 64, UNIT486_WRONG_PARITY = 128 };
+/* Flags of a cycle. */
+enum {
+    UNIT486_FLAG_BYTE0 = 1, /* moved bytes of the doubleword */
+    UNIT486_FLAG_BYTE1 = 2,
+    UNIT486_FLAG_BYTE2 = 4,
+    UNIT486_FLAG_BYTE3 = 8,
+    UNIT486_FLAG_WRITE = 16,
+    UNIT486_FLAG_FILL = 32,
+    UNIT486_FLAG_LAST = 64,         /* made for this doubleword of the access; in a fill only its very last */
+    UNIT486_FLAG_WRONG_PARITY = 128 /* in a moved byte, of a read */
+};
 
 /* The line of a set and a way is element set * 4 + way of tags and valid. Whoever stores into valid, cd
    or nw stores 0 or 1. A host that keeps the directory between calls need not look into it. */
@@ -95,7 +116,7 @@ typedef struct unit486_outcome {
     uint32_t cycles;
 } unit486_outcome;
 
-/* What a call on lent arrays answers: the number, a read's value, the count of cycles. */
+/* What a read or a write answers: the number, a read's value, the count of cycles. */
 typedef struct unit486_result {
     uint32_t number;
     uint32_t value;
@@ -122,17 +143,8 @@ static_assert(sizeof(unit486_result) == 12, "layout of a result");
 
 /* ---- The library's functions. tags and valid have 512 elements each, lru has 128. ---- */
 
-/* All 512 lines invalid, tags and LRU numbers 0, CD = NW = 1. Never refused. */
-unit486_outcome unit486_reset(void);
-
-/* CD and NW as given, or 9. With NW = 1 a snoop drops nothing, so that held lines may go stale: that reads
-   agree with memory is not claimed then. */
-unit486_outcome unit486_control(unit486_directory given, bool cd, bool nw);
-
-/* A snoop on the whole directory in the caller's hands: the line that holds the address becomes invalid
-   unless NW = 1. Any address is taken. 0, or 21 to 23. It copies the directory; unit486_snoop, below,
-   changes it in place. */
-uint32_t unit486_drop_line(unit486_directory *directory, uint32_t address);
+/* The library's UNIT486_VERSION. Every version has this call. */
+uint32_t unit486_version(void);
 
 /* A read of 1, 2 or 4 bytes, little-endian; they may lie in two doublewords or two lines. A miss fills its
    line where cd = 0, pcd = 0 and the first cycle has KEN#; the fill is kept where the last has it too. */
@@ -145,7 +157,7 @@ unit486_result unit486_read_in_place(
 /* A write of 1, 2 or 4 bytes: through to RAM and, on a hit, into the data array; with CD = NW = 1 a hit
    stays in the data array. */
 unit486_result unit486_write_in_place(
-    uint32_t *tags, bool *valid, uint8_t *lru, bool cd, bool nw,
+    const uint32_t *tags, const bool *valid, uint8_t *lru, bool cd, bool nw,
     uint8_t *ram, size_t ram_length, uint8_t *parity, size_t parity_length,
     uint8_t *data, size_t data_length, uint32_t address, uint32_t width, uint32_t value,
     const uint8_t *answers, size_t answers_length, uint32_t *log, size_t log_length);
@@ -156,26 +168,42 @@ uint32_t unit486_external_write_in_place(
     uint8_t *ram, size_t ram_length, uint8_t *parity, size_t parity_length,
     uint32_t address, const uint8_t *bytes, size_t bytes_length);
 
-/* A snoop, as unit486_drop_line. */
+/* A snoop: the line that holds the address becomes invalid unless NW = 1. Any address is taken. 0, or 21
+   to 23. */
 uint32_t unit486_snoop_in_place(
     const uint32_t *tags, bool *valid, const uint8_t *lru, bool nw, uint32_t address);
 
 /* A flush: clears the 512 valid marks and nothing else. Never refused. */
 void unit486_flush_in_place(bool *valid);
 
-/* The number of a line view: 1, 3, 5, 21 to 23, or 0. */
-uint32_t unit486_view_number(
-    const uint32_t *tags, const bool *valid, const uint8_t *lru,
-    const uint8_t *ram, size_t ram_length, const uint8_t *data, size_t data_length, uint32_t address);
+/* CD and NW as given, or 9. With NW = 1 a snoop drops nothing, so that held lines may go stale: that reads
+   agree with memory is not claimed then. */
+uint32_t unit486_control_in_place(bool *cd, bool *nw, bool new_cd, bool new_nw);
+
+/* All 512 lines invalid, tags and LRU numbers 0, CD = NW = 1, whatever was there before. Never refused. */
+void unit486_reset_in_place(uint32_t *tags, bool *valid, uint8_t *lru, bool *cd, bool *nw);
 
 /* A line view: the sixteen bytes around the address, of the data array where the line is held,
    otherwise of RAM, copied into shown. The copy is of this moment: later calls do not change it, and
    storing into it changes neither the data array nor RAM. A view is no use of the line. shown has room for
    sixteen bytes. Answers the view's number; where it is not 0, shown is unchanged. */
-uint32_t unit486_view(
+uint32_t unit486_view_in_place(
     const uint32_t *tags, const bool *valid, const uint8_t *lru,
     const uint8_t *ram, size_t ram_length, const uint8_t *data, size_t data_length, uint32_t address,
     uint8_t *shown);
+
+/* The number of a line view: 1, 3, 5, 21 to 23, or 0. */
+uint32_t unit486_view_number_in_place(
+    const uint32_t *tags, const bool *valid, const uint8_t *lru,
+    const uint8_t *ram, size_t ram_length, const uint8_t *data, size_t data_length, uint32_t address);
+
+/* Control and reset that give a whole directory, to be stored by the caller: where control is refused, the
+   given one. */
+unit486_outcome unit486_control_by_value(unit486_directory given, bool cd, bool nw);
+unit486_outcome unit486_reset_by_value(void);
+
+/* The same snoop as unit486_snoop, by way of copies of the directory: document 01's thin call. */
+uint32_t unit486_drop_line(unit486_directory *directory, uint32_t address);
 
 /* The board table's 32 answers for an access, into answers, which has room for 32. Never refused; an access
    of a width other than 1, 2 and 4 has no upper doubleword. */
@@ -190,10 +218,7 @@ size_t unit486_run(const uint8_t *input, size_t input_length, uint8_t *output, s
 }
 #endif
 
-/* ---- The same calls on a whole directory. unit486_X makes the call unit486_X_in_place, but
-   unit486_line_view and unit486_line_view_number make unit486_view and unit486_view_number, and
-   unit486_reset_directory and unit486_control_directory make unit486_reset and unit486_control. Only
-   these two copy the directory. ---- */
+/* ---- The calls on a whole directory. None copies it. ---- */
 
 /* The buffers that a host lends again and again. */
 typedef struct unit486_buffers {
@@ -205,37 +230,29 @@ typedef struct unit486_buffers {
     size_t data_length;
 } unit486_buffers;
 
-/* What the board gives to one access and gets back from it. */
-typedef struct unit486_board {
-    const uint8_t *answers;
-    size_t answers_length;
-    uint32_t *log;
-    size_t log_length;
-} unit486_board;
-
 static inline unit486_result unit486_read(
-    unit486_directory *directory, const unit486_buffers *lent, uint32_t address, uint32_t width, bool pcd,
-    const unit486_board *board)
+    unit486_directory *directory, unit486_buffers *lent, uint32_t address, uint32_t width, bool pcd,
+    const uint8_t *answers, size_t answers_length, uint32_t *log, size_t log_length)
 {
     return unit486_read_in_place(
         directory->tags, directory->valid, directory->lru, directory->cd,
         lent->ram, lent->ram_length, lent->parity, lent->parity_length, lent->data, lent->data_length,
-        address, width, pcd, board->answers, board->answers_length, board->log, board->log_length);
+        address, width, pcd, answers, answers_length, log, log_length);
 }
 
 static inline unit486_result unit486_write(
-    unit486_directory *directory, const unit486_buffers *lent, uint32_t address, uint32_t width,
-    uint32_t value, const unit486_board *board)
+    unit486_directory *directory, unit486_buffers *lent, uint32_t address, uint32_t width, uint32_t value,
+    const uint8_t *answers, size_t answers_length, uint32_t *log, size_t log_length)
 {
     return unit486_write_in_place(
         directory->tags, directory->valid, directory->lru, directory->cd, directory->nw,
         lent->ram, lent->ram_length, lent->parity, lent->parity_length, lent->data, lent->data_length,
-        address, width, value, board->answers, board->answers_length, board->log, board->log_length);
+        address, width, value, answers, answers_length, log, log_length);
 }
 
 /* Receives RAM and parity; the data array in lent is not looked at. */
 static inline uint32_t unit486_external_write(
-    unit486_directory *directory, const unit486_buffers *lent, uint32_t address,
+    unit486_directory *directory, unit486_buffers *lent, uint32_t address,
     const uint8_t *bytes, size_t bytes_length)
 {
     return unit486_external_write_in_place(
@@ -254,45 +271,58 @@ static inline void unit486_flush(unit486_directory *directory)
     unit486_flush_in_place(directory->valid);
 }
 
-/* Receives RAM and the data array; the parity array in lent is not looked at. */
-static inline uint32_t unit486_line_view_number(
-    const unit486_directory *directory, const unit486_buffers *lent, uint32_t address)
+static inline uint32_t unit486_control(unit486_directory *directory, bool cd, bool nw)
 {
-    return unit486_view_number(
-        directory->tags, directory->valid, directory->lru,
-        lent->ram, lent->ram_length, lent->data, lent->data_length, address);
+    return unit486_control_in_place(&directory->cd, &directory->nw, cd, nw);
 }
 
-/* Sixteen bytes into shown. */
-static inline uint32_t unit486_line_view(
+static inline void unit486_reset(unit486_directory *directory)
+{
+    unit486_reset_in_place(
+        directory->tags, directory->valid, directory->lru, &directory->cd, &directory->nw);
+}
+
+/* Sixteen bytes into shown. Receives RAM and the data array; the parity array in lent is not looked at. */
+static inline uint32_t unit486_view(
     const unit486_directory *directory, const unit486_buffers *lent, uint32_t address, uint8_t *shown)
 {
-    return unit486_view(
+    return unit486_view_in_place(
         directory->tags, directory->valid, directory->lru,
         lent->ram, lent->ram_length, lent->data, lent->data_length, address, shown);
 }
 
-/* Stores the directory of an outcome and answers the rest of it. */
-static inline unit486_result unit486_store_outcome(
-    unit486_directory *directory, const unit486_outcome *outcome)
+static inline uint32_t unit486_view_number(
+    const unit486_directory *directory, const unit486_buffers *lent, uint32_t address)
 {
-    unit486_result result = {outcome->number, outcome->value, outcome->cycles};
-    *directory = outcome->directory;
-    return result;
-}
-
-/* A reset; what the directory held before does not matter. */
-static inline unit486_result unit486_reset_directory(unit486_directory *directory)
-{
-    unit486_outcome outcome = unit486_reset();
-    return unit486_store_outcome(directory, &outcome);
-}
-
-static inline unit486_result unit486_control_directory(unit486_directory *directory, bool cd, bool nw)
-{
-    unit486_outcome outcome = unit486_control(*directory, cd, nw);
-    return unit486_store_outcome(directory, &outcome);
+    return unit486_view_number_in_place(
+        directory->tags, directory->valid, directory->lru,
+        lent->ram, lent->ram_length, lent->data, lent->data_length, address);
 }
 /* clang-format on */
+
+/* A number in words. */
+static inline const char *unit486_number_text(uint32_t number)
+{
+    switch (number) {
+    case UNIT486_DONE: return "done";
+    case UNIT486_WRONG_RAM_LENGTH: return "RAM is not 16 to 16,777,216 bytes, a multiple of 16";
+    case UNIT486_WRONG_PARITY_LENGTH: return "the parity array is not a fourth of RAM";
+    case UNIT486_WRONG_DATA_LENGTH: return "the data array is not 8,192 bytes";
+    case UNIT486_WRONG_WIDTH: return "the width is not 1, 2 or 4";
+    case UNIT486_BEYOND_RAM: return "beyond RAM";
+    case UNIT486_WRONG_ANSWERS: return "not 32 answers, or one above 7";
+    case UNIT486_SHORT_LOG: return "the log is below 96 words";
+    case UNIT486_LARGE_VALUE: return "the value is too large for its width";
+    case UNIT486_WRONG_CONTROL: return "control with CD = 0 and NW = 1";
+    case UNIT486_WRONG_EXTERNAL_WRITE:
+        return "external write empty, over 16 bytes, across lines or beyond RAM";
+    case UNIT486_MALFORMED_LINE: return "malformed line";
+    case UNIT486_LONG_INPUT: return "over 65,536 bytes of input";
+    case UNIT486_TWO_OF_ONE_TAG: return "two valid lines of a set have one tag";
+    case UNIT486_LARGE_TAG: return "a valid tag is above 2,097,151";
+    case UNIT486_LARGE_LRU: return "an LRU number is above 7";
+    default: return "no number of this unit";
+    }
+}
 
 #endif

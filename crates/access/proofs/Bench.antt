@@ -9,14 +9,18 @@ use Rattle.memory.specs.Parity.{onesOf, dpOf, laneBit, dpAt, withDp, put, store
 use Rattle.bus.specs.Bus.{sizeLimit, sizeOf, wantedAfter, cyclesOf, burst, lastAnswer, afterCycles}
 use Rattle.bus.specs.Record.{lanesOf, flagsOf, readRecord, writeRecord, wordsOf}
 use Rattle.doubleword.specs.Doubleword.{doublewordsOf, changed}
-use Rattle.reading.specs.Reading.{readHit, readPlain, readFill, readDone}
+use Rattle.reading.specs.Reading.{readHit, readMiss, settled, plainMiss, fillMiss, readDone}
 use Rattle.writing.specs.Writing.{writeThrough, hitArray, writeDone}
 use Rattle.refusal.specs.Refusal.{memoryNumber, lentNumber, anyAbove, argumentNumber, valueNumber, statesNumberIn}
 use Rattle.access.specs.Access.{readOne, writeOne, allOf, readNumber, writeNumber, readAll, writeAll, readCall, writeCall}
 use Rattle.access.specs.Bench.{BenchTable}
 
 pub bench-table : BenchTable
-unfolding lruAfter lruWay lowest lookupIn victimIn sameTags tagsAbove firstNumber stateNumberIn afterUse afterFill afterReset afterControl bytesAt valueOf bytesOf onesOf dpOf laneBit dpAt withDp put stored wrongAt wrongIn sizeLimit sizeOf wantedAfter cyclesOf burst lastAnswer afterCycles lanesOf flagsOf readRecord writeRecord wordsOf doublewordsOf changed readHit readPlain readFill readDone writeThrough hitArray writeDone memoryNumber lentNumber anyAbove argumentNumber valueNumber statesNumberIn readOne writeOne allOf readNumber writeNumber readAll writeAll readCall writeCall
+unfolding lruAfter lruWay lowest lookupIn victimIn sameTags tagsAbove firstNumber stateNumberIn afterUse afterFill afterReset afterControl
+    bytesAt valueOf bytesOf onesOf dpOf laneBit dpAt withDp put stored wrongAt wrongIn sizeLimit sizeOf wantedAfter cyclesOf burst
+    lastAnswer afterCycles lanesOf flagsOf readRecord writeRecord wordsOf doublewordsOf changed readHit plainMiss fillMiss readMiss settled
+    readDone writeThrough hitArray writeDone memoryNumber lentNumber anyAbove argumentNumber valueNumber statesNumberIn readOne writeOne
+    allOf readNumber writeNumber readAll writeAll readCall writeCall
 bench-table =
     record {
       write-at-0 = refl;

@@ -4,7 +4,7 @@ use mathlib.Core.Path.{_≡_, refl, sym, _∙_, ap}
 use mathlib.Core.Bool.{Bool}
 use mathlib.Core.List.{List}
 use native.Mathlib.Omega.{arith}
-use lib.ListN.{length, replicate}
+use lib.ListN.{length}
 use borrow.Author.Tests.{eq-eqb, ne-eqb}
 use Rattle.laws.proofs.Tests.{cond-true, cond-false}
 use Rattle.directory.specs.declared.steps.Directory.{Directory}
@@ -12,14 +12,16 @@ use Rattle.words.specs.Bytes.{valueOf}
 use Rattle.memory.specs.Parity.{Memory}
 use Rattle.doubleword.specs.declared.cursor.AccessCursor.{AccessCursor}
 use Rattle.bus.specs.Groups.{groupCount}
+use Rattle.bus.specs.Record.{logged}
 use Rattle.doubleword.specs.Doubleword.{Doubleword, Done, doublewordsOf}
 use Rattle.refusal.specs.Refusal.{orElse, statesNumberOf, lentNumber, argumentNumber, valueNumber}
 use Rattle.refusal.specs.Outcome.{outcome}
 use Rattle.access.specs.Access.{State, state, Progress, allOf, readOne, writeOne, after, refused, accepted, readNumber, writeNumber, readAll, writeAll, operandOf, readCall, writeCall}
 use Rattle.doubleword.specs.Cursor.{accessBegin, AccessNeeds}
 use Rattle.refusal.proofs.Accepted.{or-zero, zero-or, first-or, or-grouped, lent-accepted, arguments-accepted}
-use Rattle.access.proofs.AccessLoop.{restOf, AccessInvariant, access-invariant-end, ReadInvariant, reading-end}
-use Rattle.access.proofs.Values.{all-length, value-padded}
+use Rattle.access.proofs.AccessLoop.{restOf, AccessInvariant, access-invariant-begin, access-invariant-end}
+use Rattle.access.proofs.WriteLoop.{WriteKept}
+use Rattle.access.proofs.ReadLoop.{ReadKept, ReadInvariant, reading-begin, reading-end}
 
 -- a read and a write by their numbers
 module _ (s : State) (address width : ℕ) where
@@ -39,16 +41,23 @@ module _ (s : State) (address width : ℕ) where
   unfolding writeCall
   write-done value answers log z = cond-true _ _ _ (eq-eqb _ 0 z)
 
+-- what the code has left is what an accepted call leaves
+pub finished : (p : Progress) (d : Directory) (m : Memory) (array log log₀ : List ℕ) (value v cycles : ℕ) →
+    state d m array ≡ p .state → log ≡ logged log₀ 0 (p .records) → cycles ≡ length (p .records) → value ≡ v →
+    after (outcome d 0 value cycles) m array log ≡ accepted v p log₀
+finished p d m array log log₀ value v cycles es el en ev =
+    ap (λ (s : State). after (outcome (s .directory) 0 value cycles) (s .memory) (s .array) log) es
+    ∙ ap (λ (x : ℕ). after (outcome (p .state .directory) 0 x cycles) (p .state .memory) (p .state .array) log) ev
+    ∙ ap (λ (n : ℕ). after (outcome (p .state .directory) 0 v n) (p .state .memory) (p .state .array) log) en
+    ∙ ap (λ (l : List ℕ). after (outcome (p .state .directory) 0 v (length (p .records))) (p .state .memory) (p .state .array) l) el
+
 -- what the loops leave is what an accepted call leaves
 whole : (one : State → Doubleword → Done) (xs : List ℕ) (p : Progress) (cursor : AccessCursor) (d : Directory) (m : Memory) (array log log₀ : List ℕ) (value v : ℕ) →
     cursor .left ≡ 0 → AccessInvariant one xs p log₀ cursor (state d m array) log → value ≡ v →
     after (outcome d 0 value (cursor .cycles)) m array log ≡ accepted v p log₀
 whole one xs p cursor d m array log log₀ value v z g ev =
     let e = access-invariant-end one xs cursor (state d m array) log z g in
-    ap (λ (s : State). after (outcome (s .directory) 0 value (cursor .cycles)) (s .memory) (s .array) log) (e .0)
-    ∙ ap (λ (x : ℕ). after (outcome (p .state .directory) 0 x (cursor .cycles)) (p .state .memory) (p .state .array) log) ev
-    ∙ ap (λ (n : ℕ). after (outcome (p .state .directory) 0 v n) (p .state .memory) (p .state .array) log) (e .2)
-    ∙ ap (λ (l : List ℕ). after (outcome (p .state .directory) 0 v (length (p .records))) (p .state .memory) (p .state .array) l) (e .1)
+    finished p d m array log log₀ value v (cursor .cycles) (e .0) (e .1) (e .2) ev
 
 -- reads and writes: the input's number n, then the later one
 module _ (d : Directory) (m : Memory) (array : List ℕ) (address width : ℕ) (answers log : List ℕ) (n : ℕ)
@@ -61,7 +70,7 @@ module _ (d : Directory) (m : Memory) (array : List ℕ) (address width : ℕ) (
   numbered later = sym (or-grouped (lentNumber (length (m .ram)) (length (m .parity)) (length array)) (argumentNumber (length (m .ram)) address width answers (length log)) later) ∙ ap (λ (x : ℕ). orElse x later) (sym en)
 
   -- what the loops start with
-  pub needs-begin : n ≡ 0 → AccessNeeds (accessBegin address width) (length (m .ram)) (length (m .parity)) (length array) (length answers) (length log) 4
+  pub needs-begin : n ≡ 0 → AccessNeeds (accessBegin address width) (length (m .ram)) (length (m .parity)) (length array) (length answers) (length log)
   needs-begin z =
       let p = or-zero (lentNumber (length (m .ram)) (length (m .parity)) (length array)) _ (sym en ∙ z) in
       let l = lent-accepted _ _ _ (p .0) in
@@ -78,10 +87,12 @@ module _ (d : Directory) (m : Memory) (array : List ℕ) (address width : ℕ) (
         last = omega arith;
         made = omega arith;
         operands = omega (arith, r .four);
-        four = refl;
       }
 
   module _ (pcd : Bool) where
+    pub read-begin : n ≡ 0 → ReadKept pcd answers (allOf (readOne pcd) s (restOf (accessBegin address width) answers)) log array m (accessBegin address width) d array log 0
+    read-begin z = record { reading = reading-begin pcd answers (accessBegin address width) s log refl refl; needs = needs-begin z; arrays = refl; logs = refl }
+
     read-number : readNumber s address width answers log ≡ orElse n (statesNumberOf d address width)
     unfolding readNumber
     read-number = numbered (statesNumberOf d address width)
@@ -96,20 +107,30 @@ module _ (d : Directory) (m : Memory) (array : List ℕ) (address width : ℕ) (
       pub read-state-refused : (bad ≡ 0 → ⊥) → refused bad s log ≡ readCall s address width pcd answers log
       read-state-refused h = read-turned bad (read-number ∙ zero-or n _ z ∙ sym eb) h
 
-      pub read-made : bad ≡ 0 → (cursor : AccessCursor) (d′ : Directory) (array′ log′ operand : List ℕ) (value : ℕ) → cursor .left ≡ 0 →
-          ReadInvariant pcd answers (allOf (readOne pcd) s (restOf (accessBegin address width) answers)) log (replicate 4 0) cursor (state d′ m array′) log′ operand →
-          value ≡ valueOf operand →
+      pub read-accepted : bad ≡ 0 → readCall s address width pcd answers log ≡ accepted (valueOf (readAll s address width pcd answers .bytes)) (readAll s address width pcd answers) log
+      read-accepted b = read-done s address width pcd answers log (read-number ∙ zero-or n _ z ∙ sym eb ∙ b)
+
+      pub read-made : bad ≡ 0 → (cursor : AccessCursor) (d′ : Directory) (array′ log′ : List ℕ) (value : ℕ) → cursor .left ≡ 0 →
+          ReadInvariant pcd answers (allOf (readOne pcd) s (restOf (accessBegin address width) answers)) log cursor (state d′ m array′) log′ value →
           after (outcome d′ 0 value (cursor .cycles)) m array′ log′ ≡ readCall s address width pcd answers log
       unfolding readCall readAll restOf
-      read-made b cursor d′ array′ log′ operand value e g ev =
+      read-made b cursor d′ array′ log′ value e g =
           let p = allOf (readOne pcd) s (doublewordsOf groupCount answers address width 0) in
-          let l = all-length pcd groupCount answers address width 0 s in
-          let four = needs-begin z .operands in
-          let o = reading-end pcd answers cursor (state d′ m array′) log′ operand e g in
-          whole (readOne pcd) answers p cursor d′ m array′ log′ log value (valueOf (p .bytes)) e (g .invariant) (ev ∙ ap valueOf o ∙ value-padded (p .bytes) (omega arith))
+          whole (readOne pcd) answers p cursor d′ m array′ log′ log value (valueOf (p .bytes)) e (g .invariant) (reading-end pcd answers cursor (state d′ m array′) log′ value e g)
           ∙ sym (cond-true _ _ _ (eq-eqb _ 0 (read-number ∙ zero-or n _ z ∙ sym eb ∙ b)))
 
   module _ (value : ℕ) where
+    pub write-begin : n ≡ 0 → WriteKept (operandOf value) answers (allOf (writeOne (operandOf value)) s (restOf (accessBegin address width) answers)) log array m (accessBegin address width) d m array log
+    write-begin z =
+        record {
+          writing = access-invariant-begin (writeOne (operandOf value)) answers (accessBegin address width) s log refl;
+          needs = needs-begin z;
+          rams = refl;
+          parities = refl;
+          arrays = refl;
+          logs = refl;
+        }
+
     write-number : writeNumber s address width value answers log ≡ orElse n (orElse (valueNumber width value) (statesNumberOf d address width))
     unfolding writeNumber
     write-number = numbered (orElse (valueNumber width value) (statesNumberOf d address width))
@@ -120,17 +141,21 @@ module _ (d : Directory) (m : Memory) (array : List ℕ) (address width : ℕ) (
     pub write-input-refused : (n ≡ 0 → ⊥) → refused n s log ≡ writeCall s address width value answers log
     write-input-refused h = write-turned n (write-number ∙ first-or n _ h) h
 
-    module _ (z : n ≡ 0) (bad large states : ℕ) (el : large ≡ valueNumber width value) (es : states ≡ statesNumberOf d address width) (eb : bad ≡ orElse large states) where
-      later : bad ≡ orElse (valueNumber width value) (statesNumberOf d address width)
-      later = eb ∙ rw (el, es)
+    module _ (z : n ≡ 0) (large : ℕ) (el : large ≡ valueNumber width value) where
+      later : (k : ℕ) → orElse large (statesNumberOf d address width) ≡ k → writeNumber s address width value answers log ≡ k
+      later k e = write-number ∙ zero-or n _ z ∙ ap (λ (x : ℕ). orElse x (statesNumberOf d address width)) (sym el) ∙ e
 
-      pub write-later-refused : (bad ≡ 0 → ⊥) → refused bad s log ≡ writeCall s address width value answers log
-      write-later-refused h = write-turned bad (write-number ∙ zero-or n _ z ∙ sym later) h
+      pub write-value-refused : (large ≡ 0 → ⊥) → refused large s log ≡ writeCall s address width value answers log
+      write-value-refused h = write-turned large (later large (first-or large _ h)) h
 
-      pub write-made : bad ≡ 0 → (cursor : AccessCursor) (d′ : Directory) (m′ : Memory) (array′ log′ : List ℕ) → cursor .left ≡ 0 →
-          AccessInvariant (writeOne (operandOf value)) answers (allOf (writeOne (operandOf value)) s (restOf (accessBegin address width) answers)) log cursor (state d′ m′ array′) log′ →
-          after (outcome d′ 0 0 (cursor .cycles)) m′ array′ log′ ≡ writeCall s address width value answers log
-      unfolding writeCall writeAll restOf
-      write-made b cursor d′ m′ array′ log′ e g =
-          whole (writeOne (operandOf value)) answers (allOf (writeOne (operandOf value)) s (doublewordsOf groupCount answers address width 0)) cursor d′ m′ array′ log′ log 0 0 e g refl
-          ∙ sym (cond-true _ _ _ (eq-eqb _ 0 (write-number ∙ zero-or n _ z ∙ sym later ∙ b)))
+      module _ (l : large ≡ 0) (bad : ℕ) (eb : bad ≡ statesNumberOf d address width) where
+        pub write-state-refused : (bad ≡ 0 → ⊥) → refused bad s log ≡ writeCall s address width value answers log
+        write-state-refused h = write-turned bad (later bad (zero-or large _ l ∙ sym eb)) h
+
+        pub write-made : bad ≡ 0 → (cursor : AccessCursor) (d′ : Directory) (m′ : Memory) (array′ log′ : List ℕ) → cursor .left ≡ 0 →
+            AccessInvariant (writeOne (operandOf value)) answers (allOf (writeOne (operandOf value)) s (restOf (accessBegin address width) answers)) log cursor (state d′ m′ array′) log′ →
+            after (outcome d′ 0 0 (cursor .cycles)) m′ array′ log′ ≡ writeCall s address width value answers log
+        unfolding writeCall writeAll restOf
+        write-made b cursor d′ m′ array′ log′ e g =
+            whole (writeOne (operandOf value)) answers (allOf (writeOne (operandOf value)) s (doublewordsOf groupCount answers address width 0)) cursor d′ m′ array′ log′ log 0 0 e g refl
+            ∙ sym (cond-true _ _ _ (eq-eqb _ 0 (later 0 (zero-or large _ l ∙ sym eb ∙ b))))

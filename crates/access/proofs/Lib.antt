@@ -1,5 +1,8 @@
 -- Laws that several proofs cite.
-mod Values
+pub mod Values
 pub mod AccessLoop
+pub mod ReadLoop
+pub mod WriteLoop
+pub mod InPlace
 pub mod Calls
 pub mod Bench

@@ -1,7 +1,17 @@
-// Reads and writes by value: the calls for every input.
+// Reads and writes, by value and in place: the calls for every input, and the doublewords of an accepted one in place.
 // RAM, parity array, data array, answers and log are lent by the caller.
+mod accepted;
 mod read_call;
+mod reading_in_place;
+mod result;
 mod write_call;
+mod writing_in_place;
 
+pub use accepted::read_accepted;
+pub use accepted::write_accepted;
 pub use read_call::read;
+pub use reading_in_place::read_in_place;
+pub use result::CallResult;
+pub use result::number_only;
 pub use write_call::write;
+pub use writing_in_place::write_in_place;

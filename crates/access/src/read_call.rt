@@ -1,4 +1,4 @@
-// The read call.
+// The read call by value.
 ghost use mathlib.Core.Path.{_≡_};
 ghost use Rattle.memory.specs.Parity.{memory};
 ghost use Rattle.access.specs.Access.{after, readCall, state};
@@ -7,11 +7,11 @@ use doubleword::AccessCursor;
 use doubleword::Change;
 use doubleword::changed_by;
 use reading::read_next;
+use reading::with_part;
 use refusal::Outcome;
 use refusal::input_number;
 use refusal::refused;
 use refusal::states_number;
-use words::word_of;
 
 pub fn read(
     mut given: Directory,
@@ -35,10 +35,10 @@ pub fn read(
     if bad != 0 {
         return refused(given, bad);
     }
-    let mut operand = [0u8; 4];
+    let mut value: u32 = 0;
     let mut cursor = AccessCursor::begin(address, width);
     while 0 < cursor.left {
-        let done = read_next(
+        let next = read_next(
             &given.tags,
             &given.valid,
             &given.lru,
@@ -48,20 +48,20 @@ pub fn read(
             data,
             answers,
             log,
-            &mut operand,
             cursor,
         );
-        let change = done.change;
+        let change = next.change;
         match change {
             Change::Unchanged => {}
-            _ => given = changed_by(given, done.line, change),
+            _ => given = changed_by(given, next.line, change),
         }
-        cursor = cursor.next(done.count, done.cycles);
+        value = with_part(value, cursor.place, next.value);
+        cursor = cursor.next(next.count, next.cycles);
     }
     Outcome {
         directory: given,
         number: 0,
-        value: word_of(operand),
+        value,
         cycles: cursor.cycles as u32,
     }
 }

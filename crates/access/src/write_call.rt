@@ -1,4 +1,4 @@
-// The write call.
+// The write call by value.
 ghost use mathlib.Core.Path.{_≡_};
 ghost use Rattle.memory.specs.Parity.{memory};
 ghost use Rattle.access.specs.Access.{after, state, writeCall};
@@ -8,11 +8,9 @@ use doubleword::Change;
 use doubleword::changed_by;
 use refusal::Outcome;
 use refusal::input_number;
-use refusal::or_else;
 use refusal::refused;
 use refusal::states_number;
 use refusal::value_number;
-use words::bytes_of;
 use writing::write_next;
 
 pub fn write(
@@ -33,15 +31,17 @@ pub fn write(
     if number != 0 {
         return refused(given, number);
     }
-    let states = states_number(&given.tags, &given.valid, &given.lru, address, width);
-    let bad = or_else(value_number(width, value), states);
+    let large = value_number(width, value);
+    if large != 0 {
+        return refused(given, large);
+    }
+    let bad = states_number(&given.tags, &given.valid, &given.lru, address, width);
     if bad != 0 {
         return refused(given, bad);
     }
-    let operand = bytes_of(value);
     let mut cursor = AccessCursor::begin(address, width);
     while 0 < cursor.left {
-        let done = write_next(
+        let next = write_next(
             &given.tags,
             &given.valid,
             given.cd & given.nw,
@@ -50,15 +50,15 @@ pub fn write(
             data,
             answers,
             log,
-            &operand,
+            value,
             cursor,
         );
-        let change = done.change;
+        let change = next.change;
         match change {
             Change::Unchanged => {}
-            _ => given = changed_by(given, done.line, change),
+            _ => given = changed_by(given, next.line, change),
         }
-        cursor = cursor.next(done.count, done.cycles);
+        cursor = cursor.next(next.count, next.cycles);
     }
     Outcome {
         directory: given,

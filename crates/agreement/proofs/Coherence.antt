@@ -20,7 +20,7 @@ use Rattle.doubleword.specs.Doubleword.{dataOffset}
 use Rattle.access.specs.Access.{State}
 use Rattle.refusal.proofs.Accepted.{GoodMemory}
 use Rattle.words.proofs.Places.{sets-below, sets-above, sets-in}
-use Rattle.agreement.proofs.Bytes.{bytes-same}
+use Rattle.words.proofs.Spans.{bytes-same}
 
 -- the address of a line, by its set and tag
 abbrev pub addressOf : ℕ → ℕ → ℕ

@@ -10,8 +10,8 @@ use Rattle.words.specs.Bytes.{bytesAt}
 use Rattle.bus.specs.Groups.{groupSize}
 use Rattle.doubleword.specs.Doubleword.{Doubleword, doublewordsOf}
 use Rattle.words.proofs.Places.{bytes-length}
-use Rattle.agreement.proofs.Bytes.{bytes-split}
-use Rattle.agreement.proofs.Cycles.{OneDoubleword}
+use Rattle.words.proofs.Spans.{bytes-split}
+use Rattle.cycles.proofs.Brought.{OneDoubleword}
 
 -- a doubleword of an accepted access, in a memory of so many bytes
 pub record Proper (size : ℕ) (w : Doubleword) : Type 0 where

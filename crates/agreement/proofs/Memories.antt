@@ -2,9 +2,8 @@
 use Prim.Native.Nat.{ℕ, zero, suc, _+_, _*_, _/_, _%_, _≤_, _<_}
 use mathlib.Core.Path.{_≡_, refl, _∙_}
 use mathlib.Core.Bool.{false}
-use mathlib.Core.List.{List, [], _∷_, _++_}
+use mathlib.Core.List.{List, [], _∷_}
 use native.Mathlib.Omega.{arith}
-use native.Mathlib.Nat.{add-zero}
 use lib.ListN.{length, set, length-set}
 use lib.Seq.{sets, getD-set-same, getD-set-other}
 use borrow.Author.Tests.{eq-eqb}
@@ -94,13 +93,6 @@ stored-agrees m a [] l z g = g
 stored-agrees m a (b ∷ x) l z g =
     let k = put-lengths m a b in
     stored-agrees (put m a b) (suc a) x (rw (k .0) (omega arith)) (rw (k .0, k .1) z) (put-agrees m a b (omega arith) (omega arith) g)
-
-pub stored-append : (m : Memory) (a : ℕ) (x y : List ℕ) → stored m a (x ++ y) ≡ stored (stored m a x) (a + length x) y
-unfolding stored
-stored-append m a [] y = rw (add-zero a)
-stored-append m a (b ∷ x) y =
-    let e : a + suc (length x) ≡ suc a + length x = omega arith in
-    rw e (stored-append (put m a b) (suc a) x y)
 
 -- where parity agrees no byte is wrong
 pub never-wrong : (m : Memory) → Agrees m → (a n : ℕ) → a + n ≤ length (m .ram) → wrongIn m a n ≡ false

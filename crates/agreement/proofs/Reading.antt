@@ -21,11 +21,12 @@ use Rattle.bus.specs.Bus.{ken, burst, lastAnswer}
 use Rattle.bus.specs.Record.{plainKind, fillKind}
 use Rattle.doubleword.specs.declared.change.Change.the-variants.{Unchanged, Fill}
 use Rattle.doubleword.specs.Doubleword.{Doubleword, Done, changed, dataOffset, plainCycles}
-use Rattle.reading.specs.Reading.{fillCycles, bufferOf, readHit, readPlain, readFill, readDone}
+use Rattle.reading.specs.Reading.{fillCycles, bufferOf, readHit, plainMiss, fillMiss, readMiss, settled, readDone}
 use Rattle.access.specs.Access.{State, state, Progress, readOne, next, allOf}
 use Rattle.words.proofs.Places.{bytes-at, bytes-length}
-use Rattle.agreement.proofs.Bytes.{bytes-same}
-use Rattle.agreement.proofs.Cycles.{NoParityErrors, no-error-append, no-error-reads, cycles-within, burst-each, fill-buffer, wanted-bytes}
+use Rattle.words.proofs.Spans.{bytes-same}
+use Rattle.cycles.proofs.Brought.{burst-each, fill-buffer, wanted-bytes}
+use Rattle.agreement.proofs.Cycles.{NoParityErrors, no-error-append, no-error-reads, cycles-within}
 use Rattle.agreement.proofs.Coherence.{Lines, NwInvariant, Coherent, fewer-lines, held-bytes, filled-lines}
 use Rattle.agreement.proofs.Doublewords.{Proper, EachProper, wantedBytes, allWanted}
 
@@ -69,8 +70,11 @@ module _ (s : State) (m : List ℕ) (c : Coherent s m) (w : Doubleword) (ok : Pr
         no-error = tt;
       }
 
-  read-plain : ReadMatches s m w (readPlain (s .memory) (s .array) w)
-  unfolding readPlain changed
+  abbrev victim : ℕ
+  victim = victimOf d (setOf (w .line))
+
+  read-plain : ReadMatches s m w (settled victim (s .memory) (s .array) w (plainMiss (s .memory) w))
+  unfolding settled plainMiss changed
   read-plain =
       record {
         coherent = coherent-with s m c d (c .formed) (c .nw) (s .array) (c .arrayLength) (c .lines);
@@ -87,9 +91,6 @@ module _ (s : State) (m : List ℕ) (c : Coherent s m) (w : Doubleword) (ok : Pr
       fill-buffer (s .memory .ram) (w .line) (w .wanted .from / 4) (w .answers) (ok .enough) o l
       ∙ ap (λ (z : List ℕ). getD z (w .line + o) 0) (c .rams)
 
-  abbrev victim : ℕ
-  victim = victimOf d (setOf (w .line))
-
   -- a kept fill: only with CD = 0, so NW = 0
   kept-coherent : lookupOf d (w .line) ≡ Nothing → d .cd ≡ false →
       Coherent (state (afterFill d (setOf (w .line)) victim (tagOf (w .line))) (s .memory) (sets (s .array) (dataOffset (w .line) victim) (bytesAt buffer 0 16))) m
@@ -105,8 +106,8 @@ module _ (s : State) (m : List ℕ) (c : Coherent s m) (w : Doubleword) (ok : Pr
       (filled-lines d (c .formed) m (s .array) (c .lines) (w .line) victim (ok .aligned) (ok .inside) (c .arrayLength) vl (bytesAt buffer 0 16) (bytes-length buffer 0 16)
       (λ o l. bytes-at buffer 0 16 o l ∙ buffer-is (0 + o) (omega arith) ∙ ap (λ (i : ℕ). getD m (w .line + i) 0) (omega arith)))
 
-  read-fill : lookupOf d (w .line) ≡ Nothing → d .cd ≡ false → ReadMatches s m w (readFill victim (s .memory) (s .array) w)
-  unfolding readFill changed
+  read-fill : lookupOf d (w .line) ≡ Nothing → d .cd ≡ false → ReadMatches s m w (settled victim (s .memory) (s .array) w (fillMiss (s .memory) w))
+  unfolding settled fillMiss changed
   read-fill e enabled =
       record {
         coherent =
@@ -121,10 +122,10 @@ module _ (s : State) (m : List ℕ) (c : Coherent s m) (w : Doubleword) (ok : Pr
       }
 
   read-found : (mayFill : Bool) → (mayFill ≡ true → d .cd ≡ false) → (f : Found) → lookupOf d (w .line) ≡ f → ReadMatches s m w (readDone f victim mayFill (s .memory) (s .array) w)
-  unfolding readDone
+  unfolding readDone readMiss
   read-found mayFill enabled (At way) e = read-hit way e
   read-found mayFill enabled Nothing e =
-      by-test (λ b. (mayFill && ken (getD (w .answers) 0 0)) ≡ b → ReadMatches s m w (cond b (readFill victim (s .memory) (s .array) w) (readPlain (s .memory) (s .array) w)))
+      by-test (λ b. (mayFill && ken (getD (w .answers) 0 0)) ≡ b → ReadMatches s m w (settled victim (s .memory) (s .array) w (cond b (fillMiss (s .memory) w) (plainMiss (s .memory) w))))
       (mayFill && ken (getD (w .answers) 0 0))
       (λ _ h. read-fill e (enabled (both mayFill _ h .0)))
       (λ _ _. read-plain)

@@ -29,7 +29,8 @@ use Rattle.views.proofs.Viewing.{view-refused, view-done}
 use Rattle.agreement.specs.Calls.{Call, read, write, external, snoop, flush, control, view, reset, Step, callStep, directoryStep, step, nextState, viewNumberOf}
 use Rattle.agreement.specs.Plain.{Plain, plainAccepted, plainRefused, plainNumber, plainDone, plain}
 use Rattle.agreement.specs.Agreement.{NoParityError, setsNw}
-use Rattle.agreement.proofs.Bytes.{bytes-same, operand-bytes}
+use Rattle.words.proofs.Spans.{bytes-same}
+use Rattle.agreement.proofs.Bytes.{operand-bytes}
 use Rattle.agreement.proofs.Cycles.{logged-no-error}
 use Rattle.agreement.proofs.Coherence.{Lines, Empty, NwInvariant, Coherent, fewer-lines, no-lines, line-around}
 use Rattle.agreement.proofs.Doublewords.{doublewords-proper, doublewords-wanted, doublewords-written}

@@ -24,7 +24,8 @@ use Rattle.access.specs.Access.{State, state, Progress, writeOne, next, allOf}
 use Rattle.words.proofs.Places.{bytes-length}
 use Rattle.memory.proofs.Bits.{stored-lengths}
 use Rattle.agreement.proofs.Memories.{stored-ram, stored-agrees}
-use Rattle.agreement.proofs.Cycles.{NoParityErrors, no-error-append, no-error-writes, cycles-within, wanted-stored}
+use Rattle.cycles.proofs.Stored.{wanted-stored}
+use Rattle.agreement.proofs.Cycles.{NoParityErrors, no-error-append, no-error-writes, cycles-within}
 use Rattle.agreement.proofs.Coherence.{Lines, NwInvariant, Coherent, line-set, line-tag, stored-miss, stored-hit}
 use Rattle.agreement.proofs.Doublewords.{Proper, EachProper, givenOf, memoryWritten, allWritten}
 use Rattle.agreement.proofs.Reading.{use-nw, use-lines}

@@ -1,29 +1,42 @@
 -- The flags of moved bytes, and a record's words in the log.
-use Prim.Native.Nat.{ℕ, zero, suc, _+_, _*_, _≤_}
-use mathlib.Core.Path.{_≡_, refl}
-use mathlib.Core.List.{List, [], _∷_}
+use Prim.Native.Nat.{ℕ, zero, suc, _+_, _*_, _-_, _%_, _^_, _≤_, _<_}
+use mathlib.Core.Path.{_≡_, refl, sym, _∙_, ap}
+use mathlib.Core.List.{List, [], _∷_, _++_}
 use native.Mathlib.Omega.{arith}
-use native.Mathlib.Nat.{pow-suc}
+use native.Mathlib.Nat.{pow-suc, add-zero, zero-add, add-comm, one-mul, mod-eq-of-lt}
 use lib.ListN.{length, set}
+use lib.Pow.{pow-pos, pow-mono, high-ones, shl-exact}
 use lib.Seq.{sets}
-use Rattle.bus.specs.Record.{Record, lanesOf, wordsOf}
+use Rattle.laws.proofs.Lists.{sets-append}
+use Rattle.bus.specs.Record.{Record, lanesOf, wordsOf, logged}
 
--- The flags of as many bytes from the next lane on.
-pub lanes-next : (lane n : ℕ) → lanesOf (suc lane) n ≡ lanesOf lane n * 2
+-- The flags of moved bytes by powers of two.
+pub lanes-power : (n lane : ℕ) → lanesOf lane n + 2 ^ lane ≡ 2 ^ (lane + n)
 unfolding lanesOf
-lanes-next lane zero = refl
-lanes-next lane (suc n) = omega (arith, pow-suc 2 lane, lanes-next (suc lane) n)
+lanes-power zero lane = rw (add-zero lane, zero-add)
+lanes-power (suc n) lane =
+    let e : lane + suc n ≡ suc lane + n = omega arith in
+    let h = lanes-power n (suc lane) in
+    rw e (omega (arith, pow-suc 2 lane, h))
 
--- The flags of bytes from lane 2 on, and from lane 3 on, by the flags of as many from lane 0 on.
-pub lanes-by-four : (n : ℕ) → lanesOf 2 n ≡ lanesOf 0 n * 4
-lanes-by-four n = omega (arith, lanes-next 0 n, lanes-next 1 n)
+-- They stay below 16.
+pub lanes-below : (lane n : ℕ) → lane + n ≤ 4 → lanesOf lane n ≤ 15
+lanes-below lane n h =
+    let a = lanes-power n lane in
+    let b = pow-pos lane in
+    let c : 2 ^ (lane + n) ≤ 2 ^ 4 = pow-mono h in
+    omega arith
 
-pub lanes-by-eight : (lane n : ℕ) → 3 ≤ lane → lane + n ≤ 4 → lanesOf lane n ≡ lanesOf 0 n * 8
-unfolding lanesOf
-lanes-by-eight lane zero h b = refl
-lanes-by-eight lane (suc n) h b =
-    let e : lane ≡ 3 = omega arith in
-    rw e (omega (arith, lanes-next 0 (suc n), lanes-next 1 (suc n), lanes-next 2 (suc n)))
+-- A 1 shifted in a number of so many bits.
+pub one-shl : (w n : ℕ) → n < w → 1 * 2 ^ n % 2 ^ w ≡ 2 ^ n
+one-shl w n h = shl-exact {a = 1} 1 n w (omega arith) (omega arith) ∙ one-mul (2 ^ n)
+
+-- The flags of moved bytes by shifts of 32 bits.
+pub lanes-shifted : (lane n : ℕ) → lane + n ≤ 4 → (1 * 2 ^ n % 2 ^ 32 - 1) * 2 ^ lane % 2 ^ 32 ≡ lanesOf lane n
+lanes-shifted lane n h =
+    let e : 1 * 2 ^ n % 2 ^ 32 ≡ 2 ^ n = one-shl 32 n (omega arith) in
+    let f : (2 ^ n - 1) * 2 ^ lane ≡ lanesOf lane n = sym (high-ones n lane) ∙ ap (λ (k : ℕ). 2 ^ k - 2 ^ lane) (add-comm n lane) ∙ omega (arith, lanes-power n lane) in
+    rw (e, f) (mod-eq-of-lt (omega (arith, lanes-below lane n h)))
 
 -- Three words put one after another.
 pub three-words : (l : List ℕ) (i a b c : ℕ) → set (set (set l i a) (i + 1) b) (i + 2) c ≡ sets l i (a ∷ b ∷ c ∷ [])
@@ -37,3 +50,14 @@ pub words-length : (rs : List Record) → length (wordsOf rs) ≡ 3 * length rs
 unfolding wordsOf
 words-length [] = refl
 words-length (r ∷ rs) = omega (arith, words-length rs)
+
+-- Records put one after another.
+words-append : (a b : List Record) → wordsOf (a ++ b) ≡ wordsOf a ++ wordsOf b
+unfolding wordsOf
+words-append [] b = refl
+words-append (r ∷ a) b = rw (words-append a b)
+
+pub logged-append : (log : List ℕ) (first : ℕ) (a b : List Record) → logged log first (a ++ b) ≡ logged (logged log first a) (first + length a) b
+logged-append log first a b =
+    let e : 3 * first + length (wordsOf a) ≡ 3 * (first + length a) = omega (arith, words-length a) in
+    rw (words-append a b) (rw e at (sets-append log (3 * first) (wordsOf a) (wordsOf b)))

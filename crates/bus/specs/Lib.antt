@@ -1,6 +1,6 @@
 -- The bus by document 01, in its order: what a reader must believe of this crate.
--- `Cursor` alone is no rule: it says what the code's own cursor between cycles stands for.
+-- `Runs` alone is no rule: it takes the cycles of wanted bytes apart, run by run.
 pub mod Groups
 pub mod Bus
 pub mod Record
-pub mod Cursor
+pub mod Runs

@@ -6,32 +6,13 @@ ghost use Prim.Native.Nat.{_+_, _*_, _≤_};
 ghost use lib.ListN.{length};
 ghost use Rattle.bus.specs.Record.{flagsOf, lanesOf, logged};
 
-// The flags of so many bytes from lane 0 on.
-fn low_lanes(count: usize) -> u32
-    requires { ⌜ count ≤ 4 ⌝ }
-    ensures { λ r. ⌜ (r ≡ lanesOf 0 count) × (r ≤ 15) ⌝ }
-{
-    match count {
-        0 => 0,
-        1 => 1,
-        2 => 3,
-        3 => 7,
-        _ => 15,
-    }
-}
-
-// The flags of moved bytes: so many from a lane on.
+// The flags of moved bytes: so many from a lane on. With no branch on either.
 fn lanes_of(lane: usize, count: usize) -> u32
     requires { ⌜ lane + count ≤ 4 ⌝ }
-    ensures { λ r. ⌜ (r ≡ lanesOf lane count) × (r ≤ 120) ⌝ }
+    ensures { λ r. ⌜ (r ≡ lanesOf lane count) × (r ≤ 15) ⌝ }
 {
-    let low = low_lanes(count);
-    match lane {
-        0 => low,
-        1 => low * 2,
-        2 => low * 4,
-        _ => low * 8,
-    }
+    let end: u32 = 1 << count;
+    (end - 1) << lane
 }
 
 fn flag_if(on: bool, flag: u32) -> u32

@@ -1,2 +1,7 @@
 -- Laws that several proofs cite.
-mod CycleLoop
+pub mod Parity
+pub mod Made
+pub mod Records
+pub mod Loops
+pub mod Brought
+pub mod Stored

@@ -1,2 +1,4 @@
--- No rule: what the loops over the cycles of `bus` leave.
-pub mod CycleLoop
+-- No rule: what the code of cycles needs, the records that it makes from numbers, and what it leaves.
+pub mod Parts
+pub mod Made
+pub mod Sent

@@ -1,13 +1,13 @@
 -- The laws that the layer above works from: what a lookup finds before and after each step, and what each step keeps.
 use Prim.Native.Nat.{ℕ, _^_, _≤_, _<_}
-use mathlib.Core.Path.{_≡_, refl, sym, _∙_}
-use mathlib.Core.Bool.{Bool, true, false}
+use mathlib.Core.Path.{_≡_, refl, sym, _∙_, ap}
+use mathlib.Core.Bool.{Bool, true, false, not, _&&_}
 use mathlib.Core.Logic.{_⊎_, inl, inr, ⊎-elim}
 use native.Mathlib.Omega.{arith}
 use lib.Dec.{eqb}
 use lib.ListN.{length, length-set, getD-replicate}
 use lib.Seq.{getD-set-same, getD-set-other}
-use borrow.Author.Tests.{eqb-true, eq-eqb, ne-eqb}
+use borrow.Author.Tests.{eqb-true, eq-eqb, ne-eqb, not-true, not-false}
 use Rattle.directory.specs.declared.steps.Directory.{Directory}
 use Rattle.ways.specs.declared.ways.Found.{Found}
 use Rattle.ways.specs.declared.ways.Found.the-variants.{At, Nothing}
@@ -351,3 +351,19 @@ module _ (d : Directory) (a : ℕ) where
   pub snoop-refused : (stateNumberOf d (setOf a) ≡ 0 → ⊥) → snoopCall d a ≡ directoryResult d (stateNumberOf d (setOf a))
   unfolding snoopCall
   snoop-refused n = cond-false _ _ _ (ne-eqb _ 0 n)
+
+  -- by the number of the set's state: where it is not 0, or NW = 1, nothing changes
+  module _ (n : ℕ) (en : n ≡ stateNumberOf d (setOf a)) where
+    pub snoop-call-kept : (eqb n 0 && not (d .nw)) ≡ false → directoryResult d n ≡ snoopCall d a
+    snoop-call-kept h =
+        same-or _ n 0
+        (λ z.
+        let off : d .nw ≡ true = not-false (d .nw) (rw (eq-eqb n 0 z) at h) in
+        rw z (sym (snoop-accepted (sym en ∙ z) ∙ ap (λ (x : Directory). directoryResult x 0) (snoop-off d a off))))
+        (λ m. ap (directoryResult d) en ∙ sym (snoop-refused (λ z. m (en ∙ z))))
+
+    pub snoop-call-done : (eqb n 0 && not (d .nw)) ≡ true → (d′ : Directory) → d′ ≡ invalidated d (setOf a) (lookupOf d a) → directoryResult d′ n ≡ snoopCall d a
+    snoop-call-done h d′ e =
+        let t = both (eqb n 0) _ h in
+        let z = eqb-true n 0 (t .0) in
+        rw (z, e) (sym (snoop-accepted (sym en ∙ z) ∙ ap (λ (x : Directory). directoryResult x 0) (snoop-on d a (not-true (d .nw) (t .1)))))

@@ -110,21 +110,21 @@ impl Directory {
         }
     }
 
-    // The snoop call: the state of the address's set is checked first, whatever NW is.
-    pub fn snoop(self, address: u32) -> DirectoryResult
+    // The snoop call: the state of the address's set is checked first, whatever NW is. Done or refused, it ends at one place:
+    // at two, the directory would be copied for each.
+    pub fn snoop(mut self, address: u32) -> DirectoryResult
         ensures { λ r. ⌜ r ≡ snoopCall self address ⌝ }
     {
         let number = state_number(&self.tags, &self.valid, &self.lru, set_of(address));
-        if number != 0 {
-            return DirectoryResult {
-                directory: self,
-                number,
-            };
+        if (number == 0) & !self.nw {
+            if let Found::At(way) = lookup(&self.tags, &self.valid, address) {
+                let line = set_of(address) * 4 + way;
+                self.valid[line] = false;
+            }
         }
-        let directory = self.snooped(address);
         DirectoryResult {
-            directory,
-            number: 0,
+            directory: self,
+            number,
         }
     }
 }

@@ -44,13 +44,13 @@ fits-next left a g c e l h =
     ends x y z e h = omega arith
 
 -- buffers of the same lengths
-pub needs-lengths : {cursor : AccessCursor} {ram parity array answers log operand ram′ parity′ array′ log′ operand′ : ℕ} →
-    ram′ ≡ ram → parity′ ≡ parity → array′ ≡ array → log′ ≡ log → operand′ ≡ operand →
-    AccessNeeds cursor ram parity array answers log operand → AccessNeeds cursor ram′ parity′ array′ answers log′ operand′
-needs-lengths er ep ea el eo z = rw (er, ep, ea, el, eo) z
+pub needs-lengths : {cursor : AccessCursor} {ram parity array answers log ram′ parity′ array′ log′ : ℕ} →
+    ram′ ≡ ram → parity′ ≡ parity → array′ ≡ array → log′ ≡ log →
+    AccessNeeds cursor ram parity array answers log → AccessNeeds cursor ram′ parity′ array′ answers log′
+needs-lengths er ep ea el z = rw (er, ep, ea, el) z
 
 -- what the next doubleword needs, and what is left after it
-module _ (cursor : AccessCursor) (ram parity array answers log operand : ℕ) (z : AccessNeeds cursor ram parity array answers log operand) (some : 0 < cursor .left) where
+module _ (cursor : AccessCursor) (ram parity array answers log : ℕ) (z : AccessNeeds cursor ram parity array answers log) (some : 0 < cursor .left) where
   pub needs-more : cursor .group < groupCount
   needs-more = omega (arith, z .fits, z .last)
 
@@ -69,7 +69,7 @@ module _ (cursor : AccessCursor) (ram parity array answers log operand : ℕ) (z
         few = omega (arith, z .made, needs-more);
       }
 
-  needs-next : (n : ℕ) → n ≤ groupSize → AccessNeeds (accessNext cursor (countOf cursor) n) ram parity array answers log operand
+  needs-next : (n : ℕ) → n ≤ groupSize → AccessNeeds (accessNext cursor (countOf cursor) n) ram parity array answers log
   needs-next n l =
       record {
         inside = omega (arith, z .inside);
@@ -83,7 +83,6 @@ module _ (cursor : AccessCursor) (ram parity array answers log operand : ℕ) (z
         last = omega (arith, needs-more);
         made = omega (arith, z .made);
         operands = omega (arith, z .operands);
-        four = z .four;
       }
 
 -- the group of answers that the code takes is the rules'
@@ -100,29 +99,26 @@ module _ (cursor u : AccessCursor) (count n : ℕ) (some : 0 < cursor .left) (ec
   pub cursor-less : u ≡ accessNext cursor count n → u .left < cursor .left
   cursor-less eu = rw (eu, ec) (omega arith)
 
-  pub cursor-needs : u ≡ accessNext cursor count n → (ram parity array answers log operand : ℕ) → n ≤ groupSize → AccessNeeds cursor ram parity array answers log operand → AccessNeeds u ram parity array answers log operand
-  cursor-needs eu ram parity array answers log operand l z = rw (eu, ec) (needs-next cursor ram parity array answers log operand z some n l)
+  pub cursor-needs : u ≡ accessNext cursor count n → (ram parity array answers log : ℕ) → n ≤ groupSize → AccessNeeds cursor ram parity array answers log → AccessNeeds u ram parity array answers log
+  cursor-needs eu ram parity array answers log l z = rw (eu, ec) (needs-next cursor ram parity array answers log z some n l)
 
 -- what the code's next cursor needs
-pub cursor-next : (cursor : AccessCursor) (count n ram parity array answers log operand : ℕ) → count ≡ countOf cursor → n ≤ groupSize →
-    AccessNeeds cursor ram parity array answers log operand →
+pub cursor-next : (cursor : AccessCursor) (count n ram parity array answers log : ℕ) → count ≡ countOf cursor → n ≤ groupSize →
+    AccessNeeds cursor ram parity array answers log →
     (count ≤ cursor .left) × (cursor .address + cursor .left < 4294967296) × (cursor .group < 64) × (cursor .place < 64) × (cursor .left ≤ 64) × (cursor .cycles ≤ 64) × (n ≤ 64)
-cursor-next cursor count n ram parity array answers log operand ec l z = (
+cursor-next cursor count n ram parity array answers log ec l z = (
   rw ec (omega arith),
   omega (arith, z .inside, z .small),
   omega (arith, z .last),
-  omega (arith, z .operands, z .four),
-  omega (arith, z .operands, z .four),
+  omega (arith, z .operands),
+  omega (arith, z .operands),
   omega (arith, z .made, z .last),
   omega arith,
 )
 
 -- what the next doubleword's code needs
-pub cursor-doubleword : (cursor : AccessCursor) (w : Wanted) (ram parity array answers log₀ log operand₀ operand given : ℕ) → 0 < cursor .left → w ≡ wantedOf cursor →
-    AccessNeeds cursor ram parity array answers log₀ operand₀ → log ≡ log₀ → operand ≡ operand₀ → given ≡ groupSize →
-    DoublewordNeeds w (cursor .cycles) ram parity given log × (w .place + w .count ≤ operand)
-cursor-doubleword cursor w ram parity array answers log₀ log operand₀ operand given some ew z el eo eg =
-    rw (ew, el, eo) (needs-doubleword cursor ram parity array answers log₀ operand₀ z some given eg, room (cursor .place) (cursor .left) _ operand₀ (z .operands))
-  where
-    room : (place left r operand : ℕ) → place + left ≤ operand → place + min left r ≤ operand
-    room place left r operand h = omega arith
+pub cursor-doubleword : (cursor : AccessCursor) (w : Wanted) (ram parity array answers log₀ log given : ℕ) → 0 < cursor .left → w ≡ wantedOf cursor →
+    AccessNeeds cursor ram parity array answers log₀ → log ≡ log₀ → given ≡ groupSize →
+    DoublewordNeeds w (cursor .cycles) ram parity given log
+cursor-doubleword cursor w ram parity array answers log₀ log given some ew z el eg =
+    rw (ew, el) (needs-doubleword cursor ram parity array answers log₀ z some given eg)

@@ -48,7 +48,7 @@ abbrev pub nextDoubleword : AccessCursor → List ℕ → Doubleword
 nextDoubleword cursor answers = doublewordOf (wantedOf cursor) (groupAt cursor answers)
 
 -- What the doublewords left need of the buffers.
-pub record AccessNeeds (cursor : AccessCursor) (ram parity array answers log operand : ℕ) : Type 0 where
+pub record AccessNeeds (cursor : AccessCursor) (ram parity array answers log : ℕ) : Type 0 where
   pub inside : cursor .address + cursor .left ≤ ram
   pub whole : ram % 16 ≡ 0
   pub small : ram ≤ 16777216
@@ -59,5 +59,4 @@ pub record AccessNeeds (cursor : AccessCursor) (ram parity array answers log ope
   pub fits : cursor .left ≤ 4 * (groupCount - cursor .group) - cursor .address % 4
   pub last : cursor .group ≤ groupCount
   pub made : cursor .cycles ≤ cursor .group * groupSize
-  pub operands : cursor .place + cursor .left ≤ operand
-  pub four : operand ≡ 4
+  pub operands : cursor .place + cursor .left ≤ 4

@@ -14,12 +14,6 @@ pub enum Change {
     Fill(usize),
 }
 
-// The directory's change, and how many cycles were made.
-pub struct DoublewordResult {
-    pub change: Change,
-    pub cycles: usize,
-}
-
 // The wanted bytes of a doubleword: the address of its line, their offset in it, how many, and their place in the operand.
 pub struct Wanted {
     pub line: u32,

@@ -3,7 +3,6 @@ ghost use mathlib.Core.Path.{_≡_};
 ghost use Prim.Native.Nat.{_+_, _*_, _≤_, _<_};
 ghost use lib.ListN.{length};
 ghost use Rattle.doubleword.specs.Cursor.{accessBegin, accessNext, groupAt, wantedOf};
-use crate::change::Change;
 use crate::change::Wanted;
 
 // What is left between two doublewords: the address of the next wanted byte, the bytes left, their place in the operand, the
@@ -13,15 +12,6 @@ pub struct AccessCursor {
     pub left: usize,
     pub place: usize,
     pub group: usize,
-    pub cycles: usize,
-}
-
-// What the next doubleword did: the directory's change with its line, the bytes moved and the cycles made. What is left after it
-// is worked out by the caller, in registers.
-pub struct NextResult {
-    pub line: u32,
-    pub change: Change,
-    pub count: usize,
     pub cycles: usize,
 }
 

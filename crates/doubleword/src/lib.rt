@@ -3,10 +3,8 @@ mod change;
 mod cursor;
 
 pub use change::Change;
-pub use change::DoublewordResult;
 pub use change::Wanted;
 pub use change::change_in_place;
 pub use change::changed_by;
 pub use change::data_offset;
 pub use cursor::AccessCursor;
-pub use cursor::NextResult;

@@ -1,7 +1,9 @@
 // One line on the unit.
 ghost use mathlib.Core.Path.{_≡_};
+ghost use mathlib.Core.Bool.{Bool};
 ghost use Prim.Native.Nat.{_≤_};
 ghost use lib.ListN.{length};
+ghost use Rattle.directory.specs.Steps.{directoryOf};
 ghost use Rattle.memory.specs.Parity.{memory};
 ghost use Rattle.refusal.specs.Outcome.{outcome};
 ghost use Rattle.access.specs.Access.{readCall, state, writeCall};
@@ -9,47 +11,106 @@ ghost use Rattle.masters.specs.Masters.{externalCall, written};
 ghost use Rattle.board.specs.Board.{boardAnswers};
 ghost use Rattle.fields.specs.Fields.{pairBytes};
 ghost use Rattle.events.specs.Perform.{accessEvent, lineDone, performed, zeroLog};
-use directory::Directory;
+use access::CallResult;
+use access::number_only;
+use access::read_accepted;
+use access::write_accepted;
 use fields::pair_bytes;
 use lines::Event;
 use lines::scan;
-use refusal::Outcome;
+use masters::external_write_in_place;
+use refusal::input_number;
+use refusal::states_number;
+use refusal::value_number;
+use steps_in_place::control_in_place;
+use steps_in_place::flush_in_place;
+use steps_in_place::reset_in_place;
+use steps_in_place::snoop_in_place;
 
-// The line's event with the board's answers. A malformed line answers 11.
-pub fn perform(
-    given: Directory,
+// The line's event with the board's answers, on a directory whose fields are lent. A malformed line answers 11.
+pub fn perform<'a>(
+    tags: &'a mut [u32; 512],
+    valid: &'a mut [bool; 512],
+    lru: &'a mut [u8; 128],
+    cd: &mut bool,
+    nw: &mut bool,
     ram: &mut [u8],
     parity: &mut [u8],
     data: &mut [u8],
     line: &[u8],
-) -> Outcome
-    ensures { λ r. ⌜ performed r (memory (now (ram .exit)) (now (parity .exit))) (now («data» .exit))
-        ≡ lineDone (state given (memory (now (ram .entry)) (now (parity .entry))) (now («data» .entry))) (now (line .entry)) ⌝ }
+) -> CallResult
+    ensures { λ r. ⌜ performed (outcome (directoryOf (now (tags .exit)) (now (valid .exit)) (now (lru .exit)) (now (cd .exit)) (now (nw .exit))) (r .number) (r .value) (r .cycles))
+        (memory (now (ram .exit)) (now (parity .exit))) (now («data» .exit))
+        ≡ lineDone (state (directoryOf (now (tags .entry)) (now (valid .entry)) (now (lru .entry)) (now (cd .entry)) (now (nw .entry))) (memory (now (ram .entry)) (now (parity .entry))) (now («data» .entry))) (now (line .entry)) ⌝ }
 {
     let event = scan(line);
     match event {
-        Event::Malformed => malformed(given),
+        Event::Malformed => malformed(),
         Event::Read(address, width, pcd) => {
-            perform_read(given, ram, parity, data, address, width, pcd)
+            let off = *cd;
+            perform_read(
+                tags,
+                valid,
+                lru,
+                off,
+                ram,
+                parity,
+                data,
+                address,
+                width,
+                pcd,
+            )
         }
         Event::Write(address, width, value) => {
-            perform_write(given, ram, parity, data, address, width, value)
+            let off = *cd;
+            let inside = *nw;
+            perform_write(
+                tags,
+                valid,
+                lru,
+                off,
+                inside,
+                ram,
+                parity,
+                data,
+                address,
+                width,
+                value,
+            )
         }
         Event::External(address, from) => {
-            perform_external(given, ram, parity, address, &line[from..])
+            let inside = *nw;
+            number_only(perform_external(
+                tags,
+                valid,
+                lru,
+                inside,
+                ram,
+                parity,
+                address,
+                &line[from..],
+            ))
         }
-        Event::Snoop(address) => masters::snoop(given, address),
-        Event::Flush => masters::flush(given),
-        Event::Control(cd, nw) => masters::control(given, cd, nw),
-        Event::Reset => masters::reset(),
+        Event::Snoop(address) => {
+            let inside = *nw;
+            number_only(snoop_in_place(tags, valid, lru, inside, address))
+        }
+        Event::Flush => {
+            flush_in_place(valid);
+            number_only(0)
+        }
+        Event::Control(new_cd, new_nw) => number_only(control_in_place(cd, nw, new_cd, new_nw)),
+        Event::Reset => {
+            reset_in_place(tags, valid, lru, cd, nw);
+            number_only(0)
+        }
     }
 }
 
-fn malformed(given: Directory) -> Outcome
-    ensures { λ r. ⌜ r ≡ outcome given 11 0 0 ⌝ }
+fn malformed() -> CallResult
+    ensures { λ r. ⌜ r ≡ record { number = 11; value = 0; cycles = 0 } ⌝ }
 {
-    Outcome {
-        directory: given,
+    CallResult {
         number: 11,
         value: 0,
         cycles: 0,
@@ -57,22 +118,37 @@ fn malformed(given: Directory) -> Outcome
 }
 
 // A read with the board's answers and a log that is not shown.
-fn perform_read(
-    given: Directory,
+fn perform_read<'a>(
+    tags: &'a mut [u32; 512],
+    valid: &'a mut [bool; 512],
+    lru: &'a mut [u8; 128],
+    cd: bool,
     ram: &[u8],
     parity: &[u8],
     data: &mut [u8],
     address: u32,
     width: u32,
     pcd: bool,
-) -> Outcome
-    ensures { λ r. ⌜ performed r (memory (now (ram .entry)) (now (parity .entry))) (now («data» .exit))
-        ≡ accessEvent (readCall (state given (memory (now (ram .entry)) (now (parity .entry))) (now («data» .entry))) address width pcd (boardAnswers address width) zeroLog) ⌝ }
+) -> CallResult
+    ensures { λ r. ⌜ ((nw : Bool) → performed (outcome (directoryOf (now (tags .exit)) (now (valid .exit)) (now (lru .exit)) cd nw) (r .number) (r .value) (r .cycles))
+        (memory (now (ram .entry)) (now (parity .entry))) (now («data» .exit))
+        ≡ accessEvent (readCall (state (directoryOf (now (tags .entry)) (now (valid .entry)) (now (lru .entry)) cd nw) (memory (now (ram .entry)) (now (parity .entry))) (now («data» .entry))) address width pcd (boardAnswers address width) zeroLog)) ⌝ }
 {
     let answers = board::board_answers(address, width);
     let mut log = [0u32; 96];
-    access::read(
-        given,
+    let number = input_number(ram, parity, data, &answers, &log, address, width);
+    if number != 0 {
+        return number_only(number);
+    }
+    let bad = states_number(tags, valid, lru, address, width);
+    if bad != 0 {
+        return number_only(bad);
+    }
+    read_accepted(
+        tags,
+        valid,
+        lru,
+        cd,
         ram,
         parity,
         data,
@@ -85,22 +161,43 @@ fn perform_read(
 }
 
 // A write with the board's answers and a log that is not shown.
-fn perform_write(
-    given: Directory,
+fn perform_write<'a>(
+    tags: &'a mut [u32; 512],
+    valid: &'a mut [bool; 512],
+    lru: &'a mut [u8; 128],
+    cd: bool,
+    nw: bool,
     ram: &mut [u8],
     parity: &mut [u8],
     data: &mut [u8],
     address: u32,
     width: u32,
     value: u32,
-) -> Outcome
-    ensures { λ r. ⌜ performed r (memory (now (ram .exit)) (now (parity .exit))) (now («data» .exit))
-        ≡ accessEvent (writeCall (state given (memory (now (ram .entry)) (now (parity .entry))) (now («data» .entry))) address width value (boardAnswers address width) zeroLog) ⌝ }
+) -> CallResult
+    ensures { λ r. ⌜ performed (outcome (directoryOf (now (tags .exit)) (now (valid .exit)) (now (lru .exit)) cd nw) (r .number) (r .value) (r .cycles))
+        (memory (now (ram .exit)) (now (parity .exit))) (now («data» .exit))
+        ≡ accessEvent (writeCall (state (directoryOf (now (tags .entry)) (now (valid .entry)) (now (lru .entry)) cd nw) (memory (now (ram .entry)) (now (parity .entry))) (now («data» .entry))) address width value (boardAnswers address width) zeroLog) ⌝ }
 {
     let answers = board::board_answers(address, width);
     let mut log = [0u32; 96];
-    access::write(
-        given,
+    let number = input_number(ram, parity, data, &answers, &log, address, width);
+    if number != 0 {
+        return number_only(number);
+    }
+    let large = value_number(width, value);
+    if large != 0 {
+        return number_only(large);
+    }
+    let bad = states_number(tags, valid, lru, address, width);
+    if bad != 0 {
+        return number_only(bad);
+    }
+    write_accepted(
+        tags,
+        valid,
+        lru,
+        cd,
+        nw,
         ram,
         parity,
         data,
@@ -113,18 +210,21 @@ fn perform_write(
 }
 
 // An external write of the bytes that the pairs say.
-fn perform_external(
-    given: Directory,
+fn perform_external<'a>(
+    tags: &'a [u32; 512],
+    valid: &'a mut [bool; 512],
+    lru: &'a [u8; 128],
+    nw: bool,
     ram: &mut [u8],
     parity: &mut [u8],
     address: u32,
     pairs: &[u8],
-) -> Outcome
+) -> u32
     requires { ⌜ length (now pairs) ≤ 80 ⌝ }
-    ensures { λ r. ⌜ written r (memory (now (ram .exit)) (now (parity .exit)))
-        ≡ externalCall given (memory (now (ram .entry)) (now (parity .entry))) address (pairBytes (now (pairs .entry))) ⌝ }
+    ensures { λ r. ⌜ ((cd : Bool) → written (outcome (directoryOf (now (tags .entry)) (now (valid .exit)) (now (lru .entry)) cd nw) r 0 0) (memory (now (ram .exit)) (now (parity .exit)))
+        ≡ externalCall (directoryOf (now (tags .entry)) (now (valid .entry)) (now (lru .entry)) cd nw) (memory (now (ram .entry)) (now (parity .entry))) address (pairBytes (now (pairs .entry)))) ⌝ }
 {
     let mut bytes = [0u8; 80];
     let count = pair_bytes(pairs, &mut bytes);
-    masters::external_write(given, ram, parity, address, &bytes[..count])
+    external_write_in_place(tags, valid, lru, nw, ram, parity, address, &bytes[..count])
 }

@@ -30,7 +30,12 @@ fn run_lines(input: &[u8], output: &mut [u8], from: usize) -> usize
     ensures { λ r. ⌜ (r ≡ from + length (rowsOf start 1 (linesOf (now (input .entry))))) × (now (output .exit) ≡ sets (now (output .entry)) from (rowsOf start 1 (linesOf (now (input .entry))))) ⌝ }
     ensures { λ r. ⌜ r ≤ from + 2883628 ⌝ }
 {
-    let mut directory = Directory::reset();
+    let directory = Directory::reset();
+    let mut tags = directory.tags;
+    let mut valid = directory.valid;
+    let mut lru = directory.lru;
+    let mut cd = directory.cd;
+    let mut nw = directory.nw;
     let mut ram = [0u8; 65536];
     let mut parity = [0u8; 16384];
     let mut data = [0u8; 8192];
@@ -40,10 +45,19 @@ fn run_lines(input: &[u8], output: &mut [u8], from: usize) -> usize
     while place < input.len() {
         let rest = &input[place..];
         let end = end_of(rest, b'\n');
-        let done = perform(directory, &mut ram, &mut parity, &mut data, &rest[..end]);
+        let done = perform(
+            &mut tags,
+            &mut valid,
+            &mut lru,
+            &mut cd,
+            &mut nw,
+            &mut ram,
+            &mut parity,
+            &mut data,
+            &rest[..end],
+        );
         at = put_row(output, at, event, done.number, done.value, done.cycles);
         event += 1;
-        directory = done.directory;
         place = place + end + 1;
     }
     at

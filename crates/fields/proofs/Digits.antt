@@ -1,14 +1,15 @@
 -- Laws of numbers as text: what the scanning of a field finds.
-use Prim.Native.Nat.{ℕ, _+_, _*_, _-_, _^_, _≤_, _<_}
+use Prim.Native.Nat.{ℕ, zero, suc, _+_, _*_, _-_, _^_, _≤_, _<_}
 use mathlib.Core.Path.{_≡_, refl, sym, _∙_}
 use mathlib.Core.Bool.{Bool, true, false, _&&_, and-false, and-assoc, and-true}
-use mathlib.Core.List.{List, [], _∷_}
+use mathlib.Core.List.{List, [], _∷_, _++_}
 use native.Mathlib.Nat.{pow-le-pow-right, pow-suc}
 use native.Mathlib.Numerals.{add-one}
 use native.Mathlib.Omega.{arith}
 use lib.ListN.{length, getD, drop, drop-of-length-le}
 use lib.Seq.{drop-cons}
 use borrow.Author.Tests.{le-leb, lt-leb}
+use Rattle.laws.proofs.Tests.{both}
 use Rattle.fields.specs.declared.numbers.Number.the-variants.{Value, NotANumber}
 use Rattle.fields.specs.Number.{isDigit, allAre, valueAfter, decimalValue, isNumber, numberOf, bitOf}
 
@@ -37,6 +38,24 @@ pub value-end : (n : ℕ) (l : List ℕ) (k : ℕ) → length l ≤ k → valueA
 unfolding valueAfter
 value-end n l k h = rw (drop-of-length-le l h)
 
+-- a byte more at the end
+pub value-snoc : (m : ℕ) (l : List ℕ) (c : ℕ) → valueAfter m (l ++ (c ∷ [])) ≡ valueAfter m l * 10 + (c - 48)
+unfolding valueAfter
+value-snoc m [] c = refl
+value-snoc m (d ∷ l) c = value-snoc (m * 10 + (d - 48)) l c
+
+pub all-snoc : (test : ℕ → Bool) (l : List ℕ) (c : ℕ) → allAre test l ≡ true → test c ≡ true → allAre test (l ++ (c ∷ [])) ≡ true
+unfolding allAre
+all-snoc test [] c a e = rw e
+all-snoc test (d ∷ l) c a e = let (h, t) = both (test d) (allAre test l) a in rw (h, all-snoc test l c t e)
+
+-- where every byte passes, the k-th does
+pub all-at : (test : ℕ → Bool) (l : List ℕ) (k : ℕ) → k < length l → allAre test l ≡ true → test (getD l k 0) ≡ true
+unfolding allAre
+all-at test [] k h a = absurd (omega (arith, h))
+all-at test (c ∷ cs) zero h a = both (test c) (allAre test cs) a .0
+all-at test (c ∷ cs) (suc k) h a = all-at test cs k (omega (arith, h)) (both (test c) (allAre test cs) a .1)
+
 -- the fields that are no number
 pub number-empty : (field : List ℕ) → length field ≡ 0 → NotANumber ≡ numberOf field
 unfolding numberOf isNumber
@@ -46,7 +65,7 @@ pub number-long : (field : List ℕ) → 10 < length field → NotANumber ≡ nu
 unfolding numberOf isNumber
 number-long field h = simp (lt-leb (length field) 10 h, and-false)
 
-number-other : (field : List ℕ) → allAre isDigit field ≡ false → NotANumber ≡ numberOf field
+pub number-other : (field : List ℕ) → allAre isDigit field ≡ false → NotANumber ≡ numberOf field
 unfolding numberOf isNumber
 number-other field e = simp (e, and-false)
 

@@ -50,7 +50,7 @@ parts-more separator (c ∷ cs) h =
     (λ _ f. rw (parts-more separator cs (omega (arith, f))))
     h
 
-index-most : (separator : ℕ) (l : List ℕ) → indexOf separator l ≤ length l
+pub index-most : (separator : ℕ) (l : List ℕ) → indexOf separator l ≤ length l
 unfolding indexOf indexAfter
 index-most separator [] = omega arith
 index-most separator (c ∷ cs) =

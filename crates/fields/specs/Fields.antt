@@ -2,9 +2,14 @@
 use Prim.Native.Nat.{ℕ, _+_, _*_, _-_, _%_}
 use mathlib.Core.Bool.{Bool, cond, _&&_, _||_}
 use mathlib.Core.List.{List, [], _∷_}
-use lib.Dec.{eqb, leb}
-use lib.ListN.{length}
-use Rattle.fields.specs.Number.{isDigit, allAre}
+use lib.Dec.{eqb, leb, ltb}
+use lib.ListN.{length, take}
+use Rattle.bytes.specs.Bytes.{indexOf}
+use Rattle.fields.specs.declared.numbers.Number.{Number}
+use Rattle.fields.specs.declared.numbers.Number.the-variants.{Value, NotANumber}
+use Rattle.fields.specs.declared.numbers.Leading.{Leading}
+use Rattle.fields.specs.declared.numbers.Leading.the-variants.{Field, Nothing}
+use Rattle.fields.specs.Number.{isDigit, allAre, numberOf}
 
 -- The bytes that part a text.
 abbrev pub tab : ℕ
@@ -27,6 +32,17 @@ partsOf separator (c ∷ cs) =
 -- "tab-parted lines"
 abbrev pub fieldsOf : List ℕ → List (List ℕ)
 fieldsOf line = partsOf tab line
+
+-- The number before the first tab of a text and the place after that tab, `Nothing` where there is none.
+unfoldable pub leadingWith : Number → ℕ → Leading
+leadingWith (Value n) next = Field n next
+leadingWith NotANumber next = Nothing
+
+unfoldable pub leadingOf : List ℕ → Leading
+leadingOf text =
+    cond (ltb (indexOf tab text) (length text))
+    (leadingWith (numberOf (take (indexOf tab text) text)) (indexOf tab text + 1))
+    Nothing
 
 -- "the last newline optional": what stands after the last newline is a line unless it is empty.
 unfoldable pub withoutEmptyEnd : List (List ℕ) → List (List ℕ)

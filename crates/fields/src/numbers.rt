@@ -1,6 +1,7 @@
 // Numbers as text.
 ghost use mathlib.Core.Path.{_≡_};
 ghost use Rattle.fields.specs.Number.{bitOf, numberOf};
+ghost use Rattle.fields.specs.Fields.{leadingOf};
 
 // What a field says where a number belongs.
 pub enum Number {
@@ -35,6 +36,38 @@ pub fn scan_number(field: &[u8]) -> Number
         return Number::NotANumber;
     }
     Number::Value(value as u32)
+}
+
+// The number before the first tab of a text, and the place after that tab.
+pub enum Leading {
+    Field(u32, usize),
+    Nothing,
+}
+
+// One pass over the digits tells where the field ends and what it says.
+pub fn leading_number(text: &[u8]) -> Leading
+    ensures { λ r. ⌜ r ≡ leadingOf (now (text .entry)) ⌝ }
+{
+    let mut value: u64 = 0;
+    let mut k: usize = 0;
+    while k < text.len() {
+        let digit = text[k];
+        if (digit < 48) | (57 < digit) | (9 < k) {
+            if digit != 9 {
+                return Leading::Nothing;
+            }
+            if k == 0 {
+                return Leading::Nothing;
+            }
+            if 4294967295 < value {
+                return Leading::Nothing;
+            }
+            return Leading::Field(value as u32, k + 1);
+        }
+        value = value * 10 + (digit - 48) as u64;
+        k += 1;
+    }
+    Leading::Nothing
 }
 
 // A field of one digit, 0 or 1.

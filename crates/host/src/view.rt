@@ -6,7 +6,7 @@ ghost use Rattle.views.specs.View.{viewIn, viewNumberIn};
 
 // The companion question of a view.
 #[no_mangle]
-pub extern "C" fn unit486_view_number<'a>(
+pub extern "C" fn unit486_view_number_in_place<'a>(
     tags: &'a [u32; 512],
     valid: &'a [bool; 512],
     lru: &'a [u8; 128],
@@ -22,7 +22,7 @@ pub extern "C" fn unit486_view_number<'a>(
 // A line view copied out, since no exported function can return a part of what it is lent. Answers the view's number; where
 // that is not 0 nothing is copied.
 #[no_mangle]
-pub extern "C" fn unit486_view<'a>(
+pub extern "C" fn unit486_view_in_place<'a>(
     tags: &'a [u32; 512],
     valid: &'a [bool; 512],
     lru: &'a [u8; 128],
@@ -34,7 +34,11 @@ pub extern "C" fn unit486_view<'a>(
     ensures { λ r. ⌜ (r ≡ viewNumberIn (now (tags .entry)) (now (valid .entry)) (now (lru .entry)) (length (now (ram .entry))) (length (now («data» .entry))) address)
         × (now (shown .exit) ≡ sets (now (shown .entry)) 0 (viewIn (now (tags .entry)) (now (valid .entry)) (now (lru .entry)) (now (ram .entry)) (now («data» .entry)) address)) ⌝ }
 {
-    let part = views::view(tags, valid, lru, ram, data, address);
-    words::copy_bytes(part, 0, shown, 0, part.len());
-    views::view_number(tags, valid, lru, ram, data, address)
+    let number = views::view_number(tags, valid, lru, ram, data, address);
+    if number != 0 {
+        return number;
+    }
+    let part = views::accepted_view(tags, valid, ram, data, address);
+    words::copy_line(part, 0, shown, 0);
+    0
 }

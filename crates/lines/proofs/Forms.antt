@@ -5,18 +5,20 @@ use mathlib.Core.Bool.{Bool, true, false, cond}
 use mathlib.Core.List.{List, [], _∷_}
 use native.Mathlib.Omega.{arith}
 use native.Mathlib.Numerals.{add-one}
+use lib.Dec.{eqb}
 use lib.ListN.{length, take, drop, getD}
-use lib.Seq.{length-take-le}
-use borrow.Author.Tests.{le-ltb, lt-ltb, ne-eqb}
-use Rattle.laws.proofs.Tests.{same-or}
+use borrow.Author.Tests.{eqb-true, le-ltb, lt-ltb, eq-eqb, ne-eqb}
+use Rattle.laws.proofs.Tests.{by-test, same-or}
 use Rattle.bytes.specs.Bytes.{indexOf}
 use Rattle.fields.specs.declared.numbers.Number.the-variants.{Value, NotANumber}
-use Rattle.fields.specs.Fields.{tab, fieldsOf}
+use Rattle.fields.specs.declared.numbers.Leading.the-variants.{Nothing}
+use Rattle.fields.specs.Fields.{tab, fieldsOf, partsOf, inFront, isPairs, leadingOf}
 use Rattle.fields.specs.Number.{numberOf, bitOf}
-use Rattle.fields.proofs.Parts.{drop-part, parts-some, parts-end, parts-more}
+use Rattle.fields.proofs.Parts.{drop-part, parts-some, parts-end, parts-more, index-most}
+use Rattle.fields.proofs.Leading.{Led, restFrom, unled, tab-no-number, tab-no-bit, tab-no-pairs}
 use Rattle.lines.specs.declared.Event.{Event}
-use Rattle.lines.specs.declared.Event.the-variants.{Malformed}
-use Rattle.lines.specs.Scan.{with, ofNone, ofOne, ofTwo, ofThree, readWith, readOf, writeWith, writeOf, eventOf, formOf, scanned}
+use Rattle.lines.specs.declared.Event.the-variants.{Malformed, External, Snoop}
+use Rattle.lines.specs.Scan.{with, ofNone, ofOne, ofTwo, ofThree, readWith, readOf, writeWith, writeOf, externalOf, snoopOf, eventOf, formOf, scanned}
 
 -- a line with fields where none belongs
 none-some : (event : Event) (l : List ℕ) → ofNone event (fieldsOf l) ≡ Malformed
@@ -53,14 +55,44 @@ module _ (l : List ℕ) (e : ℕ) (place : e ≡ indexOf tab l) where
   unfolding ofTwo
   two-more event most more = rw (first-more most more)
 
-  -- three: up to the first tab, and two after it
-  pub three-end : (event : List ℕ → List ℕ → List ℕ → Event) → e ≡ length l → ofThree event (fieldsOf l) ≡ Malformed
-  unfolding ofThree ofTwo
-  three-end event last = rw (parts-end tab l (sym place ∙ last))
+-- one field: a text that has a tab in it is malformed as one
+pub one-field : (event : List ℕ → Event) (l : List ℕ) → (indexOf tab l < length l → event l ≡ Malformed) → ofOne event (fieldsOf l) ≡ event l
+one-field event l bad =
+    let most = index-most tab l in
+    same-or _ (indexOf tab l) (length l)
+    (one-end l (indexOf tab l) refl event)
+    (λ more. one-more l (indexOf tab l) refl event most more ∙ sym (bad (omega arith)))
 
-  pub three-more : (event : List ℕ → List ℕ → List ℕ → Event) → e ≤ length l → (e ≡ length l → ⊥) → ofThree event (fieldsOf l) ≡ ofTwo (event (take e l)) (fieldsOf (restAfter e l))
+-- a first field that is a number, and the fields after it
+module _ {l : List ℕ} {n next : ℕ} (f : Led l n next) where
+  pub two-led : (event : List ℕ → List ℕ → Event) → ofTwo event (fieldsOf l) ≡ ofOne (event (f .field)) (fieldsOf (restFrom next l))
+  unfolding ofTwo
+  two-led event = rw (f .first)
+
+  pub three-led : (event : List ℕ → List ℕ → List ℕ → Event) → ofThree event (fieldsOf l) ≡ ofTwo (event (f .field)) (fieldsOf (restFrom next l))
   unfolding ofThree
-  three-more event most more = rw (first-more most more)
+  three-led event = rw (f .first)
+
+-- a line that is malformed whatever its last fields say
+one-bad : (event : List ℕ → Event) (fields : List (List ℕ)) → ((a : List ℕ) → event a ≡ Malformed) → ofOne event fields ≡ Malformed
+unfolding ofOne ofNone
+one-bad event [] bad = refl
+one-bad event (a ∷ []) bad = bad a
+one-bad event (a ∷ b ∷ rest) bad = refl
+
+two-bad : (event : List ℕ → List ℕ → Event) (fields : List (List ℕ)) → ((a b : List ℕ) → event a b ≡ Malformed) → ofTwo event fields ≡ Malformed
+unfolding ofTwo
+two-bad event [] bad = refl
+two-bad event (a ∷ rest) bad = one-bad (event a) rest (bad a)
+
+-- a first field that is no number, or the only one
+pub two-unled : (event : List ℕ → List ℕ → Event) (l : List ℕ) → ((a b : List ℕ) → numberOf a ≡ NotANumber → event a b ≡ Malformed) → leadingOf l ≡ Nothing → ofTwo event (fieldsOf l) ≡ Malformed
+unfolding ofTwo ofOne
+two-unled event l bad = unled l (λ fields. ofTwo event fields ≡ Malformed) (λ a. refl) (λ a rest n. one-bad (event a) rest (λ b. bad a b n))
+
+pub three-unled : (event : List ℕ → List ℕ → List ℕ → Event) (l : List ℕ) → ((a b c : List ℕ) → numberOf a ≡ NotANumber → event a b c ≡ Malformed) → leadingOf l ≡ Nothing → ofThree event (fieldsOf l) ≡ Malformed
+unfolding ofThree ofTwo
+three-unled event l bad = unled l (λ fields. ofThree event fields ≡ Malformed) (λ a. refl) (λ a rest n. two-bad (event a) rest (λ b c. bad a b c n))
 
 -- what a read or a write is made of
 pub third-first : (b : Bool) (a w x : List ℕ) → numberOf a ≡ NotANumber → cond b readOf writeOf a w x ≡ Malformed
@@ -73,13 +105,27 @@ unfolding readOf writeOf with
 third-second true a w x n e f = rw (e, f)
 third-second false a w x n e f = rw (e, f)
 
-pub read-third : (a w x : List ℕ) (n m : ℕ) → numberOf a ≡ Value n → numberOf w ≡ Value m → readOf a w x ≡ readWith n m (bitOf x)
-unfolding readOf with
-read-third a w x n m e f = rw (e, f)
+-- the last field of each form
+module _ (a w x : List ℕ) (n m : ℕ) (e : numberOf a ≡ Value n) (f : numberOf w ≡ Value m) where
+  pub read-last : ofOne (readOf a w) (fieldsOf x) ≡ readWith n m (bitOf x)
+  unfolding readOf readWith with
+  read-last = one-field (readOf a w) x (λ t. rw (e, f, tab-no-bit x t)) ∙ rw (e, f)
 
-pub write-third : (a w x : List ℕ) (n m : ℕ) → numberOf a ≡ Value n → numberOf w ≡ Value m → writeOf a w x ≡ writeWith n m (numberOf x)
-unfolding writeOf with
-write-third a w x n m e f = rw (e, f)
+  pub write-last : ofOne (writeOf a w) (fieldsOf x) ≡ writeWith n m (numberOf x)
+  unfolding writeOf writeWith with
+  write-last = one-field (writeOf a w) x (λ t. rw (e, f, tab-no-number x t)) ∙ rw (e, f)
+
+pub external-first : (a pairs : List ℕ) → numberOf a ≡ NotANumber → externalOf a pairs ≡ Malformed
+unfolding externalOf with
+external-first a pairs e = rw e
+
+pub external-last : (a pairs : List ℕ) (n : ℕ) → numberOf a ≡ Value n → ofOne (externalOf a) (fieldsOf pairs) ≡ cond (isPairs pairs) (External n (length a + 3)) Malformed
+unfolding externalOf with
+external-last a pairs n e = one-field (externalOf a) pairs (λ t. rw (e, tab-no-pairs pairs t)) ∙ rw e
+
+pub snoop-last : (l : List ℕ) → ofOne snoopOf (fieldsOf l) ≡ with (numberOf l) (λ address. Snoop address)
+unfolding snoopOf with
+snoop-last l = one-field snoopOf l (λ t. rw (tab-no-number l t))
 
 -- the same choice both ways
 same : {A : Type 0} (b : Bool) (x : A) → cond b x x ≡ x
@@ -96,23 +142,39 @@ unfolding formOf
 fields-other letter l r w x s c =
     simp (ne-eqb letter 82 r, ne-eqb letter 87 w, ne-eqb letter 88 x, ne-eqb letter 83 s, ne-eqb letter 67 c, none-some, same)
 
--- a first field that is no letter
-no-letter : (field : List ℕ) (fields : List (List ℕ)) → (length field ≡ 1 → ⊥) → eventOf (field ∷ fields) ≡ Malformed
-unfolding eventOf
-no-letter [] fields n = refl
-no-letter (c ∷ []) fields n = absurd (n refl)
-no-letter (c ∷ d ∷ cs) fields n = refl
+-- a line by its first two bytes; a tab is no letter
+no-bytes : (l : List ℕ) → length l ≡ 0 → eventOf (fieldsOf l) ≡ Malformed
+unfolding eventOf partsOf
+no-bytes [] h = refl
+no-bytes (c ∷ cs) h = absurd (omega (arith, h))
 
-letter-alone : (l : List ℕ) → length l ≡ 1 → eventOf (l ∷ []) ≡ formOf (getD l 0 0) []
-unfolding eventOf
+tab-form : (c : ℕ) (fields : List (List ℕ)) → eqb c tab ≡ true → formOf c fields ≡ Malformed
+unfolding formOf
+tab-form c fields e = rw (eqb-true c tab e)
+
+letter-alone : (l : List ℕ) → length l ≡ 1 → eventOf (fieldsOf l) ≡ formOf (getD l 0 0) []
+unfolding eventOf partsOf inFront
 letter-alone [] h = absurd (omega (arith, h))
-letter-alone (c ∷ []) h = refl
+letter-alone (c ∷ []) h =
+    by-test (λ b. eqb c tab ≡ b → eventOf (cond b ([] ∷ [] ∷ []) ((c ∷ []) ∷ [])) ≡ formOf c []) (eqb c tab)
+    (λ _ e. sym (tab-form c [] e)) (λ _ _. refl) refl
 letter-alone (c ∷ d ∷ cs) h = absurd (omega (arith, h))
 
-letter-first : (l : List ℕ) (fields : List (List ℕ)) → 1 ≤ length l → eventOf (take 1 l ∷ fields) ≡ formOf (getD l 0 0) fields
-unfolding eventOf
-letter-first [] fields h = absurd (omega (arith, h))
-letter-first (c ∷ cs) fields h = refl
+no-letter : (l : List ℕ) → 2 ≤ length l → (getD l 1 0 ≡ tab → ⊥) → eventOf (fieldsOf l) ≡ Malformed
+unfolding eventOf partsOf inFront
+no-letter [] h n = absurd (omega (arith, h))
+no-letter (c ∷ []) h n = absurd (omega (arith, h))
+no-letter (c ∷ d ∷ cs) h n =
+    let (part, parts, e) = parts-some tab cs in
+    rw (ne-eqb d tab n, e) (by-test (λ b. eventOf (cond b ([] ∷ (d ∷ part) ∷ parts) ((c ∷ d ∷ part) ∷ parts)) ≡ Malformed) (eqb c tab) (λ _. refl) (λ _. refl))
+
+letter-first : (l : List ℕ) → 2 ≤ length l → getD l 1 0 ≡ tab → eventOf (fieldsOf l) ≡ formOf (getD l 0 0) (fieldsOf (drop 2 l))
+unfolding eventOf partsOf inFront
+letter-first [] h e = absurd (omega (arith, h))
+letter-first (c ∷ []) h e = absurd (omega (arith, h))
+letter-first (c ∷ d ∷ cs) h e =
+    rw (eq-eqb d tab e) (by-test (λ b. eqb c tab ≡ b → eventOf (cond b ([] ∷ [] ∷ partsOf tab cs) ((c ∷ []) ∷ partsOf tab cs)) ≡ formOf c (partsOf tab cs)) (eqb c tab)
+    (λ _ t. sym (tab-form c (partsOf tab cs) t)) (λ _ _. refl) refl)
 
 pub scan-long : (line : List ℕ) → 80 < length line → Malformed ≡ scanned line
 unfolding scanned
@@ -123,16 +185,14 @@ module _ (line : List ℕ) (short : length line ≤ 80) where
   unfolding scanned
   fits = rw (le-ltb 80 (length line) short)
 
-  pub scan-no-letter : (e : ℕ) → e ≡ indexOf tab line → e ≤ length line → (e ≡ 1 → ⊥) → Malformed ≡ scanned line
-  scan-no-letter e place most n =
-      sym (fits
-      ∙ same-or (eventOf (fieldsOf line) ≡ Malformed) e (length line)
-      (λ last. rw (parts-end tab line (sym place ∙ last)) (no-letter line [] (λ one. n (last ∙ one))))
-      (λ more. rw (first-more line e place most more) (no-letter (take e line) _ (λ one. n (sym (length-take-le e line most) ∙ one)))))
+  pub scan-empty : length line ≡ 0 → Malformed ≡ scanned line
+  scan-empty e = sym (fits ∙ no-bytes line e)
 
-  pub scan-alone : (e : ℕ) → e ≡ indexOf tab line → e ≡ 1 → length line ≡ 1 → scanned line ≡ formOf (getD line 0 0) []
-  scan-alone e place one whole = fits ∙ rw (parts-end tab line (sym place ∙ one ∙ sym whole)) (letter-alone line whole)
+  pub scan-alone : length line ≡ 1 → scanned line ≡ formOf (getD line 0 0) []
+  scan-alone e = fits ∙ letter-alone line e
 
-  pub scan-fields : (e : ℕ) → e ≡ indexOf tab line → e ≡ 1 → e ≤ length line → (length line ≡ 1 → ⊥) → scanned line ≡ formOf (getD line 0 0) (fieldsOf (take (length line - 2) (drop 2 line)))
-  scan-fields e place one most more =
-      fits ∙ rw (first-more line e place most (λ last. more (sym last ∙ one)), one) (letter-first line _ (omega (arith, most, one)))
+  pub scan-no-letter : 2 ≤ length line → (getD line 1 0 ≡ tab → ⊥) → Malformed ≡ scanned line
+  scan-no-letter h n = sym (fits ∙ no-letter line h n)
+
+  pub scan-fields : 2 ≤ length line → getD line 1 0 ≡ tab → scanned line ≡ formOf (getD line 0 0) (fieldsOf (restFrom 2 line))
+  scan-fields h e = fits ∙ rw (drop-part 2 line) (letter-first line h e)

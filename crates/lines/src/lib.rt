@@ -4,9 +4,11 @@ ghost use mathlib.Core.Bool.{cond};
 ghost use mathlib.Core.List.{[]};
 ghost use Rattle.fields.specs.Fields.{fieldsOf};
 ghost use Rattle.lines.specs.Scan.{controlOf, externalOf, formOf, ofOne, ofThree, ofTwo, readOf, readWith, scanned, snoopOf, writeOf, writeWith};
+use fields::Leading;
 use fields::Number;
 use fields::end_of;
 use fields::is_pairs;
+use fields::leading_number;
 use fields::scan_bit;
 use fields::scan_number;
 
@@ -29,13 +31,15 @@ pub fn scan(line: &[u8]) -> Event
     if 80 < line.len() {
         return Event::Malformed;
     }
-    let end = end_of(line, b'\t');
-    if end != 1 {
+    if line.len() == 0 {
         return Event::Malformed;
     }
     let letter = line[0];
     if line.len() == 1 {
         return alone(letter);
+    }
+    if line[1] != b'\t' {
+        return Event::Malformed;
     }
     with_fields(letter, &line[2..])
 }
@@ -69,27 +73,14 @@ fn with_fields(letter: u8, fields: &[u8]) -> Event
 fn access_of(is_read: bool, fields: &[u8]) -> Event
     ensures { λ r. ⌜ r ≡ ofThree (cond «is_read» readOf writeOf) (fieldsOf (now (fields .entry))) ⌝ }
 {
-    let first = end_of(fields, b'\t');
-    if first == fields.len() {
+    let Leading::Field(address, next) = leading_number(fields) else {
         return Event::Malformed;
-    }
-    let next = first + 1;
+    };
     let rest = &fields[next..];
-    let second = end_of(rest, b'\t');
-    if second == rest.len() {
+    let Leading::Field(width, last) = leading_number(rest) else {
         return Event::Malformed;
-    }
-    let last = second + 1;
+    };
     let third = &rest[last..];
-    if end_of(third, b'\t') != third.len() {
-        return Event::Malformed;
-    }
-    let Number::Value(address) = scan_number(&fields[..first]) else {
-        return Event::Malformed;
-    };
-    let Number::Value(width) = scan_number(&rest[..second]) else {
-        return Event::Malformed;
-    };
     if is_read {
         read_event(address, width, scan_bit(third))
     } else {
@@ -118,20 +109,12 @@ fn write_event(address: u32, width: u32, third: Number) -> Event
 fn external_of(fields: &[u8]) -> Event
     ensures { λ r. ⌜ r ≡ ofTwo externalOf (fieldsOf (now (fields .entry))) ⌝ }
 {
-    let end = end_of(fields, b'\t');
-    if end == fields.len() {
-        return Event::Malformed;
-    }
-    let next = end + 1;
-    let pairs = &fields[next..];
-    if end_of(pairs, b'\t') != pairs.len() {
-        return Event::Malformed;
-    }
-    let Number::Value(address) = scan_number(&fields[..end]) else {
+    let Leading::Field(address, next) = leading_number(fields) else {
         return Event::Malformed;
     };
+    let pairs = &fields[next..];
     if is_pairs(pairs) {
-        Event::External(address, end + 3)
+        Event::External(address, next + 2)
     } else {
         Event::Malformed
     }
@@ -140,9 +123,6 @@ fn external_of(fields: &[u8]) -> Event
 fn snoop_of(fields: &[u8]) -> Event
     ensures { λ r. ⌜ r ≡ ofOne snoopOf (fieldsOf (now (fields .entry))) ⌝ }
 {
-    if end_of(fields, b'\t') != fields.len() {
-        return Event::Malformed;
-    }
     match scan_number(fields) {
         Number::Value(address) => Event::Snoop(address),
         Number::NotANumber => Event::Malformed,

@@ -1,8 +1,13 @@
-// The calls by value of other masters, writes and snoops, and those on the directory alone: control, flush and reset.
+// The calls by value of other masters, writes and snoops, and those on the directory alone: control, flush and reset. Of a
+// write also the call in place.
 ghost use mathlib.Core.Path.{_≡_};
 ghost use Rattle.memory.specs.Parity.{memory};
 ghost use Rattle.masters.specs.Masters.{controlOutcome, externalCall, flushOutcome, resetOutcome, snoopOutcome, written};
+
+mod in_place;
+
 use directory::Directory;
+pub use in_place::external_write_in_place;
 use memory::store_bytes;
 use refusal::Outcome;
 use refusal::external_number;

@@ -1,19 +1,18 @@
 -- Laws of parity bits, and of the loops over bytes with their parity.
 use Prim.Native.Nat.{ℕ, zero, suc, _+_, _*_, _-_, _%_, _/_, _^_, _≤_, _<_}
 use mathlib.Core.Path.{_≡_, refl, sym, _∙_, ap}
-use mathlib.Core.Bool.{Bool, true, false, not, _&&_, _||_, or-assoc}
+use mathlib.Core.Bool.{true, _&&_}
 use mathlib.Core.List.{List, [], _∷_}
 use native.Mathlib.Omega.{arith}
 use native.Mathlib.Nat.{add-zero, pow-suc}
 use lib.Count.{ones, ones-step}
-use lib.Dec.{eqb}
+use lib.Dec.{eqb, leb}
 use lib.ListN.{length, getD, set, length-set}
 use lib.Seq.{sets, set-set, getD-set-same}
-use borrow.Author.Tests.{eqb-true, eq-eqb, ne-eqb}
-use Rattle.laws.proofs.Tests.{both, same-or}
+use borrow.Author.Tests.{eqb-true, leb-true}
+use Rattle.laws.proofs.Tests.{both}
 use Rattle.words.specs.Bytes.{bytesAt}
-use Rattle.memory.specs.Parity.{Memory, memory, onesOf, dpOf, laneBit, dpAt, withDp, put, stored, wrongAt, wrongIn}
-use Rattle.words.proofs.Moves.{bytes-next}
+use Rattle.memory.specs.Parity.{Memory, memory, onesOf, dpOf, withDp, put, stored}
 
 -- the language's count of ones is the specification's
 pub ones-is : (k n : ℕ) → n < 2 ^ k → ones n ≡ onesOf k n
@@ -41,119 +40,57 @@ stored-lengths m a (b ∷ bytes) =
     let e = put-lengths m a b in
     (k .0 ∙ e .0, k .1 ∙ e .1)
 
--- a store goes on: the k-th byte is put, the others are left to put
-pub store-next : (src : List ℕ) (m : Memory) (s a n k : ℕ) → k < n →
-    stored (put m (a + k) (getD src (s + k) 0)) (a + (k + 1)) (bytesAt src (s + (k + 1)) (n - (k + 1)))
+-- bytes stored in two runs are stored at once
+pub stored-parts : (src : List ℕ) (m : Memory) (s a n k : ℕ) → stored (stored m a (bytesAt src s n)) (a + n) (bytesAt src (s + n) k) ≡ stored m a (bytesAt src s (n + k))
+unfolding stored bytesAt
+stored-parts src m s a zero k = let z : 0 + k ≡ k = omega arith in rw (add-zero a, add-zero s, z)
+stored-parts src m s a (suc n) k =
+    let e : a + suc n ≡ suc a + n = omega arith in
+    let f : s + suc n ≡ suc s + n = omega arith in
+    let g : suc n + k ≡ suc (n + k) = omega arith in
+    rw (e, f, g) (stored-parts src (put m a (getD src s 0)) (suc s) (suc a) n k)
+
+-- a store goes on: from the k-th byte on j are stored, the others are left
+pub stored-on : (src : List ℕ) (m : Memory) (s a n k j : ℕ) → j ≤ n - k →
+    stored (stored m (a + k) (bytesAt src (s + k) j)) (a + (k + j)) (bytesAt src (s + (k + j)) (n - (k + j)))
     ≡ stored m (a + k) (bytesAt src (s + k) (n - k))
-unfolding stored
-store-next src m s a n k h =
-    let f : a + (k + 1) ≡ suc (a + k) = omega arith in
-    rw (f, bytes-next src s n k h)
+stored-on src m s a n k j h =
+    let e : a + (k + j) ≡ a + k + j = omega arith in
+    let f : s + (k + j) ≡ s + k + j = omega arith in
+    let g : n - k ≡ j + (n - (k + j)) = omega arith in
+    rw (e, f, g) (stored-parts src m (s + k) (a + k) j (n - (k + j)))
 
--- a check goes on: the k-th byte is checked, the others are left to check
-pub wrong-next : (m : Memory) (wrong : Bool) (a n k : ℕ) → k < n →
-    (wrong || wrongAt m (a + k) || wrongIn m (a + (k + 1)) (n - (k + 1))) ≡ (wrong || wrongIn m (a + k) (n - k))
-unfolding wrongIn
-wrong-next m wrong a n k h =
-    let e : n - k ≡ suc (n - (k + 1)) = omega arith in
-    let f : a + (k + 1) ≡ suc (a + k) = omega arith in
-    rw (e, f) (or-assoc wrong (wrongAt m (a + k)) _)
+-- a line stored by doublewords
+pub line-stored : (src : List ℕ) (m : Memory) (s a : ℕ) →
+    stored (stored (stored (stored m a (bytesAt src s 4)) (a + 4) (bytesAt src (s + 4) 4)) (a + 8) (bytesAt src (s + 8) 4)) (a + 12) (bytesAt src (s + 12) 4)
+    ≡ stored m a (bytesAt src s 16)
+line-stored src m s a = rw (stored-parts src m s a 4 4, stored-parts src m s a 8 4) (stored-parts src m s a 12 4)
 
--- the lower four bits of a parity byte are its lanes' bits, so a doubleword is wrong where they differ from its bytes' bits
-sixteen-two : (p : ℕ) → p % 16 ≡ p % 2 + 2 * (p / 2 % 8)
-sixteen-two p = omega arith
+-- what the test of a whole doubleword or line tells
+module _ (n count a : ℕ) (h : (eqb count n && eqb (a % 4) 0) ≡ true) where
+  pub whole-count : count ≡ n
+  whole-count = eqb-true count n (both (eqb count n) _ h .0)
 
-eight-two : (p : ℕ) → p % 8 ≡ p % 2 + 2 * (p / 2 % 4)
-eight-two p = omega arith
+  pub whole-inside : (ram parity : ℕ) → (a + count ≤ ram) × (a + count ≤ 4 * parity) → (a % 4 ≡ 0) × (a + n ≤ ram) × (a + n ≤ 4 * parity)
+  whole-inside ram parity i =
+      let e = whole-count in
+      (eqb-true (a % 4) 0 (both (eqb count n) _ h .1), omega (arith, i .0), omega (arith, i .1))
 
-four-two : (p : ℕ) → p % 4 ≡ p % 2 + 2 * (p / 2 % 2)
-four-two p = omega arith
-
-half-half : (p : ℕ) → p / 2 / 2 ≡ p / 4
-half-half p = omega arith
-
-half-quarter : (p : ℕ) → p / 4 / 2 ≡ p / 8
-half-quarter p = omega arith
-
-sum-bits : (x0 x1 x2 x3 y z w : ℕ) → w ≡ x0 + 2 * z → z ≡ x1 + 2 * y → y ≡ x2 + 2 * x3 → w ≡ x0 + 2 * x1 + 4 * x2 + 8 * x3
-sum-bits x0 x1 x2 x3 y z w a b c = omega arith
-
-lower-four : (p : ℕ) → p % 16 ≡ laneBit p 0 + 2 * laneBit p 1 + 4 * laneBit p 2 + 8 * laneBit p 3
-unfolding laneBit
-lower-four p =
-    let one : p / 1 ≡ p = omega arith in
-    let b : p / 2 % 8 ≡ p / 2 % 2 + 2 * (p / 4 % 4) = rw (half-half p) at (eight-two (p / 2)) in
-    let c : p / 4 % 4 ≡ p / 4 % 2 + 2 * (p / 8 % 2) = rw (half-quarter p) at (four-two (p / 4)) in
-    rw one (sum-bits (p % 2) (p / 2 % 2) (p / 4 % 2) (p / 8 % 2) (p / 4 % 4) (p / 2 % 8) (p % 16) (sixteen-two p) b c)
-
--- the lowest bit of a sum
-same-bit : (b c x y : ℕ) → b < 2 → c < 2 → b + 2 * x ≡ c + 2 * y → b ≡ c
-same-bit b c x y h k e = omega arith
-
-lane-two : (p lane : ℕ) → laneBit p lane < 2
-unfolding laneBit
-lane-two p lane = omega arith
-
--- the bits of the bytes of an aligned doubleword
-dp-at : (parity : List ℕ) (a k : ℕ) → a % 4 ≡ 0 → k < 4 → dpAt parity (a + k) ≡ laneBit (getD parity (a / 4) 0) k
-unfolding dpAt
-dp-at parity a k al l =
-    let e : (a + k) / 4 ≡ a / 4 = omega arith in
-    let f : (a + k) % 4 ≡ k = omega arith in
-    rw (e, f)
-
-module _ (l0 l1 l2 l3 d0 d1 d2 d3 : ℕ) (b0 : l0 < 2) (b1 : l1 < 2) (b2 : l2 < 2) (b3 : l3 < 2) (c0 : d0 < 2) (c1 : d1 < 2) (c2 : d2 < 2) (c3 : d3 < 2) where
-  abbrev l : ℕ
-  l = l0 + 2 * l1 + 4 * l2 + 8 * l3
-
-  abbrev d : ℕ
-  d = d0 + 2 * d1 + 4 * d2 + 8 * d3
-
-  four-differ : not (eqb l d) ≡ (not (eqb l0 d0) || (not (eqb l1 d1) || (not (eqb l2 d2) || (not (eqb l3 d3) || false))))
-  four-differ =
-      same-or _ l0 d0
-      (λ e0.
-      same-or _ l1 d1
-      (λ e1.
-      same-or _ l2 d2
-      (λ e2.
-      same-or _ l3 d3
-      (λ e3. rw (eq-eqb l d (omega arith), eq-eqb l0 d0 e0, eq-eqb l1 d1 e1, eq-eqb l2 d2 e2, eq-eqb l3 d3 e3))
-      (λ n. rw (ne-eqb l d (λ z. n (omega arith)), eq-eqb l0 d0 e0, eq-eqb l1 d1 e1, eq-eqb l2 d2 e2, ne-eqb l3 d3 n)))
-      (λ n. rw (ne-eqb l d (λ z. n (same-bit l2 d2 l3 d3 b2 c2 (omega arith))), eq-eqb l0 d0 e0, eq-eqb l1 d1 e1, ne-eqb l2 d2 n)))
-      (λ n. rw (ne-eqb l d (λ z. n (same-bit l1 d1 (l2 + 2 * l3) (d2 + 2 * d3) b1 c1 (omega arith))), eq-eqb l0 d0 e0, ne-eqb l1 d1 n)))
-      (λ n. rw (ne-eqb l d (λ z. n (same-bit l0 d0 (l1 + 2 * l2 + 4 * l3) (d1 + 2 * d2 + 4 * d3) b0 c0 (omega arith))), ne-eqb l0 d0 n))
-
--- an aligned doubleword is wrong where the lower four bits of its parity byte are not its bytes' bits
-pub four-wrong : (m : Memory) (a bits : ℕ) → a % 4 ≡ 0 →
-    bits ≡ dpOf (getD (m .ram) a 0) + 2 * dpOf (getD (m .ram) (a + 1) 0) + 4 * dpOf (getD (m .ram) (a + 2) 0) + 8 * dpOf (getD (m .ram) (a + 3) 0) →
-    not (eqb (getD (m .parity) (a / 4) 0 % 16) bits) ≡ wrongIn m a 4
-unfolding wrongIn wrongAt
-four-wrong m a bits al e =
-    let p = getD (m .parity) (a / 4) 0 in
-    let s1 : suc a ≡ a + 1 = omega arith in
-    let s2 : suc (suc a) ≡ a + 2 = omega arith in
-    let s3 : suc (suc (suc a)) ≡ a + 3 = omega arith in
-    let k0 : dpAt (m .parity) a ≡ laneBit p 0 = rw (add-zero a) at (dp-at (m .parity) a 0 al (omega arith)) in
-    rw (e, lower-four p, s3, s2, s1, k0, dp-at (m .parity) a 1 al (omega arith), dp-at (m .parity) a 2 al (omega arith), dp-at (m .parity) a 3 al (omega arith))
-    (four-differ (laneBit p 0) (laneBit p 1) (laneBit p 2) (laneBit p 3) (dpOf (getD (m .ram) a 0)) (dpOf (getD (m .ram) (a + 1) 0)) (dpOf (getD (m .ram) (a + 2) 0)) (dpOf (getD (m .ram) (a + 3) 0))
-    (lane-two p 0) (lane-two p 1) (lane-two p 2) (lane-two p 3) (dp-below _) (dp-below _) (dp-below _) (dp-below _))
-
--- what the test of a whole doubleword tells
-module _ (count a : ℕ) (h : (eqb count 4 && eqb (a % 4) 0) ≡ true) where
-  pub four-count : count ≡ 4
-  four-count = eqb-true count 4 (both (eqb count 4) _ h .0)
-
-  pub four-inside : (ram parity : ℕ) → (a + count ≤ ram) × (a + count ≤ 4 * parity) → (a % 4 ≡ 0) × (a + 4 ≤ ram) × (a + 4 ≤ 4 * parity)
-  four-inside ram parity i =
-      let n = four-count in
-      (eqb-true (a % 4) 0 (both (eqb count 4) _ h .1), omega (arith, i .0), omega (arith, i .1))
-
-  pub four-room : (s src ram parity : ℕ) → (s + count ≤ src) × (a + count ≤ ram) × (a + count ≤ 4 * parity) → (a % 4 ≡ 0) × (s + 4 ≤ src) × (a + 4 ≤ ram) × (a + 4 ≤ 4 * parity)
-  four-room s src ram parity i =
-      let n = four-count in
-      let k = four-inside ram parity (i .1, i .2) in
+  pub whole-room : (s src ram parity : ℕ) → (s + count ≤ src) × (a + count ≤ ram) × (a + count ≤ 4 * parity) → (a % 4 ≡ 0) × (s + n ≤ src) × (a + n ≤ ram) × (a + n ≤ 4 * parity)
+  whole-room s src ram parity i =
+      let e = whole-count in
+      let k = whole-inside ram parity (i .1, i .2) in
       (k .0, omega (arith, i .0), k .1, k .2)
+
+-- what the test of a whole doubleword at the start tells
+module _ (left a : ℕ) (h : (leb 4 left && eqb (a % 4) 0) ≡ true) where
+  pub starts-whole : 4 ≤ left
+  starts-whole = leb-true 4 left (both (leb 4 left) _ h .0)
+
+  pub starts-room : (s src ram parity : ℕ) → (0 < left) × (s + left ≤ src) × (a + left ≤ ram) × (a + left ≤ 4 * parity) → (a % 4 ≡ 0) × (s + 4 ≤ src) × (a + 4 ≤ ram) × (a + 4 ≤ 4 * parity)
+  starts-room s src ram parity i =
+      let l = starts-whole in
+      (eqb-true (a % 4) 0 (both (leb 4 left) _ h .1), omega (arith, i .1), omega (arith, i .2), omega (arith, i .3))
 
 -- the bits of all four lanes replaced, one after another, are the whole parity byte
 module _ (p d0 d1 d2 d3 : ℕ) (c0 : d0 < 2) (c1 : d1 < 2) (c2 : d2 < 2) (c3 : d3 < 2) where

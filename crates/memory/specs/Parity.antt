@@ -23,6 +23,11 @@ onesOf (suc n) x = x % 2 + onesOf n (x / 2)
 unfoldable pub dpOf : ℕ → ℕ
 dpOf b = onesOf 8 b % 2
 
+-- The DP bits of some bytes, that of the first the lowest.
+unfoldable pub dpsOf : List ℕ → ℕ
+dpsOf [] = 0
+dpsOf (b ∷ bs) = dpOf b + 2 * dpsOf bs
+
 -- "bits 0 to 3 are DP0 to DP3": the bit of a lane of a parity byte.
 unfoldable pub laneBit : ℕ → ℕ → ℕ
 laneBit p lane = p / 2 ^ lane % 2

@@ -1,5 +1,6 @@
 // RAM with its parity array.
 mod parity;
 
-pub use parity::any_wrong;
+pub use parity::dp_bits;
 pub use parity::store_bytes;
+pub use parity::store_value;

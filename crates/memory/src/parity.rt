@@ -1,24 +1,18 @@
 // RAM and its parity array.
 ghost use mathlib.Core.Path.{_≡_};
-ghost use Prim.Native.Nat.{_+_, _*_, _%_, _≤_, _<_};
+ghost use Prim.Native.Nat.{_+_, _*_, _/_, _%_, _^_, _≤_, _<_};
 ghost use lib.ListN.{length};
-ghost use Rattle.words.specs.Bytes.{bytesAt};
-ghost use Rattle.memory.specs.Parity.{dpOf, laneBit, memory, put, stored, withDp, wrongAt, wrongIn};
+ghost use Rattle.words.specs.Bytes.{bytesAt, bytesOf};
+ghost use Rattle.memory.specs.Parity.{dpOf, dpsOf, memory, put, stored, withDp};
+use words::bytes_of;
 use words::copy_bytes;
+use words::put_value;
 
 // The DP bit of a byte.
 fn dp_bit(b: u8) -> u8
     ensures { λ r. ⌜ r ≡ dpOf b ⌝ }
 {
     (u8::count_ones(b) % 2) as u8
-}
-
-// The DP bit of a lane of a parity byte.
-fn lane_bit(p: u8, lane: usize) -> u8
-    requires { ⌜ lane < 4 ⌝ }
-    ensures { λ r. ⌜ r ≡ laneBit p lane ⌝ }
-{
-    (p >> lane) % 2
 }
 
 // A parity byte with the bit of one lane replaced.
@@ -34,11 +28,12 @@ fn with_dp(p: u8, lane: usize, bit: u8) -> u8
     }
 }
 
-// The DP bits of four bytes, as a parity byte has them.
-fn dp_bits(lowest: u8, second: u8, third: u8, highest: u8) -> u8
+// The DP bits of four bytes, as a parity byte has them. Summed by doubling: a compiler makes a slow vector count of
+// a flat sum.
+pub fn dp_bits(lowest: u8, second: u8, third: u8, highest: u8) -> u8
     ensures { λ r. ⌜ r ≡ dpOf lowest + 2 * dpOf second + 4 * dpOf third + 8 * dpOf highest ⌝ }
 {
-    dp_bit(lowest) + 2 * dp_bit(second) + 4 * dp_bit(third) + 8 * dp_bit(highest)
+    dp_bit(lowest) + 2 * (dp_bit(second) + 2 * (dp_bit(third) + 2 * dp_bit(highest)))
 }
 
 // A byte put into RAM, with its parity.
@@ -52,16 +47,27 @@ fn put_byte(ram: &mut [u8], parity: &mut [u8], a: usize, b: u8)
     parity[i] = with_dp(old, a % 4, dp_bit(b));
 }
 
-// So many bytes of src from a place on, put into RAM with their parity. A whole doubleword is stored at once.
+// So many bytes of src from a place on, put into RAM with their parity. A whole doubleword is stored at once, and a whole line
+// without a loop.
 pub fn store_bytes(src: &[u8], s: usize, ram: &mut [u8], parity: &mut [u8], a: usize, count: usize)
     requires { ⌜ (s + count ≤ length (now src)) × (a + count ≤ length (now ram)) × (a + count ≤ 4 * length (now parity)) ⌝ }
     ensures { λ _. ⌜ memory (now (ram .exit)) (now (parity .exit)) ≡ stored (memory (now (ram .entry)) (now (parity .entry))) a (bytesAt (now (src .entry)) s count) ⌝ }
 {
-    if (count == 4) & (a % 4 == 0) {
-        store_doubleword(src, s, ram, parity, a);
+    if (count == 16) & (a % 4 == 0) {
+        store_line(src, s, ram, parity, a);
     } else {
         store_each(src, s, ram, parity, a, count);
     }
+}
+
+fn store_line(src: &[u8], s: usize, ram: &mut [u8], parity: &mut [u8], a: usize)
+    requires { ⌜ (a % 4 ≡ 0) × (s + 16 ≤ length (now src)) × (a + 16 ≤ length (now ram)) × (a + 16 ≤ 4 * length (now parity)) ⌝ }
+    ensures { λ _. ⌜ memory (now (ram .exit)) (now (parity .exit)) ≡ stored (memory (now (ram .entry)) (now (parity .entry))) a (bytesAt (now (src .entry)) s 16) ⌝ }
+{
+    store_doubleword(src, s, ram, parity, a);
+    store_doubleword(src, s + 4, ram, parity, a + 4);
+    store_doubleword(src, s + 8, ram, parity, a + 8);
+    store_doubleword(src, s + 12, ram, parity, a + 12);
 }
 
 fn store_doubleword(src: &[u8], s: usize, ram: &mut [u8], parity: &mut [u8], a: usize)
@@ -74,57 +80,71 @@ fn store_doubleword(src: &[u8], s: usize, ram: &mut [u8], parity: &mut [u8], a: 
     parity[i] = bits;
 }
 
+// A whole doubleword where the bytes that are left begin with one, or one byte. Answers how many.
+fn store_next(
+    src: &[u8],
+    s: usize,
+    ram: &mut [u8],
+    parity: &mut [u8],
+    a: usize,
+    left: usize,
+) -> usize
+    requires { ⌜ (0 < left) × (s + left ≤ length (now src)) × (a + left ≤ length (now ram)) × (a + left ≤ 4 * length (now parity)) ⌝ }
+    ensures { λ r. ⌜ (0 < r) × (r ≤ left) ⌝ }
+    ensures { λ r. ⌜ memory (now (ram .exit)) (now (parity .exit)) ≡ stored (memory (now (ram .entry)) (now (parity .entry))) a (bytesAt (now (src .entry)) s r) ⌝ }
+{
+    if (4 <= left) & (a % 4 == 0) {
+        store_doubleword(src, s, ram, parity, a);
+        return 4;
+    }
+    put_byte(ram, parity, a, src[s]);
+    1
+}
+
 fn store_each(src: &[u8], s: usize, ram: &mut [u8], parity: &mut [u8], a: usize, count: usize)
     requires { ⌜ (s + count ≤ length (now src)) × (a + count ≤ length (now ram)) × (a + count ≤ 4 * length (now parity)) ⌝ }
     ensures { λ _. ⌜ memory (now (ram .exit)) (now (parity .exit)) ≡ stored (memory (now (ram .entry)) (now (parity .entry))) a (bytesAt (now (src .entry)) s count) ⌝ }
 {
     let mut k: usize = 0;
     while k < count {
-        put_byte(ram, parity, a + k, src[s + k]);
-        k += 1;
+        let n = store_next(src, s + k, ram, parity, a + k, count - k);
+        k += n;
     }
 }
 
-// Whether a RAM byte has wrong parity.
-fn is_wrong(ram: &[u8], parity: &[u8], a: usize) -> bool
-    requires { ⌜ (a < length (now ram)) × (a < 4 * length (now parity)) ⌝ }
-    ensures { λ r. ⌜ r ≡ wrongAt (memory (now (ram .entry)) (now (parity .entry))) a ⌝ }
+// The DP bits of the four bytes of a number, as a parity byte has them.
+fn value_bits(value: u32) -> u8
+    ensures { λ r. ⌜ r ≡ dpsOf (bytesOf 4 value) ⌝ }
 {
-    let i = a / 4;
-    let p = parity[i];
-    lane_bit(p, a % 4) != dp_bit(ram[a])
+    let b = bytes_of(value);
+    dp_bits(b[0], b[1], b[2], b[3])
 }
 
-// Whether any of so many RAM bytes has wrong parity. A whole doubleword is compared at once.
-pub fn any_wrong(ram: &[u8], parity: &[u8], a: usize, count: usize) -> bool
-    requires { ⌜ (a + count ≤ length (now ram)) × (a + count ≤ 4 * length (now parity)) ⌝ }
-    ensures { λ r. ⌜ r ≡ wrongIn (memory (now (ram .entry)) (now (parity .entry))) a count ⌝ }
+// A parity byte with the bits of so many lanes replaced by bits that stand in place.
+fn with_bits(p: u8, lane: usize, count: usize, bits: u8) -> u8
+    requires { ⌜ (0 < count) × (lane + count ≤ 4) × (bits < 16) ⌝ }
+    ensures { λ r. ⌜ r ≡ p % 2 ^ lane + bits + p % 16 / 2 ^ (lane + count) * 2 ^ (lane + count) ⌝ }
 {
-    if (count == 4) & (a % 4 == 0) {
-        doubleword_wrong(ram, parity, a)
+    let top = lane + count;
+    let end: u8 = 1 << lane;
+    let above = p % 16 >> top << top;
+    p % end + bits + above
+}
+
+// So many bytes of a number put into one aligned doubleword of RAM with their parity, in registers. The bytes of the number below
+// and above those moved are 0, and so are their bits.
+pub fn store_value(ram: &mut [u8], parity: &mut [u8], a: usize, count: usize, value: u32)
+    requires { ⌜ (0 < count) × (a % 4 + count ≤ 4) × (value < 256 ^ count) × (a / 4 * 4 + 4 ≤ length (now ram)) × (a / 4 * 4 + 4 ≤ 4 * length (now parity)) ⌝ }
+    ensures { λ _. ⌜ memory (now (ram .exit)) (now (parity .exit)) ≡ stored (memory (now (ram .entry)) (now (parity .entry))) a (bytesOf count value) ⌝ }
+{
+    let lane = a % 4;
+    let bits = value_bits(value << (8 * lane));
+    put_value(ram, a, count, value);
+    let i = a / 4;
+    if count == 4 {
+        parity[i] = bits;
     } else {
-        each_wrong(ram, parity, a, count)
+        let old = parity[i];
+        parity[i] = with_bits(old, lane, count, bits);
     }
-}
-
-fn doubleword_wrong(ram: &[u8], parity: &[u8], a: usize) -> bool
-    requires { ⌜ (a % 4 ≡ 0) × (a + 4 ≤ length (now ram)) × (a + 4 ≤ 4 * length (now parity)) ⌝ }
-    ensures { λ r. ⌜ r ≡ wrongIn (memory (now (ram .entry)) (now (parity .entry))) a 4 ⌝ }
-{
-    let bits = dp_bits(ram[a], ram[a + 1], ram[a + 2], ram[a + 3]);
-    let i = a / 4;
-    parity[i] % 16 != bits
-}
-
-fn each_wrong(ram: &[u8], parity: &[u8], a: usize, count: usize) -> bool
-    requires { ⌜ (a + count ≤ length (now ram)) × (a + count ≤ 4 * length (now parity)) ⌝ }
-    ensures { λ r. ⌜ r ≡ wrongIn (memory (now (ram .entry)) (now (parity .entry))) a count ⌝ }
-{
-    let mut wrong = false;
-    let mut k: usize = 0;
-    while k < count {
-        wrong = wrong | is_wrong(ram, parity, a + k);
-        k += 1;
-    }
-    wrong
 }

@@ -1,192 +1,169 @@
--- Laws of one doubleword of a read: what its cycles need, and what it leaves.
-use Prim.Native.Nat.{ℕ, _+_, _*_, _/_, _%_, _≤_, _<_}
+-- Laws of one doubleword of a read: what its cycles brought is RAM's, and what the code leaves in each case.
+use Prim.Native.Nat.{ℕ, _+_, _*_, _-_, _/_, _%_, _^_, _≤_, _<_}
 use mathlib.Core.Path.{_≡_, refl, sym, _∙_, ap}
-use mathlib.Core.Bool.{Bool, true, false, cond, _&&_}
-use mathlib.Core.List.{List, [], _∷_}
+use mathlib.Core.Bool.{Bool, true, false, _&&_}
+use mathlib.Core.List.{List, map}
 use native.Mathlib.Omega.{arith}
-use lib.Dec.{eqb}
-use lib.ListN.{length, getD, replicate, length-map}
-use lib.Seq.{sets, length-sets}
-use Rattle.laws.proofs.Tests.{by-test}
+use native.Mathlib.Nat.{add-zero, zero-add}
+use lib.ListN.{length, getD, length-map}
+use lib.Seq.{sets}
+use Rattle.laws.proofs.Tests.{cond-true, cond-false}
 use Rattle.ways.specs.declared.ways.Found.{Found}
 use Rattle.ways.specs.declared.ways.Found.the-variants.{At, Nothing}
-use Rattle.ways.specs.Address.{setOf}
-use Rattle.ways.specs.Ways.{lookupIn, victimIn}
-use Rattle.ways.proofs.FourWays.{lookup-below, victim-below}
-use Rattle.words.specs.Bytes.{bytesAt}
+use Rattle.words.specs.Bytes.{bytesAt, valueOf}
+use Rattle.words.proofs.Spans.{bytes-same}
+use Rattle.words.proofs.Numbers.{byte-powers, bytes-small, value-below}
+use Rattle.words.proofs.Places.{bytes-length}
 use Rattle.memory.specs.Parity.{Memory}
-use Rattle.bus.specs.declared.cycle.CycleCursor.{CycleCursor}
-use Rattle.bus.specs.Groups.{groupSize}
-use Rattle.bus.specs.Bus.{ken, Cycle, cyclesOf, lastAnswer, afterCycles, bufferAfter}
-use Rattle.bus.specs.Record.{readRecord, wordsOf, plainKind, fillKind}
-use Rattle.bus.specs.Cursor.{cycleBegin, wantedAt, CycleNeeds}
-use Rattle.bus.proofs.Sizing.{wanted-some, burst-later}
-use Rattle.cycles.specs.CycleLoop.{BufferNeeds, ReadCycles}
-use Rattle.doubleword.specs.declared.change.Change.{Change}
-use Rattle.doubleword.specs.declared.change.Change.the-variants.{Use}
-use Rattle.doubleword.specs.declared.change.DoublewordResult.{DoublewordResult}
+use Rattle.bus.specs.Bus.{run, ken, burst, lastAnswer}
+use Rattle.bus.specs.Record.{readRecord, plainKind, fillKind, wordsOf}
+use Rattle.cycles.specs.Made.{CyclesMade}
+use Rattle.bus.proofs.Runs.{last-answer}
+use Rattle.cycles.proofs.Brought.{OneDoubleword, fill-buffer, wanted-bytes}
+use Rattle.doubleword.specs.declared.change.Change.the-variants.{Unchanged, Use, Fill}
 use Rattle.doubleword.specs.declared.change.Wanted.{Wanted}
+use Rattle.doubleword.specs.Doubleword.{Doubleword, Done, dataOffset, plainCycles}
 use Rattle.doubleword.specs.declared.cursor.AccessCursor.{AccessCursor}
-use Rattle.doubleword.specs.declared.cursor.NextResult.{NextResult}
-use Rattle.doubleword.specs.Doubleword.{Doubleword, dataOffset, Done, plainCycles}
-use Rattle.doubleword.specs.DoublewordCode.{doublewordOf, DoublewordNeeds, BelowFour}
+use Rattle.doubleword.specs.DoublewordCode.{DoublewordNeeds}
 use Rattle.doubleword.specs.Cursor.{wantedOf, groupAt}
-use Rattle.doubleword.proofs.Doublewords.{plainStart, buffer-needs, plain-needs, plain-cycles}
-use Rattle.reading.specs.Reading.{readHit, readPlain, fillCycles, keptChange, keptArray, readFill, readDone}
-use Rattle.reading.specs.ReadingCode.{missCycles, missKind, ReadMiss, Reads, ReadNext}
-
--- the cursor that the cycles of a doubleword that missed begin with
-abbrev fillStart : Wanted → CycleCursor
-fillStart w = cycleBegin (w .from / 4 * 4) 4 3
-
-abbrev pub missStart : Bool → Wanted → CycleCursor
-missStart fills w = cond fills (fillStart w) (plainStart w)
-
--- what they need
-pub miss-needs : (fills : Bool) (w : Wanted) (first ram parity answers log buffer : ℕ) → DoublewordNeeds w first ram parity answers log → buffer ≡ 16 →
-    (missStart fills w .cycles ≡ 0) × (missStart fills w .answer ≡ 0) × (w .from / 4 < 4) × (missKind fills ≤ 32) × CycleNeeds (missStart fills w) answers × BufferNeeds (w .line) first ram parity answers log buffer
-miss-needs true w first ram parity answers log buffer z e = (
-  refl,
-  refl,
-  omega (arith, z .line),
-  omega arith,
-  record { lanes = omega arith; line = omega (arith, z .line); turns = omega arith; enough = omega (arith, z .served) },
-  buffer-needs w first ram parity answers log z buffer e,
-)
-miss-needs false w first ram parity answers log buffer z e = (
-  refl,
-  refl,
-  omega (arith, z .line),
-  omega arith,
-  plain-needs w first ram parity answers log z,
-  buffer-needs w first ram parity answers log z buffer e,
-)
-
--- which they are
-miss-cycles : (fills : Bool) (w : Wanted) (answers : List ℕ) → 0 < w .count → w .from < 16 →
-    cyclesOf answers (wantedAt (w .from / 4) (missStart fills w)) ≡ missCycles fills (doublewordOf w answers)
-miss-cycles true w answers some l =
-    rw (wanted-some (w .from / 4) (fillStart w) (omega arith), ← burst-later (w .from / 4) (omega arith))
-miss-cycles false w answers some l = plain-cycles w answers (w .from / 4) some
-
--- what they leave
-pub miss-left : (fills : Bool) (m : Memory) (w : Wanted) (answers : List ℕ) (first : ℕ) (log₀ buffer₀ : List ℕ) (r : CycleCursor) (log buffer : List ℕ) →
-    length answers ≡ groupSize → 0 < w .count → w .from < 16 →
-    ReadCycles (missKind fills) m answers (w .from / 4) (w .line) first (missStart fills w) log₀ buffer₀ r log buffer →
-    ReadMiss fills m (doublewordOf w answers) first log₀ buffer₀ r log buffer
-miss-left fills m w answers first log₀ buffer₀ r log buffer e some l k =
-    let q = miss-cycles fills w answers some l in
-    record {
-      logs = rw (← q) (k .logs);
-      brings = rw (← q) (k .brings);
-      made = rw (← q) (k .made);
-      ends = rw (← q) (k .ends);
-      most = omega (arith, k .most);
-    }
-
--- a miss, as its cycles and the fill's end leave it
-pub missed-done : (fills : Bool) (m : Memory) (w : Doubleword) (victim first : ℕ) (array₀ log₀ operand₀ : List ℕ) (cursor : CycleCursor) (change : Change) (log buffer array operand : List ℕ) →
-    ReadMiss fills m w first log₀ (replicate 16 0) cursor log buffer →
-    change ≡ keptChange (fills && eqb (cursor .answer % 2) 1) victim →
-    array ≡ keptArray (fills && eqb (cursor .answer % 2) 1) victim (w .line) buffer array₀ →
-    operand ≡ sets operand₀ (w .place) (bytesAt buffer (w .wanted .from) (w .wanted .count)) →
-    Reads (cond fills (readFill victim m array₀ w) (readPlain m array₀ w)) (w .place) first log₀ operand₀ (record { change = change; cycles = cursor .cycles }) array log operand
-unfolding readFill readPlain
-missed-done true m w victim first array₀ log₀ operand₀ cursor change log buffer array operand k ec ea eo =
-    let q : eqb (cursor .answer % 2) 1 ≡ ken (lastAnswer 0 (fillCycles w)) = ap (λ (x : ℕ). eqb (x % 2) 1) (k .ends) in
-    record {
-      change = ec ∙ rw q;
-      arrays = ea ∙ rw (q, k .brings);
-      logs = k .logs;
-      bytes = eo ∙ rw (k .brings);
-      made = k .made ∙ sym (length-map (fillCycles w) (readRecord fillKind m (w .line)));
-      most = k .most;
-    }
-missed-done false m w victim first array₀ log₀ operand₀ cursor change log buffer array operand k ec ea eo =
-    record {
-      change = ec;
-      arrays = ea;
-      logs = k .logs;
-      bytes = eo ∙ rw (k .brings);
-      made = k .made ∙ sym (length-map (plainCycles w) (readRecord plainKind m (w .line)));
-      most = k .most;
-    }
+use Rattle.reading.specs.Reading.{readHit, bufferOf, plainMiss, fillCycles, fillMiss, readMiss, settled, readDone}
+use Rattle.reading.specs.declared.next.NextRead.{NextRead}
+use Rattle.reading.specs.declared.reading.DoublewordRead.{DoublewordRead}
+use Rattle.reading.specs.ReadingCode.{Reads, ReadNext}
 
 -- a read leaves memory as it was
 pub read-memory : (f : Found) (victim : ℕ) (mayFill : Bool) (m : Memory) (array : List ℕ) (w : Doubleword) → readDone f victim mayFill m array w .memory ≡ m
-unfolding readDone readHit readFill readPlain
+unfolding readDone readHit settled
 read-memory (At way) victim mayFill m array w = refl
-read-memory Nothing victim mayFill m array w =
-    by-test (λ b. cond b (readFill victim m array w) (readPlain m array w) .memory ≡ m) (mayFill && ken (getD (w .answers) 0 0)) (λ _. refl) (λ _. refl)
+read-memory Nothing victim mayFill m array w = refl
 
--- read cycles leave the length of the line buffer
-through-length : (ram : List ℕ) (line : ℕ) (cs : List Cycle) (buffer : List ℕ) → length (afterCycles (bufferAfter ram line) cs buffer) ≡ length buffer
-unfolding afterCycles
-through-length ram line [] buffer = refl
-through-length ram line (c ∷ cs) buffer =
-    through-length ram line cs (bufferAfter ram line (c .moved) buffer)
-    ∙ length-sets buffer (c .moved .from) (bytesAt ram (line + c .moved .from) (c .moved .count))
+-- the bytes of a line buffer that a fill filled are RAM's
+filled-bytes : (m : Memory) (w : Doubleword) (j n : ℕ) → 16 ≤ length (w .answers) → j + n ≤ 16 → bytesAt (bufferOf m w (fillCycles w)) j n ≡ bytesAt (m .ram) (w .line + j) n
+filled-bytes m w j n l h =
+    bytes-same (bufferOf m w (fillCycles w)) (m .ram) j (w .line + j) n
+    (λ o k.
+    let e : w .line + (j + o) ≡ w .line + j + o = omega arith in
+    rw e at (fill-buffer (m .ram) (w .line) (w .wanted .from / 4) (w .answers) l (j + o) (omega arith)))
 
-pub missed-length : {fills : Bool} {m : Memory} {w : Doubleword} {first : ℕ} {log₀ buffer₀ : List ℕ} {r : CycleCursor} {log buffer : List ℕ} →
-    ReadMiss fills m w first log₀ buffer₀ r log buffer → length buffer ≡ length buffer₀
-missed-length {fills} {m} {w} {buffer₀ = buffer₀} k = ap length (k .brings) ∙ through-length (m .ram) (w .line) (missCycles fills w) buffer₀
+-- the number of so many bytes is below what that many can say
+bytes-below : (l : List ℕ) → ((i : ℕ) → getD l i 0 < 256) → (i n : ℕ) → valueOf (bytesAt l i n) < 256 ^ n
+bytes-below l h i n = rw (bytes-length l i n) at (value-below (bytesAt l i n) (bytes-small l h i n))
 
--- a hit, and a miss, by what the lookup found
-module _ (f : Found) (victim : ℕ) (mayFill : Bool) (m : Memory) (array : List ℕ) (w : Doubleword) where
-  pub hit-reads : (way offset first : ℕ) (log operand₀ operand : List ℕ) → f ≡ At way → offset ≡ dataOffset (w .line) way →
-      operand ≡ sets operand₀ (w .place) (bytesAt array (offset + w .wanted .from) (w .wanted .count)) →
-      Reads (readDone f victim mayFill m array w) (w .place) first log operand₀ (record { change = Use way; cycles = 0 }) array log operand
+-- the wanted bytes of a doubleword lie in one
+pub one-doubleword : (w : Wanted) (first ram parity answers log : ℕ) → DoublewordNeeds w first ram parity answers log → OneDoubleword (run (w .from) (w .count))
+one-doubleword w first ram parity answers log z = record { some = z .some; lanes = z .lanes; line = inside (w .from) (w .count) (z .line) (z .lanes) }
+  where
+    inside : (from count : ℕ) → from < 16 → from % 4 + count ≤ 4 → from + count ≤ 16
+    inside from count h l = omega arith
+
+module _ (f : Found) (victim : ℕ) (mayFill : Bool) (m : Memory) (array : List ℕ) (w : Doubleword) (first : ℕ) (log₀ : List ℕ) where
+  -- a hit
+  pub hit-reads : (way offset value : ℕ) → f ≡ At way → way < 4 → offset ≡ dataOffset (w .line) way →
+      value ≡ valueOf (bytesAt array (offset + w .wanted .from) (w .wanted .count)) → ((i : ℕ) → getD array i 0 < 256) →
+      Reads (readDone f victim mayFill m array w) (w .wanted .count) first log₀ (Use way) value 0 array log₀
   unfolding readDone readHit wordsOf
-  hit-reads way offset first log operand₀ operand e s o =
+  hit-reads way offset value e b eo ev small =
       rw e
       (record {
-        change = refl;
+        changes = refl;
+        below = b;
         arrays = refl;
         logs = refl;
-        bytes = rw s at o;
+        gives = rw eo at ev;
+        fits = rw ev (bytes-below array small (offset + w .wanted .from) (w .wanted .count));
         made = refl;
         most = omega arith;
       })
 
-  pub miss-reads : (first : ℕ) (log₀ operand₀ : List ℕ) (r : DoublewordResult) (array′ log operand : List ℕ) → f ≡ Nothing →
-      Reads (cond (mayFill && ken (getD (w .answers) 0 0)) (readFill victim m array w) (readPlain m array w)) (w .place) first log₀ operand₀ r array′ log operand →
-      Reads (readDone f victim mayFill m array w) (w .place) first log₀ operand₀ r array′ log operand
-  unfolding readDone
-  miss-reads first log₀ operand₀ r array′ log operand e k = rw e k
+  -- a miss reads RAM's bytes
+  module _ (e : f ≡ Nothing) (g : OneDoubleword (w .wanted)) (enough : 16 ≤ length (w .answers)) (value : ℕ) (ev : value ≡ valueOf (bytesAt (m .ram) (w .line + w .wanted .from) (w .wanted .count)))
+      (small : (i : ℕ) → getD (m .ram) i 0 < 256) (cycles : ℕ) (log : List ℕ) where
+    fits-ram : value < 256 ^ w .wanted .count
+    fits-ram = rw ev (bytes-below (m .ram) small (w .line + w .wanted .from) (w .wanted .count))
 
--- the way of a change is below 4
-read-below : (f : Found) (victim : ℕ) (mayFill : Bool) (m : Memory) (array : List ℕ) (w : Doubleword) → ((way : ℕ) → f ≡ At way → way < 4) → victim < 4 →
-    BelowFour (readDone f victim mayFill m array w .change)
-unfolding readDone readHit readFill readPlain
-read-below (At way) victim mayFill m array w h l = h way refl
-read-below Nothing victim mayFill m array w h l =
-    by-test (λ b. BelowFour (cond b (readFill victim m array w) (readPlain m array w) .change)) (mayFill && ken (getD (w .answers) 0 0))
-    (λ _. by-test (λ b. BelowFour (keptChange b victim)) (ken (lastAnswer 0 (fillCycles w))) (λ _. l) (λ _. tt))
-    (λ _. tt)
+    pub plain-reads : (mayFill && ken (getD (w .answers) 0 0)) ≡ false → CyclesMade (readRecord plainKind m (w .line)) (plainCycles w) first 0 log₀ cycles log → cycles ≤ 4 →
+        Reads (readDone f victim mayFill m array w) (w .wanted .count) first log₀ Unchanged value cycles array log
+    unfolding readDone readMiss settled plainMiss
+    plain-reads p made most =
+        rw (e, cond-false _ (fillMiss m w) (plainMiss m w) p)
+        (record {
+          changes = refl;
+          below = tt;
+          arrays = refl;
+          logs = rw (add-zero first) at (made .logs);
+          gives = ev ∙ sym (ap valueOf (wanted-bytes (m .ram) (w .line) (w .wanted) g (w .answers) enough));
+          fits = fits-ram;
+          made = made .made ∙ zero-add (length (plainCycles w)) ∙ sym (length-map (plainCycles w) (readRecord plainKind m (w .line)));
+          most = omega arith;
+        })
 
-pub reads-below : (tags : List ℕ) (valid : List Bool) (lru : List ℕ) (mayFill : Bool) (m : Memory) (array : List ℕ) (w : Doubleword) {place first : ℕ} {log₀ operand₀ : List ℕ} {r : DoublewordResult} {array′ log operand : List ℕ} →
-    Reads (readDone (lookupIn tags valid (w .line)) (victimIn valid lru (setOf (w .line))) mayFill m array w) place first log₀ operand₀ r array′ log operand → BelowFour (r .change)
-reads-below tags valid lru mayFill m array w k =
-    rw (k .change) (read-below _ _ mayFill m array w (lookup-below tags valid (w .line)) (victim-below valid lru (setOf (w .line))))
+    -- a fill: kept where the last answer used has KEN#
+    module _ (p : (mayFill && ken (getD (w .answers) 0 0)) ≡ true) (made : CyclesMade (readRecord fillKind m (w .line)) (fillCycles w) first 0 log₀ cycles log) (some : 0 < cycles) (most : cycles ≤ 16) where
+      last-is : ken (lastAnswer 0 (fillCycles w)) ≡ ken (getD (w .answers) (cycles - 1) 0)
+      last-is = ap ken (last-answer (w .answers) (burst (w .wanted .from / 4)) cycles (made .made ∙ zero-add (length (fillCycles w))) some)
+
+      gives-ram : value ≡ valueOf (bytesAt (bufferOf m w (fillCycles w)) (w .wanted .from) (w .wanted .count))
+      gives-ram = ev ∙ sym (ap valueOf (filled-bytes m w (w .wanted .from) (w .wanted .count) enough (g .line)))
+
+      filled-made : cycles ≡ length (map (readRecord fillKind m (w .line)) (fillCycles w))
+      filled-made = made .made ∙ zero-add (length (fillCycles w)) ∙ sym (length-map (fillCycles w) (readRecord fillKind m (w .line)))
+
+      pub dropped-reads : ken (getD (w .answers) (cycles - 1) 0) ≡ false →
+          Reads (readDone f victim mayFill m array w) (w .wanted .count) first log₀ Unchanged value cycles array log
+      unfolding readDone readMiss settled fillMiss
+      dropped-reads k =
+          let q = last-is ∙ k in
+          rw (e, cond-true _ (fillMiss m w) (plainMiss m w) p)
+          (record {
+            changes = rw q;
+            below = tt;
+            arrays = rw q;
+            logs = rw (add-zero first) at (made .logs);
+            gives = gives-ram;
+            fits = fits-ram;
+            made = filled-made;
+            most = most;
+          })
+
+      pub kept-reads : ken (getD (w .answers) (cycles - 1) 0) ≡ true → (way : ℕ) → way ≡ victim → way < 4 → (array′ : List ℕ) →
+          array′ ≡ sets array (dataOffset (w .line) way) (bytesAt (m .ram) (w .line) 16) →
+          Reads (readDone f victim mayFill m array w) (w .wanted .count) first log₀ (Fill way) value cycles array′ log
+      unfolding readDone readMiss settled fillMiss
+      kept-reads k way ew b array′ ea =
+          let q = last-is ∙ k in
+          let line : bytesAt (bufferOf m w (fillCycles w)) 0 16 ≡ bytesAt (m .ram) (w .line) 16 = rw (add-zero (w .line)) at (filled-bytes m w 0 16 enough (omega arith)) in
+          rw (e, cond-true _ (fillMiss m w) (plainMiss m w) p)
+          (record {
+            changes = rw (q, ew);
+            below = b;
+            arrays = rw (q, line, ← ew) ea;
+            logs = rw (add-zero first) at (made .logs);
+            gives = gives-ram;
+            fits = fits-ram;
+            made = filled-made;
+            most = most;
+          })
 
 -- the next doubleword of the code, from what its parts leave
-module _ (cursor : AccessCursor) (xs : List ℕ) (w : Wanted) (given : List ℕ) (ew : w ≡ wantedOf cursor) (eg : given ≡ groupAt cursor xs) (moved : DoublewordResult) (b : BelowFour (moved .change)) where
-  abbrev result : NextResult
-  result = record { line = w .line; change = moved .change; count = w .count; cycles = moved .cycles }
+module _ (cursor : AccessCursor) (xs : List ℕ) (w : Wanted) (given : List ℕ) (ew : w ≡ wantedOf cursor) (eg : given ≡ groupAt cursor xs) (read : DoublewordRead) where
+  abbrev result : NextRead
+  result = record { line = w .line; change = read .change; count = w .count; value = read .value; cycles = read .cycles }
 
-  pub read-next-left : (one : Wanted → List ℕ → Done) (log₀ operand₀ array log operand : List ℕ) →
-      Reads (one w given) (w .place) (cursor .cycles) log₀ operand₀ moved array log operand →
-      ReadNext (one (wantedOf cursor) (groupAt cursor xs)) cursor log₀ operand₀ result array log operand
-  read-next-left one log₀ operand₀ array log operand k =
-      let k′ : Reads (one (wantedOf cursor) (groupAt cursor xs)) (cursor .place) (cursor .cycles) log₀ operand₀ moved array log operand = rw (ew, eg) at k in
+  pub read-next-left : (one : Wanted → List ℕ → Done) (log₀ array log : List ℕ) →
+      Reads (one w given) (w .count) (cursor .cycles) log₀ (read .change) (read .value) (read .cycles) array log →
+      ReadNext (one (wantedOf cursor) (groupAt cursor xs)) cursor log₀ result array log
+  read-next-left one log₀ array log k =
       record {
         line = ap (λ (x : Wanted). x .line) ew;
-        change = k′ .change;
-        below = b;
         counts = ap (λ (x : Wanted). x .count) ew;
-        made = k′ .made;
-        arrays = k′ .arrays;
-        logs = k′ .logs;
-        bytes = k′ .bytes;
-        most = k′ .most;
+        reads = rw (ew, eg) at k;
       }
+
+-- a part above some bytes
+pub part-above : (value place part r : ℕ) → value + part * 256 ^ place < 4294967296 → r ≡ value + part * 2 ^ (8 * place) % 2 ^ 32 → r ≡ value + part * 256 ^ place
+part-above value place part r h e =
+    let q : part * 2 ^ (8 * place) % 2 ^ 32 ≡ part * 256 ^ place = ap (λ (x : ℕ). part * x % 2 ^ 32) (sym (byte-powers place)) ∙ small (part * 256 ^ place) value h in
+    e ∙ ap (λ (x : ℕ). value + x) q
+  where
+    small : (x value : ℕ) → value + x < 4294967296 → x % 4294967296 ≡ x
+    small x value h = omega arith

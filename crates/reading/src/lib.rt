@@ -1,6 +1,14 @@
 // One doubleword of a read, by lent fields of the directory: it decides the directory's change, and the caller makes it, so
-// that the directory is not copied here. `read_next` is what the loops of the calls, by value and in place, share.
+// that the directory is not copied here.
 mod next;
+mod plain;
 mod reading;
 
+pub use next::NextRead;
 pub use next::read_next;
+pub use next::with_part;
+pub use plain::PlainRead;
+pub use plain::plain_read;
+pub use reading::DoublewordRead;
+pub use reading::keep_line;
+pub use reading::read_doubleword;

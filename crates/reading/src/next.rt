@@ -1,5 +1,6 @@
-// The next doubleword of a read.
-ghost use Prim.Native.Nat.{_<_};
+// The next doubleword of a read, and the number that its bytes add to.
+ghost use mathlib.Core.Path.{_≡_};
+ghost use Prim.Native.Nat.{_+_, _*_, _^_, _≤_, _<_};
 ghost use lib.ListN.{length};
 ghost use Rattle.ways.specs.Address.{setOf};
 ghost use Rattle.ways.specs.Ways.{lookupIn, victimIn};
@@ -9,7 +10,17 @@ ghost use Rattle.reading.specs.Reading.{readDone};
 ghost use Rattle.reading.specs.ReadingCode.{ReadNext};
 use crate::reading::read_doubleword;
 use doubleword::AccessCursor;
-use doubleword::NextResult;
+use doubleword::Change;
+
+// What the next doubleword did: the directory's change with its line, how many bytes it read and their number, the count of
+// cycles. What is left after it is worked out by the caller, in registers.
+pub struct NextRead {
+    pub line: u32,
+    pub change: Change,
+    pub count: usize,
+    pub value: u32,
+    pub cycles: usize,
+}
 
 // The doubleword at a cursor, by lent fields of the directory. may_fill: CD = 0 and PCD = 0.
 pub fn read_next<'a>(
@@ -22,17 +33,16 @@ pub fn read_next<'a>(
     data: &mut [u8],
     answers: &[u8],
     log: &mut [u32],
-    operand: &mut [u8],
     cursor: AccessCursor,
-) -> NextResult
-    requires { ⌜ (0 < cursor .left) × AccessNeeds cursor (length (now ram)) (length (now parity)) (length (now «data»)) (length (now answers)) (length (now log)) (length (now operand)) ⌝ }
+) -> NextRead
+    requires { ⌜ (0 < cursor .left) × AccessNeeds cursor (length (now ram)) (length (now parity)) (length (now «data»)) (length (now answers)) (length (now log)) ⌝ }
     ensures { λ r. ⌜ ReadNext (readDone (lookupIn (now (tags .entry)) (now (valid .entry)) (lineAddress cursor)) (victimIn (now (valid .entry)) (now (lru .entry)) (setOf (lineAddress cursor)))
         «may_fill» (memory (now (ram .entry)) (now (parity .entry))) (now («data» .entry)) (nextDoubleword cursor (now (answers .entry))))
-        cursor (now (log .entry)) (now (operand .entry)) r (now («data» .exit)) (now (log .exit)) (now (operand .exit)) ⌝ }
+        cursor (now (log .entry)) r (now («data» .exit)) (now (log .exit)) ⌝ }
 {
     let w = cursor.wanted();
     let group = cursor.group_of(answers);
-    let moved = read_doubleword(
+    let read = read_doubleword(
         tags,
         valid,
         lru,
@@ -42,15 +52,23 @@ pub fn read_next<'a>(
         data,
         group,
         log,
-        operand,
         w,
         cursor.cycles,
     );
-    let change = moved.change;
-    NextResult {
+    let change = read.change;
+    NextRead {
         line: w.line,
         change,
         count: w.count,
-        cycles: moved.cycles,
+        value: read.value,
+        cycles: read.cycles,
     }
+}
+
+// The number of some bytes and of a part above them, from a place on.
+pub fn with_part(value: u32, place: usize, part: u32) -> u32
+    requires { ⌜ (place ≤ 3) × (value + part * 256 ^ place < 4294967296) ⌝ }
+    ensures { λ r. ⌜ r ≡ value + part * 256 ^ place ⌝ }
+{
+    value + (part << (8 * place))
 }

@@ -2,80 +2,51 @@
 ghost use mathlib.Core.Path.{_≡_};
 ghost use Prim.Native.Nat.{_+_, _≤_};
 ghost use lib.ListN.{length};
+ghost use lib.Seq.{sets};
 ghost use Rattle.ways.specs.Address.{setOf};
 ghost use Rattle.ways.specs.Ways.{lookupIn, victimIn};
+ghost use Rattle.words.specs.Bytes.{bytesAt};
 ghost use Rattle.memory.specs.Parity.{memory};
+ghost use Rattle.doubleword.specs.Doubleword.{dataOffset};
 ghost use Rattle.doubleword.specs.DoublewordCode.{DoublewordNeeds, doublewordOf};
-ghost use Rattle.reading.specs.Reading.{keptArray, keptChange, readDone};
-ghost use Rattle.reading.specs.ReadingCode.{ReadMiss, Reads};
-use bus::CycleCursor;
-use cycles::read_cycles;
+ghost use Rattle.reading.specs.Reading.{readDone};
+ghost use Rattle.reading.specs.ReadingCode.{Reads};
+use crate::plain::plain_read;
+use cycles::fill_cycles;
 use doubleword::Change;
-use doubleword::DoublewordResult;
 use doubleword::Wanted;
 use doubleword::data_offset;
 use ways::Found;
-use words::copy_bytes;
+use words::copy_line;
+use words::value_at;
 
-// The cycles of a doubleword that missed: a fill of its line, or its own bytes. first: the records already in the log.
-fn read_missed(
-    ram: &[u8],
-    parity: &[u8],
-    answers: &[u8],
-    log: &mut [u32],
-    buffer: &mut [u8],
-    w: Wanted,
-    first: usize,
-    fills: bool,
-) -> CycleCursor
-    requires { ⌜ DoublewordNeeds w first (length (now ram)) (length (now parity)) (length (now answers)) (length (now log)) × (length (now buffer) ≡ 16) ⌝ }
-    ensures { λ r. ⌜ ReadMiss fills (memory (now (ram .entry)) (now (parity .entry))) (doublewordOf w (now (answers .entry))) first (now (log .entry)) (now (buffer .entry)) r (now (log .exit)) (now (buffer .exit)) ⌝ }
-{
-    let line = w.line as usize;
-    let start = w.from / 4;
-    let begin = if fills {
-        CycleCursor::begin(start * 4, 4, 3)
-    } else {
-        CycleCursor::begin(w.from, w.count, 0)
-    };
-    let kind = if fills { 32 } else { 0 };
-    read_cycles(
-        ram,
-        parity,
-        answers,
-        log,
-        buffer,
-        begin,
-        start,
-        line,
-        first,
-        kind,
-    )
+// What a doubleword of a read did: the directory's change, the number of its bytes, the count of cycles.
+pub struct DoublewordRead {
+    pub change: Change,
+    pub value: u32,
+    pub cycles: usize,
 }
 
-// The end of a miss. kept: it was a fill, whose line goes into the data array, in the victim's place. The victim is chosen
-// after the last cycle.
-fn keep_line<'a>(
+// A kept fill: RAM's line goes into the data array, in the victim's place. Nothing changes RAM during the cycles, so it is
+// copied once, after the last. Answers the victim.
+pub fn keep_line<'a>(
     valid: &'a [bool; 512],
     lru: &'a [u8; 128],
+    ram: &[u8],
     data: &mut [u8],
-    buffer: &[u8],
     line: u32,
-    kept: bool,
-) -> Change
-    requires { ⌜ (length (now «data») ≡ 8192) × (length (now buffer) ≡ 16) ⌝ }
-    ensures { λ r. ⌜ (r ≡ keptChange kept (victimIn (now (valid .entry)) (now (lru .entry)) (setOf line)))
-        × (now («data» .exit) ≡ keptArray kept (victimIn (now (valid .entry)) (now (lru .entry)) (setOf line)) line (now (buffer .entry)) (now («data» .entry))) ⌝ }
+) -> usize
+    requires { ⌜ (length (now «data») ≡ 8192) × (line + 16 ≤ length (now ram)) ⌝ }
+    ensures { λ r. ⌜ (r ≡ victimIn (now (valid .entry)) (now (lru .entry)) (setOf line))
+        × (now («data» .exit) ≡ sets (now («data» .entry)) (dataOffset line r) (bytesAt (now (ram .entry)) line 16)) ⌝ }
 {
-    if kept {
-        let way = ways::victim(valid, lru, ways::set_of(line));
-        copy_bytes(buffer, 0, data, data_offset(line, way), 16);
-        return Change::Fill(way);
-    }
-    Change::Unchanged
+    let way = ways::victim(valid, lru, ways::set_of(line));
+    let offset = data_offset(line, way);
+    copy_line(&ram[..], line as usize, data, offset);
+    way
 }
 
-// One doubleword of a read: its bytes go into the operand. may_fill: CD = 0 and PCD = 0. first: the records already in the log.
+// One doubleword of a read. may_fill: CD = 0 and PCD = 0. first: the records already in the log.
 pub fn read_doubleword<'a>(
     tags: &'a [u32; 512],
     valid: &'a [bool; 512],
@@ -86,36 +57,49 @@ pub fn read_doubleword<'a>(
     data: &mut [u8],
     answers: &[u8],
     log: &mut [u32],
-    operand: &mut [u8],
     w: Wanted,
     first: usize,
-) -> DoublewordResult
-    requires { ⌜ DoublewordNeeds w first (length (now ram)) (length (now parity)) (length (now answers)) (length (now log)) × (length (now «data») ≡ 8192) × (w .place + w .count ≤ length (now operand)) ⌝ }
+) -> DoublewordRead
+    requires { ⌜ DoublewordNeeds w first (length (now ram)) (length (now parity)) (length (now answers)) (length (now log)) × (length (now «data») ≡ 8192) ⌝ }
     ensures { λ r. ⌜ Reads (readDone (lookupIn (now (tags .entry)) (now (valid .entry)) (w .line)) (victimIn (now (valid .entry)) (now (lru .entry)) (setOf (w .line)))
         «may_fill» (memory (now (ram .entry)) (now (parity .entry))) (now («data» .entry)) (doublewordOf w (now (answers .entry))))
-        (w .place) first (now (log .entry)) (now (operand .entry)) r (now («data» .exit)) (now (log .exit)) (now (operand .exit)) ⌝ }
+        (w .count) first (now (log .entry)) (r .change) (r .value) (r .cycles) (now («data» .exit)) (now (log .exit)) ⌝ }
 {
     if let Found::At(way) = ways::lookup(tags, valid, w.line) {
-        copy_bytes(
-            data,
-            data_offset(w.line, way) + w.from,
-            operand,
-            w.place,
-            w.count,
-        );
-        return DoublewordResult {
-            change: Change::Use(way),
-            cycles: 0,
+        let value = value_at(data, data_offset(w.line, way) + w.from, w.count);
+        let change = Change::Use(way);
+        let cycles = 0;
+        return DoublewordRead {
+            change,
+            value,
+            cycles,
         };
     }
-    let fills = may_fill & (answers[0] % 2 == 1);
-    let mut buffer = [0u8; 16];
-    let cursor = read_missed(ram, parity, answers, log, &mut buffer, w, first, fills);
-    copy_bytes(&buffer, w.from, operand, w.place, w.count);
-    let kept = fills & (cursor.answer % 2 == 1);
-    let change = keep_line(valid, lru, data, &buffer, w.line, kept);
-    DoublewordResult {
+    if !(may_fill & (answers[0] % 2 == 1)) {
+        let plain = plain_read(&ram[..], &parity[..], &answers[..], log, w, first);
+        return DoublewordRead {
+            change: Change::Unchanged,
+            value: plain.value,
+            cycles: plain.cycles,
+        };
+    }
+    let line = w.line as usize;
+    let start = w.from / 4;
+    let cycles = fill_cycles(&ram[..], &parity[..], &answers[..], log, line, start, first);
+    let value = value_at(&ram[..], line + w.from, w.count);
+    if answers[cycles - 1] % 2 == 1 {
+        let way = keep_line(valid, lru, &ram[..], data, w.line);
+        let change = Change::Fill(way);
+        return DoublewordRead {
+            change,
+            value,
+            cycles,
+        };
+    }
+    let change = Change::Unchanged;
+    DoublewordRead {
         change,
-        cycles: cursor.cycles,
+        value,
+        cycles,
     }
 }

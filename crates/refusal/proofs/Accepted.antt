@@ -1,6 +1,6 @@
 -- What the accepted case of a call knows: number 0 turned into facts.
 use Prim.Native.Nat.{ℕ, _+_, _*_, _/_, _%_, _≤_, _<_}
-use mathlib.Core.Path.{_≡_, refl, sym, _∙_, ap}
+use mathlib.Core.Path.{_≡_, refl, sym, _∙_}
 use mathlib.Core.Bool.{Bool, true, false, not, _&&_, _||_}
 use mathlib.Core.List.{List}
 use native.Mathlib.Omega.{arith}
@@ -32,27 +32,15 @@ or-grouped a b c =
     (λ z. let e = zero-or a b z in let k = zero-or a (orElse b c) z in rw (e, k))
     (λ n. let e = first-or a b n in let k = first-or a (orElse b c) n in rw (e, k) (first-or a c n))
 
--- the code's first number where it is met, and its second one where not
+-- a number that is met, one number for both, and the second one where the first is not met
 pub number-first : (n a b : ℕ) → n ≡ a → (n ≡ 0 → ⊥) → n ≡ orElse a b
 number-first n a b e h = e ∙ sym (first-or a b (λ z. h (e ∙ z)))
 
+pub number-same : (n a : ℕ) → n ≡ a → n ≡ orElse a a
+number-same n a e = e ∙ same-or _ a 0 (λ z. sym (zero-or a a z)) (λ k. sym (first-or a a k))
+
 pub number-later : (n k a b : ℕ) → n ≡ a → n ≡ 0 → k ≡ b → k ≡ orElse a b
 number-later n k a b e z f = f ∙ sym (zero-or a b (sym e ∙ z))
-
--- the numbers of two sets, of which the second is looked at only where the first answers 0 and is another
-module _ (at : ℕ → ℕ) (first last number : ℕ) (en : number ≡ at first) where
-  pub states-first : (not (eqb number 0) || eqb first last) ≡ true → number ≡ orElse (at first) (at last)
-  states-first h =
-      same-or _ number 0
-      (λ z.
-      let same : first ≡ last = eqb-true first last (rw (eq-eqb number 0 z) at h) in
-      number-later number number (at first) (at last) en z (en ∙ ap at same))
-      (number-first number (at first) (at last) en)
-
-  pub states-last : (not (eqb number 0) || eqb first last) ≡ false → (later : ℕ) → later ≡ at last → later ≡ orElse (at first) (at last)
-  states-last h later e =
-      let z = eqb-true number 0 (not-false _ (neither (not (eqb number 0)) (eqb first last) h .0)) in
-      number-later number later (at first) (at last) en z e
 
 when-zero : (b : Bool) (n : ℕ) → 0 < n → when b n ≡ 0 → b ≡ false
 when-zero true n h e = absurd (omega arith)

@@ -4,13 +4,7 @@ ghost use mathlib.Core.Bool.{not};
 ghost use Prim.Native.Nat.{_^_};
 ghost use lib.Dec.{ltb};
 ghost use lib.ListN.{length};
-ghost use Rattle.refusal.specs.Refusal.{anyAbove, argumentNumber, badAnswers, badRam, badWidth, externalNumber, lentNumber, memoryNumber, orElse, valueNumber, viewInputNumber, when};
-
-fn number_if(bad: bool, number: u32) -> u32
-    ensures { λ r. ⌜ r ≡ when bad number ⌝ }
-{
-    if bad { number } else { 0 }
-}
+ghost use Rattle.refusal.specs.Refusal.{anyAbove, argumentNumber, badAnswers, badRam, badWidth, externalNumber, lentNumber, memoryNumber, orElse, valueNumber, viewInputNumber};
 
 // The first of two numbers that is met.
 pub fn or_else(number: u32, next: u32) -> u32
@@ -29,14 +23,13 @@ fn bad_ram(ram: usize) -> bool
 pub fn memory_number(ram: usize, parity: usize) -> u32
     ensures { λ r. ⌜ r ≡ memoryNumber ram parity ⌝ }
 {
-    or_else(number_if(bad_ram(ram), 1), number_if(parity != ram / 4, 2))
-}
-
-// Numbers 1 to 3, of the lengths of RAM, parity array and data array.
-fn lent_number(ram: usize, parity: usize, data: usize) -> u32
-    ensures { λ r. ⌜ r ≡ lentNumber ram parity «data» ⌝ }
-{
-    or_else(memory_number(ram, parity), number_if(data != 8192, 3))
+    if bad_ram(ram) {
+        return 1;
+    }
+    if parity != ram / 4 {
+        return 2;
+    }
+    0
 }
 
 pub fn bad_width(width: u32) -> bool
@@ -63,20 +56,6 @@ fn bad_answers(answers: &[u8]) -> bool
     (answers.len() != 32) | any_above(7, answers)
 }
 
-// Numbers 4 to 7, of the arguments of a read or a write.
-fn argument_number(ram: usize, address: u32, width: u32, answers: &[u8], log: usize) -> u32
-    ensures { λ r. ⌜ r ≡ argumentNumber ram address width (now (answers .entry)) log ⌝ }
-{
-    let beyond = ram < address as usize + width as usize;
-    or_else(
-        number_if(bad_width(width), 4),
-        or_else(
-            number_if(beyond, 5),
-            or_else(number_if(bad_answers(answers), 6), number_if(log < 96, 7)),
-        ),
-    )
-}
-
 // Numbers 1 to 7 of a read or a write.
 pub fn input_number(
     ram: &[u8],
@@ -91,10 +70,28 @@ pub fn input_number(
         (argumentNumber (length (now (ram .entry))) address width (now (answers .entry)) (length (now (log .entry)))) ⌝ }
 {
     let n = ram.len();
-    or_else(
-        lent_number(n, parity.len(), data.len()),
-        argument_number(n, address, width, answers, log.len()),
-    )
+    if bad_ram(n) {
+        return 1;
+    }
+    if parity.len() != n / 4 {
+        return 2;
+    }
+    if data.len() != 8192 {
+        return 3;
+    }
+    if bad_width(width) {
+        return 4;
+    }
+    if n < address as usize + width as usize {
+        return 5;
+    }
+    if bad_answers(answers) {
+        return 6;
+    }
+    if log.len() < 96 {
+        return 7;
+    }
+    0
 }
 
 // Whether a value has more bytes than its width.
@@ -114,30 +111,38 @@ fn too_large(width: u32, value: u32) -> bool
 pub fn value_number(width: u32, value: u32) -> u32
     ensures { λ r. ⌜ r ≡ valueNumber width value ⌝ }
 {
-    number_if(too_large(width, value), 8)
+    if too_large(width, value) {
+        return 8;
+    }
+    0
 }
 
 // Number 10, of an external write of so many bytes.
 pub fn external_number(ram: usize, address: u32, count: usize) -> u32
     ensures { λ r. ⌜ r ≡ externalNumber ram address count ⌝ }
 {
-    if 16 < count {
+    if (count == 0) | (16 < count) {
         return 10;
     }
     let start = address as usize;
-    number_if(
-        (count == 0) | (16 < start % 16 + count) | (ram < start + count),
-        10,
-    )
+    if (16 < start % 16 + count) | (ram < start + count) {
+        return 10;
+    }
+    0
 }
 
 // Numbers 1, 3 and 5 of a view, of the lengths of RAM and data array.
 pub fn view_input_number(ram: usize, data: usize, address: u32) -> u32
     ensures { λ r. ⌜ r ≡ viewInputNumber ram «data» address ⌝ }
 {
-    let outside = !((address as usize) < ram);
-    or_else(
-        number_if(bad_ram(ram), 1),
-        or_else(number_if(data != 8192, 3), number_if(outside, 5)),
-    )
+    if bad_ram(ram) {
+        return 1;
+    }
+    if data != 8192 {
+        return 3;
+    }
+    if ram <= address as usize {
+        return 5;
+    }
+    0
 }

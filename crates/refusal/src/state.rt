@@ -13,7 +13,8 @@ fn last_set(address: u32, count: u32) -> usize
     last / 16 % 128
 }
 
-// Numbers 21 to 23 of every touched set, the lower address's set first. Most accesses touch one set, which is checked once.
+// Numbers 21 to 23 of every touched set, the lower address's set first. Most accesses touch one set, and the quick
+// test says that it is sound.
 pub fn states_number<'a>(
     tags: &'a [u32; 512],
     valid: &'a [bool; 512],
@@ -25,8 +26,11 @@ pub fn states_number<'a>(
 {
     let first = ways::set_of(address);
     let last = last_set(address, count);
+    if (first == last) & ways::sound_set(tags, lru, first) {
+        return 0;
+    }
     let number = ways::state_number(tags, valid, lru, first);
-    if (number != 0) | (first == last) {
+    if number != 0 {
         return number;
     }
     ways::state_number(tags, valid, lru, last)

@@ -1,17 +1,17 @@
 -- Laws of the text of a number, and that scanning gives back what was printed.
-use Prim.Native.Nat.{ℕ, zero, suc, _+_, _*_, _-_, _/_, _%_, _^_, _≤_, _<_}
+use Prim.Native.Nat.{ℕ, zero, suc, _+_, _-_, _/_, _%_, _^_, _≤_, _<_}
 use mathlib.Core.Path.{_≡_, refl, sym}
-use mathlib.Core.Bool.{Bool, true, cond}
-use mathlib.Core.List.{List, [], _∷_, _++_}
+use mathlib.Core.Bool.{true, cond}
+use mathlib.Core.List.{[], _∷_, _++_}
 use native.Mathlib.Nat.{pow-suc, mod-eq-of-lt}
 use native.Mathlib.Omega.{arith}
 use lib.Dec.{ltb}
 use lib.ListN.{length, length-append}
 use borrow.Author.Tests.{ltb-true, ltb-false, lt-ltb, le-ltb}
-use Rattle.laws.proofs.Tests.{by-test, both}
+use Rattle.laws.proofs.Tests.{by-test}
 use Rattle.fields.specs.declared.numbers.Number.the-variants.{Value}
 use Rattle.fields.specs.Number.{isDigit, allAre, valueAfter, decimalValue, numberOf}
-use Rattle.fields.proofs.Digits.{a-digit, number-value}
+use Rattle.fields.proofs.Digits.{value-snoc, all-snoc, a-digit, number-value}
 use Rattle.rows.specs.Decimal.{digitsOf, decimal}
 
 -- the digits of a number, whatever the limit above it
@@ -33,16 +33,19 @@ pub decimal-above : (n : ℕ) → 10 ≤ n → decimal n ≡ decimal (n / 10) ++
 unfolding decimal digitsOf
 decimal-above n h = rw (le-ltb n 10 h, digits-same n (suc (n / 10)) (n / 10) (omega arith) (omega arith))
 
--- a digit more at the end
-value-snoc : (m : ℕ) (l : List ℕ) (c : ℕ) → valueAfter m (l ++ (c ∷ [])) ≡ valueAfter m l * 10 + (c - 48)
-unfolding valueAfter
-value-snoc m [] c = refl
-value-snoc m (d ∷ l) c = value-snoc (m * 10 + (d - 48)) l c
+-- how many digits there are, and how many a digit less
+pub one-digit : (n : ℕ) → n < 10 → 1 ≡ length (decimal n)
+one-digit n h = rw (decimal-below n h)
 
-all-snoc : (test : ℕ → Bool) (l : List ℕ) (c : ℕ) → allAre test l ≡ true → test c ≡ true → allAre test (l ++ (c ∷ [])) ≡ true
-unfolding allAre
-all-snoc test [] c a e = rw e
-all-snoc test (d ∷ l) c a e = let (h, t) = both (test d) (allAre test l) a in rw (h, all-snoc test l c t e)
+pub digit-place : (n : ℕ) → 10 ≤ n → length (decimal n) ≡ length (decimal (n / 10)) + 1
+digit-place n h = rw (decimal-above n h) (length-append (decimal (n / 10)) ((48 + n % 10) ∷ []))
+
+pub more-digits : (k n : ℕ) → 10 ^ suc k ≤ n → n < 10 ^ suc (suc k) → suc (suc k) ≡ length (decimal n)
+more-digits zero n h l = omega (arith, digit-place n (omega (arith, h)), one-digit (n / 10) (omega (arith, l)))
+more-digits (suc k) n h l =
+    let m = rw (pow-suc 10 (suc k)) at h in
+    let b = rw (pow-suc 10 (suc (suc k))) at l in
+    omega (arith, digit-place n (omega arith), more-digits k (n / 10) (omega arith) (omega arith))
 
 -- The text of a number has its value, digits only, and no more of them than its size asks for.
 digits-value : (most n : ℕ) → n < most → decimalValue (digitsOf most n) ≡ n

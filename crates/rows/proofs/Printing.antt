@@ -1,5 +1,5 @@
 -- Laws of text put into a buffer: digits, rows, the header.
-use Prim.Native.Nat.{ℕ, _+_, _/_, _%_, _≤_, _<_}
+use Prim.Native.Nat.{ℕ, zero, suc, _+_, _/_, _%_, _≤_, _<_}
 use mathlib.Core.Path.{_≡_, refl, sym, _∙_}
 use mathlib.Core.List.{List, [], _∷_, _++_}
 use native.Mathlib.Numerals.{add-one}
@@ -12,20 +12,28 @@ use Rattle.rows.specs.Decimal.{decimal}
 use Rattle.rows.specs.Row.{column, header, rowOf}
 use Rattle.rows.proofs.Decimal.{decimal-below, decimal-above}
 
--- a number of one digit, and the last digit of a longer one
-pub digit-only : (out : List ℕ) (at n : ℕ) → n < 10 → (at + 1 ≡ at + length (decimal n)) × (set out at (48 + n) ≡ sets out at (decimal n))
-digit-only out at n h = rw (decimal-below n h) (refl, refl)
+-- two bytes put in, the one that stands behind first
+set-swap : (l : List ℕ) (i j a b : ℕ) → i < j → set (set l j b) i a ≡ set (set l i a) j b
+set-swap [] i j a b h = refl
+set-swap (x ∷ l) i zero a b h = absurd (omega (arith, h))
+set-swap (x ∷ l) zero (suc j) a b h = refl
+set-swap (x ∷ l) (suc i) (suc j) a b h = rw (set-swap l i j a b (omega (arith, h)))
 
-pub digit-last : (out : List ℕ) (at n next : ℕ) (tenth : List ℕ)
-    → 10 ≤ n
-    → next ≡ at + length (decimal (n / 10))
-    → tenth ≡ sets out at (decimal (n / 10))
-    → (next + 1 ≡ at + length (decimal n)) × (set tenth next (48 + n % 10) ≡ sets out at (decimal n))
-digit-last out at n next tenth h e f =
-    rw (decimal-above n h) (
-      rw (length-append (decimal (n / 10)) ((48 + n % 10) ∷ [])) (omega (arith, e)),
-      rw (e, f) (sym (sets-append out at (decimal (n / 10)) ((48 + n % 10) ∷ []))),
-    )
+-- a byte put in behind a text that is put in later
+set-behind : (out : List ℕ) (at : ℕ) (text : List ℕ) (byte : ℕ) → sets (set out (at + length text) byte) at text ≡ set (sets out at text) (at + length text) byte
+set-behind out at [] byte = refl
+set-behind out at (x ∷ text) byte =
+    let e : at + suc (length text) ≡ suc at + length text = omega arith in
+    rw (e, set-swap out at (suc at + length text) x byte (omega arith)) (set-behind (set out at x) (suc at) text byte)
+
+-- the last digit of a number put in before the others, and a number of one digit
+pub last-first : (out : List ℕ) (at n : ℕ) → 10 ≤ n → sets (set out (at + length (decimal (n / 10))) (48 + n % 10)) at (decimal (n / 10)) ≡ sets out at (decimal n)
+last-first out at n h =
+    let last = (48 + n % 10) ∷ [] in
+    rw (decimal-above n h) (set-behind out at (decimal (n / 10)) (48 + n % 10) ∙ sym (sets-append out at (decimal (n / 10)) last))
+
+pub digit-only : (out : List ℕ) (at n : ℕ) → n < 10 → set out at (48 + n) ≡ sets out at (decimal n)
+digit-only out at n h = rw (decimal-below n h)
 
 -- a text and the byte after it
 field-put : (out : List ℕ) (at : ℕ) (text : List ℕ) (byte : ℕ) (rest : List ℕ) → sets out at (text ++ byte ∷ rest) ≡ sets (set (sets out at text) (at + length text) byte) (at + length text + 1) rest

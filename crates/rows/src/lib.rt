@@ -15,19 +15,56 @@ fn put(out: &mut [u8], at: usize, byte: u8)
     }
 }
 
-// Puts the decimal text of n at a place of out, as far as out goes, and answers the place after it.
+// How many decimal digits a number has.
+fn digit_count(n: u32) -> usize
+    ensures { λ r. ⌜ (r ≡ length (decimal n)) × (r ≤ 10) ⌝ }
+{
+    if n < 10 {
+        return 1;
+    }
+    if n < 100 {
+        return 2;
+    }
+    if n < 1000 {
+        return 3;
+    }
+    if n < 10000 {
+        return 4;
+    }
+    if n < 100000 {
+        return 5;
+    }
+    if n < 1000000 {
+        return 6;
+    }
+    if n < 10000000 {
+        return 7;
+    }
+    if n < 100000000 {
+        return 8;
+    }
+    if n < 1000000000 {
+        return 9;
+    }
+    10
+}
+
+// Puts the decimal text of n at a place of out, the last digit first, as far as out goes, and answers the place after it.
 fn put_number(out: &mut [u8], at: usize, n: u32) -> usize
     requires { ⌜ at ≤ 8589934592 ⌝ }
     ensures { λ r. ⌜ (r ≡ at + length (decimal n)) × (now (out .exit) ≡ sets (now (out .entry)) at (decimal n)) ⌝ }
     ensures { λ r. ⌜ r ≤ at + 10 ⌝ }
 {
-    if n < 10 {
-        put(out, at, 48 + n as u8);
-        return at + 1;
+    let end = at + digit_count(n);
+    let mut rest = n;
+    let mut k = end;
+    while 10 <= rest {
+        k -= 1;
+        put(out, k, 48 + (rest % 10) as u8);
+        rest = rest / 10;
     }
-    let next = put_number(out, at, n / 10);
-    put(out, next, 48 + (n % 10) as u8);
-    next + 1
+    put(out, at, 48 + rest as u8);
+    end
 }
 
 // Puts the header line at the start of out, as far as out goes, and answers the place after it.

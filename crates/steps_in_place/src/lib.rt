@@ -4,7 +4,7 @@ ghost use mathlib.Core.Path.{_≡_};
 ghost use mathlib.Core.Bool.{Bool};
 ghost use mathlib.Core.List.{List};
 ghost use Prim.Native.Nat.{ℕ, _<_};
-ghost use Rattle.directory.specs.Steps.{afterFill, afterFlush, afterSnoop, afterUse, directoryOf, directoryResult, snoopCall};
+ghost use Rattle.directory.specs.Steps.{afterFill, afterFlush, afterReset, afterSnoop, afterUse, controlCall, directoryOf, directoryResult, snoopCall};
 use ways::Found;
 use ways::lookup;
 use ways::lru_after;
@@ -84,4 +84,33 @@ pub fn snoop_in_place<'a>(
     }
     invalidate_in_place(tags, valid, nw, address);
     0
+}
+
+// The control call: 9 for CD = 0 with NW = 1.
+pub fn control_in_place(cd: &mut bool, nw: &mut bool, new_cd: bool, new_nw: bool) -> u32
+    ensures { λ r. ⌜ ((tags : List ℕ) (valid : List Bool) (lru : List ℕ) → directoryResult (directoryOf tags valid lru (now (cd .exit)) (now (nw .exit))) r
+        ≡ controlCall (directoryOf tags valid lru (now (cd .entry)) (now (nw .entry))) «new_cd» «new_nw») ⌝ }
+{
+    if !new_cd & new_nw {
+        return 9;
+    }
+    *cd = new_cd;
+    *nw = new_nw;
+    0
+}
+
+pub fn reset_in_place(
+    tags: &mut [u32; 512],
+    valid: &mut [bool; 512],
+    lru: &mut [u8; 128],
+    cd: &mut bool,
+    nw: &mut bool,
+)
+    ensures { λ _. ⌜ directoryOf (now (tags .exit)) (now (valid .exit)) (now (lru .exit)) (now (cd .exit)) (now (nw .exit)) ≡ afterReset ⌝ }
+{
+    *tags = [0u32; 512];
+    *valid = [false; 512];
+    *lru = [0u8; 128];
+    *cd = true;
+    *nw = true;
 }

@@ -1,14 +1,13 @@
 -- Laws of views: a part of a slice as bytes, and a view that is refused, held or not held.
 use Prim.Native.Nat.{ℕ, zero, suc, _+_, _*_, _/_, _-_, _≤_}
 use mathlib.Core.Path.{_≡_, refl, sym, _∙_, ap}
-use mathlib.Core.Bool.{Bool, cond}
+use mathlib.Core.Bool.{Bool}
 use mathlib.Core.List.{List, [], _∷_}
 use native.Mathlib.Omega.{arith}
-use lib.Dec.{eqb}
 use lib.ListN.{length, getD, take, drop}
 use lib.Seq.{drop-cons}
 use borrow.Author.Tests.{eq-eqb, ne-eqb}
-use Rattle.laws.proofs.Tests.{cond-true, cond-false, by-test}
+use Rattle.laws.proofs.Tests.{cond-true, cond-false}
 use Rattle.ways.specs.declared.ways.Found.{Found}
 use Rattle.ways.specs.declared.ways.Found.the-variants.{At, Nothing}
 use Rattle.ways.specs.Address.{setOf}
@@ -41,16 +40,47 @@ pub empty-at : (p : ℕ × ℕ) → _≡_ {A = ℕ × ℕ} (p .0, 0 + p .1) p
 empty-at p = let e : 0 + p .1 ≡ p .1 = omega arith in ap (λ (o : ℕ). (p .0, o)) e
 
 -- what an accepted view knows of lengths and address
-module _ (tags : List ℕ) (valid : List Bool) (lru : List ℕ) (ram array address n : ℕ) (en : n ≡ viewNumberIn tags valid lru ram array address) (z : n ≡ 0) where
+module _ (ram array address : ℕ) (z : viewInputNumber ram array address ≡ 0) where
   good : GoodView ram array address
-  unfolding viewNumberIn
-  good = view-accepted _ _ _ (or-zero (viewInputNumber ram array address) (stateNumberIn tags valid lru (setOf address)) (sym en ∙ z) .0)
+  good = view-accepted ram array address z
 
   pub data-inside : (offset : ℕ) → offset + 16 ≤ 8192 → offset + 16 ≤ array
   data-inside offset h = omega (arith, good .arrayLength)
 
   pub line-inside : address / 16 * 16 + 16 ≤ ram
   line-inside = omega (arith, good .whole, good .inside)
+
+pub input-0 : (tags : List ℕ) (valid : List Bool) (lru : List ℕ) (ram array address n : ℕ) → n ≡ viewNumberIn tags valid lru ram array address → n ≡ 0 →
+    viewInputNumber ram array address ≡ 0
+unfolding viewNumberIn
+input-0 tags valid lru ram array address n en z =
+    or-zero (viewInputNumber ram array address) (stateNumberIn tags valid lru (setOf address)) (sym en ∙ z) .0
+
+-- what is shown where the line is held, and where it is not
+module _ (f : Found) (address : ℕ) where
+  module _ (way : ℕ) (e : f ≡ At way) (offset : ℕ) (s : offset ≡ dataOffset address way) where
+    pub held-shown : (ram array r : List ℕ) → r ≡ bytesAt array offset 16 → r ≡ shown f ram array address
+    unfolding shown
+    held-shown ram array r k = k ∙ rw (s, e)
+
+    pub held-at : (ramAt arrayAt p : ℕ × ℕ) → p ≡ (arrayAt .0, arrayAt .1 + offset) → p ≡ shownAt f ramAt arrayAt address
+    unfolding shownAt
+    held-at ramAt arrayAt p k = k ∙ rw (s, e)
+
+  module _ (e : f ≡ Nothing) where
+    pub missed-shown : (ram array r : List ℕ) → r ≡ bytesAt ram (address / 16 * 16) 16 → r ≡ shown f ram array address
+    unfolding shown
+    missed-shown ram array r k = k ∙ rw e
+
+    pub missed-at : (ramAt arrayAt p : ℕ × ℕ) → p ≡ (ramAt .0, ramAt .1 + address / 16 * 16) → p ≡ shownAt f ramAt arrayAt address
+    unfolding shownAt
+    missed-at ramAt arrayAt p k = k ∙ rw e
+
+-- an accepted view has sixteen bytes
+shown-length : (f : Found) (ram array : List ℕ) (address : ℕ) → length (shown f ram array address) ≡ 16
+unfolding shown
+shown-length (At way) ram array address = bytes-length array (dataOffset address way) 16
+shown-length Nothing ram array address = bytes-length ram (address / 16 * 16) 16
 
 -- a view by its number
 module _ (tags : List ℕ) (valid : List Bool) (lru ram array : List ℕ) (address n : ℕ) (en : n ≡ viewNumberIn tags valid lru (length ram) (length array) address) where
@@ -67,34 +97,11 @@ module _ (tags : List ℕ) (valid : List Bool) (lru ram array : List ℕ) (addre
     unfolding viewIn
     view-done = cond-true _ _ _ (eq-eqb _ 0 (sym en ∙ z))
 
-    pub view-held : (way : ℕ) → lookupIn tags valid address ≡ At way → (offset : ℕ) → offset ≡ dataOffset address way → (r : List ℕ) → r ≡ bytesAt array offset 16 → r ≡ viewIn tags valid lru ram array address
-    unfolding shown
-    view-held way e offset s r k = k ∙ rw s (sym (view-done ∙ rw e))
+    -- the bytes that an accepted view shows, of which there are sixteen
+    pub view-made : (part : List ℕ) → part ≡ shown (lookupIn tags valid address) ram array address →
+        (part ≡ viewIn tags valid lru ram array address) × (length part ≡ 16)
+    view-made part e = (e ∙ sym view-done, ap length e ∙ shown-length (lookupIn tags valid address) ram array address)
 
-    pub view-missed : lookupIn tags valid address ≡ Nothing → (r : List ℕ) → r ≡ bytesAt ram (address / 16 * 16) 16 → r ≡ viewIn tags valid lru ram array address
-    unfolding shown
-    view-missed e r k = k ∙ sym (view-done ∙ rw e)
-
-    pub held-at : (ramAt arrayAt : ℕ × ℕ) (way : ℕ) → lookupIn tags valid address ≡ At way → (offset : ℕ) → offset ≡ dataOffset address way →
-        (p : ℕ × ℕ) → p ≡ (arrayAt .0, arrayAt .1 + offset) → p ≡ viewAt tags valid lru ram array ramAt arrayAt address
-    unfolding viewAt shownAt
-    held-at ramAt arrayAt way e offset s p k = k ∙ rw s (sym (cond-true _ _ _ (eq-eqb _ 0 (sym en ∙ z)) ∙ rw e))
-
-    pub missed-at : (ramAt arrayAt : ℕ × ℕ) → lookupIn tags valid address ≡ Nothing →
-        (p : ℕ × ℕ) → p ≡ (ramAt .0, ramAt .1 + address / 16 * 16) → p ≡ viewAt tags valid lru ram array ramAt arrayAt address
-    unfolding viewAt shownAt
-    missed-at ramAt arrayAt e p k = k ∙ sym (cond-true _ _ _ (eq-eqb _ 0 (sym en ∙ z)) ∙ rw e)
-
--- a view has at most sixteen bytes
-shown-length : (f : Found) (ram array : List ℕ) (address : ℕ) → length (shown f ram array address) ≡ 16
-unfolding shown
-shown-length (At way) ram array address = bytes-length array (dataOffset address way) 16
-shown-length Nothing ram array address = bytes-length ram (address / 16 * 16) 16
-
-pub view-most : (tags : List ℕ) (valid : List Bool) (lru ram array : List ℕ) (address : ℕ) → length (viewIn tags valid lru ram array address) ≤ 16
-unfolding viewIn
-view-most tags valid lru ram array address =
-    by-test (λ b. length (cond b (shown (lookupIn tags valid address) ram array address) []) ≤ 16)
-    (eqb (viewNumberIn tags valid lru (length ram) (length array) address) 0)
-    (λ _. omega (arith, shown-length (lookupIn tags valid address) ram array address))
-    (λ _. omega arith)
+    pub made-at : (ramAt arrayAt p : ℕ × ℕ) → p ≡ shownAt (lookupIn tags valid address) ramAt arrayAt address → p ≡ viewAt tags valid lru ram array ramAt arrayAt address
+    unfolding viewAt
+    made-at ramAt arrayAt p e = e ∙ sym (cond-true _ _ _ (eq-eqb _ 0 (sym en ∙ z)))

@@ -5,7 +5,9 @@ ghost use Prim.Native.Nat.{_+_, _≤_};
 ghost use denote.Ref.{ptr};
 ghost use lib.ListN.{length};
 ghost use Rattle.words.specs.Bytes.{bytesAt};
-ghost use Rattle.views.specs.View.{viewAt, viewIn, viewNumberIn};
+ghost use Rattle.ways.specs.Ways.{lookupIn};
+ghost use Rattle.refusal.specs.Refusal.{viewInputNumber};
+ghost use Rattle.views.specs.View.{shown, shownAt, viewAt, viewIn, viewNumberIn};
 use doubleword::data_offset;
 use refusal::view_input_number;
 use ways::Found;
@@ -47,6 +49,21 @@ pub fn view<'a>(
     if number != 0 {
         return &ram[0..0];
     }
+    accepted_view(tags, valid, ram, data, address)
+}
+
+// The same where the view's number is known to be 0, so that a caller who has asked for it does not ask again.
+pub fn accepted_view<'a>(
+    tags: &'a [u32; 512],
+    valid: &'a [bool; 512],
+    ram: &'a [u8],
+    data: &'a [u8],
+    address: u32,
+) -> &'a [u8]
+    requires { ⌜ viewInputNumber (length (now ram)) (length (now «data»)) address ≡ 0 ⌝ }
+    ensures { λ r. ⌜ (now r ≡ shown (lookupIn (now (tags .entry)) (now (valid .entry)) address) (now (ram .entry)) (now («data» .entry)) address)
+        × (ptr r ≡ shownAt (lookupIn (now (tags .entry)) (now (valid .entry)) address) (ptr (ram .entry)) (ptr («data» .entry)) address) ⌝ }
+{
     match lookup(tags, valid, address) {
         Found::At(way) => sixteen(data, data_offset(address, way)),
         Found::Nothing => sixteen(ram, (address / 16 * 16) as usize),

@@ -8,6 +8,7 @@ mod ways;
 pub use address::set_of;
 pub use address::tag_of;
 pub use lru::lru_after;
+pub use state::sound_set;
 pub use state::state_number;
 pub use ways::Found;
 pub use ways::lookup;

@@ -8,14 +8,18 @@ pub fn lru_after(lru: u8, way: usize) -> u8
     requires { ⌜ way < 4 ⌝ }
     ensures { λ r. ⌜ r ≡ lruAfter lru way ⌝ }
 {
-    let b1 = lru / 2 % 2;
-    let b2 = lru / 4 % 2;
-    match way {
-        0 => 3 + 4 * b2,
-        1 => 1 + 4 * b2,
-        2 => 2 * b1 + 4,
-        _ => 2 * b1,
-    }
+    let kept = if way < 2 {
+        4 * (lru / 4 % 2)
+    } else {
+        2 * (lru / 2 % 2)
+    };
+    let made = match way {
+        0 => 3,
+        1 => 1,
+        2 => 4,
+        _ => 0,
+    };
+    made + kept
 }
 
 // The way that an LRU number names as victim.

@@ -1,6 +1,9 @@
 // What is wrong with a set: the numbers 21 to 23.
 ghost use mathlib.Core.Path.{_≡_};
+ghost use mathlib.Core.Bool.{Bool, true, false};
+ghost use mathlib.Core.List.{List};
 ghost use Prim.Native.Nat.{_<_};
+ghost use Rattle.ways.specs.Ways.{tagIn};
 ghost use Rattle.ways.specs.State.{firstNumber, samePair, sameTags, stateNumberIn, tagAbove, tagsAbove};
 
 // Whether two ways of a set are valid and have one tag.
@@ -65,7 +68,42 @@ fn first_number(same: bool, above: bool, lru: u8) -> u32
     0
 }
 
-// The lowest number that a set meets, or 0.
+fn tag_at(tags: &[u32; 512], set: usize, way: usize) -> u32
+    requires { ⌜ (set < 128) × (way < 4) ⌝ }
+    ensures { λ r. ⌜ r ≡ tagIn (now (tags .entry)) set way ⌝ }
+{
+    let index = set * 4 + way;
+    tags[index]
+}
+
+// Whether the four tags of a set differ and are at most the limit, so that no valid mark matters.
+fn sound_tags(tags: &[u32; 512], set: usize) -> bool
+    requires { ⌜ set < 128 ⌝ }
+    ensures { λ r. ⌜ (r ≡ true → (valid : List Bool) → (sameTags (now (tags .entry)) valid set ≡ false) × (tagsAbove (now (tags .entry)) valid set ≡ false)) ⌝ }
+{
+    let tag0 = tag_at(tags, set, 0);
+    let tag1 = tag_at(tags, set, 1);
+    let tag2 = tag_at(tags, set, 2);
+    let tag3 = tag_at(tags, set, 3);
+    let differ = (tag0 != tag1)
+        & (tag0 != tag2)
+        & (tag0 != tag3)
+        & (tag1 != tag2)
+        & (tag1 != tag3)
+        & (tag2 != tag3);
+    let within = (tag0 <= 2097151) & (tag1 <= 2097151) & (tag2 <= 2097151) & (tag3 <= 2097151);
+    differ & within
+}
+
+// Whether the tags and the LRU number of a set alone tell that it meets no number.
+pub fn sound_set<'a>(tags: &'a [u32; 512], lru: &'a [u8; 128], set: usize) -> bool
+    requires { ⌜ set < 128 ⌝ }
+    ensures { λ r. ⌜ (r ≡ true → (valid : List Bool) → stateNumberIn (now (tags .entry)) valid (now (lru .entry)) set ≡ 0) ⌝ }
+{
+    sound_tags(tags, set) & (lru[set] <= 7)
+}
+
+// The lowest number that a set meets, or 0. Nearly always the quick test tells that it meets none.
 pub fn state_number<'a>(
     tags: &'a [u32; 512],
     valid: &'a [bool; 512],
@@ -75,6 +113,9 @@ pub fn state_number<'a>(
     requires { ⌜ set < 128 ⌝ }
     ensures { λ r. ⌜ r ≡ stateNumberIn (now (tags .entry)) (now (valid .entry)) (now (lru .entry)) set ⌝ }
 {
+    if sound_set(tags, lru, set) {
+        return 0;
+    }
     first_number(
         same_tags(tags, valid, set),
         tags_above(tags, valid, set),

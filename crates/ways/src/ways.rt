@@ -1,7 +1,7 @@
 // Questions about the four ways of a set, on lent arrays, so that asking copies nothing.
 ghost use mathlib.Core.Path.{_≡_};
-ghost use mathlib.Core.Bool.{not};
-ghost use Prim.Native.Nat.{_<_};
+ghost use mathlib.Core.Bool.{cond, not};
+ghost use Prim.Native.Nat.{_+_, _<_, _≤_};
 ghost use Rattle.ways.specs.Ways.{holds, lookupIn, lowest, validIn, victimIn, wayOr};
 use crate::address::set_of;
 use crate::address::tag_of;
@@ -13,23 +13,27 @@ pub enum Found {
     Nothing,
 }
 
-// The lowest way whose test holds.
+// The lowest of some ways whose test holds, counted from the first: that one, or else one of those after it.
+fn lowest_from(test: bool, later: usize) -> usize
+    requires { ⌜ later < 4 ⌝ }
+    ensures { λ r. ⌜ (r ≡ cond test 0 (1 + later)) × (r ≤ 1 + later) ⌝ }
+{
+    if test { 0 } else { 1 + later }
+}
+
+// The lowest way whose test holds. It is counted, and 4 says that there is none: the compiler makes no branches of that.
 fn lowest_way(test0: bool, test1: bool, test2: bool, test3: bool) -> Found
     ensures { λ r. ⌜ r ≡ lowest test0 test1 test2 test3 ⌝ }
 {
-    if test0 {
-        return Found::At(0);
+    let way = lowest_from(
+        test0,
+        lowest_from(test1, lowest_from(test2, lowest_from(test3, 0))),
+    );
+    if way < 4 {
+        Found::At(way)
+    } else {
+        Found::Nothing
     }
-    if test1 {
-        return Found::At(1);
-    }
-    if test2 {
-        return Found::At(2);
-    }
-    if test3 {
-        return Found::At(3);
-    }
-    Found::Nothing
 }
 
 fn way_or(found: Found, other: usize) -> usize

@@ -1,8 +1,9 @@
 -- Bytes moved one after another, in a loop.
-use Prim.Native.Nat.{ℕ, suc, _+_, _-_, _<_}
+use Prim.Native.Nat.{ℕ, zero, suc, _+_, _-_, _<_}
 use mathlib.Core.Path.{_≡_}
 use mathlib.Core.List.{List, _∷_}
 use native.Mathlib.Omega.{arith}
+use native.Mathlib.Nat.{add-zero}
 use lib.ListN.{getD, set}
 use lib.Seq.{sets}
 use Rattle.words.specs.Bytes.{bytesAt}
@@ -36,3 +37,19 @@ four-copied src dst s d =
     let s2 : s + 2 ≡ suc (suc s) = omega arith in
     let s3 : s + 3 ≡ suc (suc (suc s)) = omega arith in
     rw (d1, d2, d3, s1, s2, s3)
+
+-- Bytes copied in two runs are copied at once.
+copied-parts : (src dst : List ℕ) (s d n k : ℕ) → sets (sets dst d (bytesAt src s n)) (d + n) (bytesAt src (s + n) k) ≡ sets dst d (bytesAt src s (n + k))
+unfolding bytesAt
+copied-parts src dst s d zero k = let z : 0 + k ≡ k = omega arith in rw (add-zero d, add-zero s, z)
+copied-parts src dst s d (suc n) k =
+    let e : d + suc n ≡ suc d + n = omega arith in
+    let f : s + suc n ≡ suc s + n = omega arith in
+    let g : suc n + k ≡ suc (n + k) = omega arith in
+    rw (e, f, g) (copied-parts src (set dst d (getD src s 0)) (suc s) (suc d) n k)
+
+-- Sixteen bytes copied by fours.
+pub line-copied : (src dst : List ℕ) (s d : ℕ) →
+    sets (sets (sets (sets dst d (bytesAt src s 4)) (d + 4) (bytesAt src (s + 4) 4)) (d + 8) (bytesAt src (s + 8) 4)) (d + 12) (bytesAt src (s + 12) 4)
+    ≡ sets dst d (bytesAt src s 16)
+line-copied src dst s d = rw (copied-parts src dst s d 4 4, copied-parts src dst s d 8 4) (copied-parts src dst s d 12 4)

@@ -1,11 +1,11 @@
 -- Bytes read from a list, and put into one from a place on, byte by byte.
-use Prim.Native.Nat.{ℕ, zero, suc, _+_, _-_, _≤_, _<_}
-use mathlib.Core.Path.{_≡_, refl, sym, _∙_, ap}
+use Prim.Native.Nat.{ℕ, zero, suc, _+_, _≤_, _<_}
+use mathlib.Core.Path.{_≡_, refl, _∙_, ap}
 use mathlib.Core.List.{List, [], _∷_}
 use native.Mathlib.Omega.{arith}
 use native.Mathlib.Nat.{add-zero}
 use lib.ListN.{length, getD, set, replicate, length-set}
-use lib.Seq.{sets, length-sets, getD-set-same, getD-set-other}
+use lib.Seq.{sets, getD-set-same, getD-set-other}
 use Rattle.words.specs.Bytes.{bytesAt}
 
 -- as many bytes as are read
@@ -44,28 +44,6 @@ pub zeros-at : (n i : ℕ) → _≡_ {A = ℕ} (getD (replicate n 0) i 0) 0
 zeros-at zero i = refl
 zeros-at (suc n) zero = refl
 zeros-at (suc n) (suc i) = zeros-at n i
-
--- the lanes of a doubleword that has some bytes from a lane on
-module _ (src : List ℕ) (at lane count : ℕ) where
-  abbrev lanes : List ℕ
-  lanes = sets (replicate 4 0) lane (bytesAt src at count)
-
-  pub lane-below : (of : ℕ) → of < lane → 0 ≡ getD lanes of 0
-  lane-below of h = sym (sets-below (replicate 4 0) lane (bytesAt src at count) of h ∙ zeros-at 4 of)
-
-  pub lane-above : (of : ℕ) → lane + count ≤ of → 0 ≡ getD lanes of 0
-  lane-above of h =
-      let n = bytes-length src at count in
-      sym (sets-above (replicate 4 0) lane (bytesAt src at count) of (rw n h) ∙ zeros-at 4 of)
-
-  pub lane-in : (of : ℕ) → lane ≤ of → of < lane + count → lane + count ≤ 4 → getD src (at + (of - lane)) 0 ≡ getD lanes of 0
-  lane-in of l h f =
-      let n = bytes-length src at count in
-      let e : lane + (of - lane) ≡ of = omega arith in
-      sym (rw e at (sets-in (replicate 4 0) lane (bytesAt src at count) (of - lane) (rw n (omega arith)) (omega arith) ∙ bytes-at src at count (of - lane) (omega arith)))
-
-  pub lanes-length : length lanes ≡ 4
-  lanes-length = length-sets (replicate 4 0) lane (bytesAt src at count)
 
 -- all bytes of a list
 bytes-shift : (x : ℕ) (l : List ℕ) (i n : ℕ) → bytesAt (x ∷ l) (suc i) n ≡ bytesAt l i n

@@ -1,5 +1,5 @@
 -- Bytes in lists and as numbers. Bytes are put into a list from a place on by the library's `sets`.
-use Prim.Native.Nat.{ℕ, zero, suc, _+_, _*_, _/_, _%_}
+use Prim.Native.Nat.{ℕ, zero, suc, _+_, _*_, _/_, _%_, _^_}
 use mathlib.Core.List.{List, [], _∷_}
 use lib.ListN.{getD, replicate}
 use lib.Seq.{sets}
@@ -22,3 +22,11 @@ bytesOf (suc n) v = v % 256 ∷ bytesOf n (v / 256)
 -- "data, unmoved lanes 0": the doubleword of some bytes that start in a lane.
 abbrev pub wordIn : ℕ → List ℕ → ℕ
 wordIn lane bytes = valueOf (sets (replicate 4 0) lane bytes)
+
+-- The number that so many bytes of a doubleword say, from a lane on.
+unfoldable pub lanesValue : ℕ → ℕ → ℕ → ℕ
+lanesValue word lane count = word / 256 ^ lane % 256 ^ count
+
+-- The same bytes in their own lanes, the other lanes 0.
+unfoldable pub lanesWord : ℕ → ℕ → ℕ → ℕ
+lanesWord word lane count = lanesValue word lane count * 256 ^ lane

@@ -1,9 +1,10 @@
 // Bytes moved between buffers, and as numbers.
 ghost use mathlib.Core.Path.{_≡_};
-ghost use Prim.Native.Nat.{_+_, _≤_, _<_};
-ghost use lib.ListN.{getD, length, replicate};
+ghost use Prim.Native.Nat.{_+_, _*_, _/_, _%_, _^_, _≤_, _<_};
+ghost use lib.ListN.{length};
 ghost use lib.Seq.{sets};
 ghost use Rattle.words.specs.Bytes.{bytesAt, bytesOf, valueOf, wordIn};
+use crate::lanes::lanes_value;
 
 // So many bytes of src from a place on, put into dst. A whole doubleword is moved at once.
 pub fn copy_bytes(src: &[u8], s: usize, dst: &mut [u8], d: usize, count: usize)
@@ -32,6 +33,17 @@ fn copy_four(src: &[u8], s: usize, dst: &mut [u8], d: usize)
     dst[d + 3] = highest;
 }
 
+// Sixteen bytes of src from a place on, put into dst.
+pub fn copy_line(src: &[u8], s: usize, dst: &mut [u8], d: usize)
+    requires { ⌜ (s + 16 ≤ length (now src)) × (d + 16 ≤ length (now dst)) ⌝ }
+    ensures { λ _. ⌜ now (dst .exit) ≡ sets (now (dst .entry)) d (bytesAt (now (src .entry)) s 16) ⌝ }
+{
+    copy_four(src, s, dst, d);
+    copy_four(src, s + 4, dst, d + 4);
+    copy_four(src, s + 8, dst, d + 8);
+    copy_four(src, s + 12, dst, d + 12);
+}
+
 fn copy_each(src: &[u8], s: usize, dst: &mut [u8], d: usize, count: usize)
     requires { ⌜ (s + count ≤ length (now src)) × (d + count ≤ length (now dst)) ⌝ }
     ensures { λ _. ⌜ now (dst .exit) ≡ sets (now (dst .entry)) d (bytesAt (now (src .entry)) s count) ⌝ }
@@ -51,41 +63,19 @@ pub fn word_of(lanes: [u8; 4]) -> u32
 }
 
 // The doubleword of four bytes.
-fn word_at(src: &[u8], at: usize) -> u32
+pub fn word_at(src: &[u8], at: usize) -> u32
     requires { ⌜ at + 4 ≤ length (now src) ⌝ }
     ensures { λ r. ⌜ r ≡ wordIn 0 (bytesAt (now (src .entry)) at 4) ⌝ }
 {
     word_of([src[at], src[at + 1], src[at + 2], src[at + 3]])
 }
 
-// The byte that a lane of a doubleword has, of so many bytes from a lane on; 0 in the other lanes.
-fn byte_in(src: &[u8], at: usize, lane: usize, count: usize, of: usize) -> u8
-    requires { ⌜ (at + count ≤ length (now src)) × (lane + count ≤ 4) × (of < 4) ⌝ }
-    ensures { λ r. ⌜ r ≡ getD (sets (replicate 4 0) lane (bytesAt (now (src .entry)) at count)) of 0 ⌝ }
+// The number of some bytes of one aligned doubleword, the lowest first. The whole doubleword is loaded.
+pub fn value_at(src: &[u8], at: usize, count: usize) -> u32
+    requires { ⌜ (0 < count) × (at % 4 + count ≤ 4) × (at / 4 * 4 + 4 ≤ length (now src)) ⌝ }
+    ensures { λ r. ⌜ r ≡ valueOf (bytesAt (now (src .entry)) at count) ⌝ }
 {
-    if of < lane {
-        return 0;
-    }
-    if lane + count <= of {
-        return 0;
-    }
-    src[at + (of - lane)]
-}
-
-// The doubleword that has some bytes from a lane on, and 0 in the other lanes. It is put together from bytes in registers: a
-// word loaded from where bytes were just stored would wait for them.
-pub fn lane_word(src: &[u8], at: usize, lane: usize, count: usize) -> u32
-    requires { ⌜ (at + count ≤ length (now src)) × (lane + count ≤ 4) ⌝ }
-    ensures { λ r. ⌜ r ≡ wordIn lane (bytesAt (now (src .entry)) at count) ⌝ }
-{
-    if count == 4 {
-        return word_at(src, at);
-    }
-    let lowest = byte_in(src, at, lane, count, 0);
-    let second = byte_in(src, at, lane, count, 1);
-    let third = byte_in(src, at, lane, count, 2);
-    let highest = byte_in(src, at, lane, count, 3);
-    lowest as u32 + 256 * second as u32 + 65536 * third as u32 + 16777216 * highest as u32
+    lanes_value(word_at(src, at / 4 * 4), at % 4, count)
 }
 
 // The four bytes of a number, the lowest first.
@@ -101,4 +91,43 @@ pub fn bytes_of(value: u32) -> [u8; 4]
         (third % 256) as u8,
         (fourth % 256) as u8,
     ]
+}
+
+// The four bytes of a number put into dst.
+fn put_word(dst: &mut [u8], at: usize, value: u32)
+    requires { ⌜ at + 4 ≤ length (now dst) ⌝ }
+    ensures { λ _. ⌜ now (dst .exit) ≡ sets (now (dst .entry)) at (bytesOf 4 value) ⌝ }
+{
+    let second = value / 256;
+    let third = second / 256;
+    let fourth = third / 256;
+    dst[at] = (value % 256) as u8;
+    dst[at + 1] = (second % 256) as u8;
+    dst[at + 2] = (third % 256) as u8;
+    dst[at + 3] = (fourth % 256) as u8;
+}
+
+// Fewer than four bytes of a number put into dst: the lowest, a middle one and the highest, which may be the same. No branch
+// depends on how many they are, and nothing is loaded.
+fn put_few(dst: &mut [u8], at: usize, count: usize, value: u32)
+    requires { ⌜ (0 < count) × (count < 4) × (at + count ≤ length (now dst)) ⌝ }
+    ensures { λ _. ⌜ now (dst .exit) ≡ sets (now (dst .entry)) at (bytesOf count value) ⌝ }
+{
+    let middle = count / 2;
+    let highest = count - 1;
+    dst[at] = (value % 256) as u8;
+    dst[at + middle] = ((value >> (8 * middle)) % 256) as u8;
+    dst[at + highest] = ((value >> (8 * highest)) % 256) as u8;
+}
+
+// So many bytes of a number put into one aligned doubleword of dst.
+pub fn put_value(dst: &mut [u8], at: usize, count: usize, value: u32)
+    requires { ⌜ (0 < count) × (at % 4 + count ≤ 4) × (at / 4 * 4 + 4 ≤ length (now dst)) × (value < 256 ^ count) ⌝ }
+    ensures { λ _. ⌜ now (dst .exit) ≡ sets (now (dst .entry)) at (bytesOf count value) ⌝ }
+{
+    if count == 4 {
+        put_word(dst, at, value);
+    } else {
+        put_few(dst, at, count, value);
+    }
 }

@@ -1,7 +1,13 @@
 // Bytes moved between buffers, and as the numbers that they say.
 mod bytes;
+mod lanes;
 
 pub use bytes::bytes_of;
 pub use bytes::copy_bytes;
-pub use bytes::lane_word;
+pub use bytes::copy_line;
+pub use bytes::put_value;
+pub use bytes::value_at;
+pub use bytes::word_at;
 pub use bytes::word_of;
+pub use lanes::lanes_value;
+pub use lanes::lanes_word;

@@ -1,2 +1,2 @@
 -- Laws that several proofs cite.
-mod WriteDoublewords
+pub mod WriteDoublewords

@@ -1,123 +1,120 @@
--- Laws of one doubleword of a write: what it leaves.
-use Prim.Native.Nat.{ℕ, _+_, _<_}
+-- Laws of one doubleword of a write: what the code leaves in each case.
+use Prim.Native.Nat.{ℕ, _+_, _/_, _^_, _≤_, _<_, min}
 use mathlib.Core.Path.{_≡_, refl, sym, _∙_, ap}
-use mathlib.Core.Bool.{Bool, true, false, cond}
-use mathlib.Core.List.{List, []}
+use mathlib.Core.Bool.{Bool, true, false}
+use mathlib.Core.List.{List}
 use native.Mathlib.Omega.{arith}
+use native.Mathlib.Nat.{add-zero, zero-add, mod-lt}
 use lib.ListN.{length, length-map}
 use lib.Seq.{sets}
-use Rattle.laws.proofs.Tests.{by-test}
 use Rattle.ways.specs.declared.ways.Found.{Found}
 use Rattle.ways.specs.declared.ways.Found.the-variants.{At, Nothing}
-use Rattle.ways.specs.Ways.{lookupIn}
-use Rattle.ways.proofs.FourWays.{lookup-below}
-use Rattle.words.specs.Bytes.{bytesAt}
-use Rattle.memory.specs.Parity.{Memory}
-use Rattle.bus.specs.declared.cycle.CycleCursor.{CycleCursor}
-use Rattle.bus.specs.Groups.{groupSize}
+use Rattle.words.specs.Bytes.{bytesAt, bytesOf, lanesValue}
+use Rattle.words.proofs.Numbers.{bytes-of-lower, bytes-of-part}
+use Rattle.words.proofs.Parts.{powers-some}
+use Rattle.words.proofs.Places.{bytes-length}
+use Rattle.memory.specs.Parity.{Memory, stored}
 use Rattle.bus.specs.Record.{writeRecord, wordsOf}
-use Rattle.cycles.specs.CycleLoop.{WriteCycles}
+use Rattle.cycles.specs.Made.{CyclesMade}
+use Rattle.cycles.proofs.Brought.{OneDoubleword}
+use Rattle.cycles.specs.Sent.{sentLine}
+use Rattle.cycles.proofs.Stored.{wanted-stored}
 use Rattle.doubleword.specs.declared.change.Change.{Change}
 use Rattle.doubleword.specs.declared.change.Change.the-variants.{Unchanged, Use}
-use Rattle.doubleword.specs.declared.change.DoublewordResult.{DoublewordResult}
 use Rattle.doubleword.specs.declared.change.Wanted.{Wanted}
 use Rattle.doubleword.specs.declared.cursor.AccessCursor.{AccessCursor}
-use Rattle.doubleword.specs.declared.cursor.NextResult.{NextResult}
-use Rattle.doubleword.specs.Doubleword.{Doubleword, dataOffset, Done, plainCycles}
-use Rattle.doubleword.specs.DoublewordCode.{doublewordOf, BelowFour}
-use Rattle.doubleword.specs.Cursor.{wantedOf, groupAt}
-use Rattle.doubleword.proofs.Doublewords.{plainStart, plain-cycles}
+use Rattle.doubleword.specs.Doubleword.{Doubleword, Done, dataOffset, plainCycles}
+use Rattle.doubleword.specs.Cursor.{wantedOf, groupAt, AccessNeeds}
+use Rattle.doubleword.specs.DoublewordCode.{BelowFour}
 use Rattle.writing.specs.Writing.{writeBuffer, writeThrough, hitArray, writeDone}
-use Rattle.writing.specs.WritingCode.{WritesThrough, Writes, WriteNext}
+use Rattle.writing.specs.declared.next.NextWritten.{NextWritten}
+use Rattle.writing.specs.declared.writing.DoublewordWritten.{DoublewordWritten}
+use Rattle.writing.specs.WritingCode.{Writes, WriteNext}
 
--- what the write cycles of a doubleword leave
-pub written-through : (operand answers : List ℕ) (w : Wanted) (first : ℕ) (m₀ : Memory) (log₀ : List ℕ) (cursor : CycleCursor) (buffer : List ℕ) (m : Memory) (log : List ℕ) →
-    0 < w .count → length answers ≡ groupSize → buffer ≡ writeBuffer operand (doublewordOf w answers) →
-    WriteCycles buffer answers (w .line) first (plainStart w) m₀ log₀ cursor m log →
-    WritesThrough operand (doublewordOf w answers) first m₀ log₀ (cursor .cycles) m log
-written-through operand answers w first m₀ log₀ cursor buffer m log some a e k =
-    let q = plain-cycles w answers 0 some in
-    record {
-      logs = rw (← e, ← q) (k .logs);
-      sends = rw (← e, ← q) (k .sends);
-      made = rw (← q) (k .made);
-      most = omega (arith, k .most);
-    }
+-- the bytes that a doubleword sends
+module _ (f : Found) (stays : Bool) (m₀ : Memory) (array operand : List ℕ) (w : Doubleword) (first : ℕ) (log₀ sent : List ℕ) (es : bytesAt operand (w .place) (w .wanted .count) ≡ sent) where
+  -- put into the data array
+  hit-array : (way offset : ℕ) (array′ : List ℕ) → offset ≡ dataOffset (w .line) way → array′ ≡ sets array (offset + w .wanted .from) sent → array′ ≡ hitArray way array operand w
+  unfolding hitArray
+  hit-array way offset array′ eo ea = ea ∙ rw (eo, es)
 
--- a write by what the lookup found
-module _ (f : Found) (stays : Bool) (m₀ : Memory) (array operand : List ℕ) (w : Doubleword) (first : ℕ) (log₀ : List ℕ) where
-  pub stay-writes : (way offset : ℕ) (array′ : List ℕ) → f ≡ At way → stays ≡ true → offset ≡ dataOffset (w .line) way →
-      array′ ≡ sets array (offset + w .wanted .from) (bytesAt operand (w .place) (w .wanted .count)) →
-      Writes (writeDone f stays m₀ array operand w) first log₀ (record { change = Use way; cycles = 0 }) m₀ array′ log₀
-  unfolding writeDone hitArray wordsOf
-  stay-writes way offset array′ e b s a =
-      rw (e, b)
+  -- a hit that stays in the cache
+  pub stay-writes : (way offset : ℕ) (array′ : List ℕ) → f ≡ At way → way < 4 → stays ≡ true → offset ≡ dataOffset (w .line) way → array′ ≡ sets array (offset + w .wanted .from) sent →
+      Writes (writeDone f stays m₀ array operand w) first log₀ (Use way) 0 m₀ array′ log₀
+  unfolding writeDone wordsOf
+  stay-writes way offset array′ e b s eo ea =
+      let h = hit-array way offset array′ eo ea in
+      rw (e, s)
       (record {
-        change = refl;
+        changes = refl;
+        below = b;
         memories = refl;
-        arrays = rw s at a;
+        arrays = h;
         logs = refl;
         made = refl;
         most = omega arith;
       })
 
-  through-writes : (change : Change) (array′ : List ℕ) (r : ℕ) (m : Memory) (log : List ℕ) → WritesThrough operand w first m₀ log₀ r m log →
-      Writes (writeThrough change m₀ array′ operand w) first log₀ (record { change = change; cycles = r }) m array′ log
-  unfolding writeThrough
-  through-writes change array′ r m log k =
-      record {
-        change = refl;
-        memories = k .sends;
-        arrays = refl;
-        logs = k .logs;
-        made = k .made ∙ sym (length-map (plainCycles w) (writeRecord (writeBuffer operand w) (w .line)));
-        most = k .most;
-      }
+  -- sent through to RAM, in cycles
+  module _ (g : OneDoubleword (w .wanted)) (enough : 16 ≤ length (w .answers)) (cycles : ℕ) (m : Memory) (log : List ℕ) (em : m ≡ stored m₀ (w .line + w .wanted .from) sent)
+      (made : CyclesMade (writeRecord (sentLine (w .wanted .from) sent) (w .line)) (plainCycles w) first 0 log₀ cycles log) (most : cycles ≤ 4) where
+    sent-buffer : writeBuffer operand w ≡ sentLine (w .wanted .from) sent
+    sent-buffer = ap (sentLine (w .wanted .from)) es
 
-  pub hit-writes : (way offset : ℕ) (array′ : List ℕ) (r : ℕ) (m : Memory) (log : List ℕ) → f ≡ At way → stays ≡ false → offset ≡ dataOffset (w .line) way →
-      array′ ≡ sets array (offset + w .wanted .from) (bytesAt operand (w .place) (w .wanted .count)) → WritesThrough operand w first m₀ log₀ r m log →
-      Writes (writeDone f stays m₀ array operand w) first log₀ (record { change = Use way; cycles = r }) m array′ log
-  unfolding writeDone hitArray
-  hit-writes way offset array′ r m log e b s a k =
-      let h : array′ ≡ hitArray way array operand w = rw s at a in
-      rw (e, b, h) (through-writes (Use way) (hitArray way array operand w) r m log k)
+    sent-length : length sent ≡ w .wanted .count
+    sent-length = rw (← es) (bytes-length operand (w .place) (w .wanted .count))
 
-  pub miss-writes : (r : ℕ) (m : Memory) (log : List ℕ) → f ≡ Nothing → WritesThrough operand w first m₀ log₀ r m log →
-      Writes (writeDone f stays m₀ array operand w) first log₀ (record { change = Unchanged; cycles = r }) m array log
-  unfolding writeDone
-  miss-writes r m log e k = rw e (through-writes Unchanged array r m log k)
+    through-writes : (change : Change) → BelowFour change → (array′ : List ℕ) → Writes (writeThrough change m₀ array′ operand w) first log₀ change cycles m array′ log
+    unfolding writeThrough
+    through-writes change b array′ =
+        record {
+          changes = refl;
+          below = b;
+          memories = rw sent-buffer (em ∙ sym (wanted-stored sent (w .line) (w .wanted) g sent-length (w .answers) enough m₀));
+          arrays = refl;
+          logs = rw sent-buffer (rw (add-zero first) at (made .logs));
+          made = made .made ∙ zero-add (length (plainCycles w)) ∙ sym (length-map (plainCycles w) (writeRecord (writeBuffer operand w) (w .line)));
+          most = omega arith;
+        }
 
--- the way of a change is below 4
-write-below : (f : Found) (stays : Bool) (m : Memory) (array operand : List ℕ) (w : Doubleword) → ((way : ℕ) → f ≡ At way → way < 4) →
-    BelowFour (writeDone f stays m array operand w .change)
-unfolding writeDone writeThrough
-write-below (At way) stays m array operand w h =
-    by-test (λ b. BelowFour (cond b (record { change = Use way; memory = m; array = hitArray way array operand w; bytes = []; records = [] }) (writeThrough (Use way) m (hitArray way array operand w) operand w) .change)) stays
-    (λ _. h way refl) (λ _. h way refl)
-write-below Nothing stays m array operand w h = tt
+    pub hit-writes : (way offset : ℕ) (array′ : List ℕ) → f ≡ At way → way < 4 → stays ≡ false → offset ≡ dataOffset (w .line) way → array′ ≡ sets array (offset + w .wanted .from) sent →
+        Writes (writeDone f stays m₀ array operand w) first log₀ (Use way) cycles m array′ log
+    unfolding writeDone
+    hit-writes way offset array′ e b s eo ea =
+        let h = hit-array way offset array′ eo ea in
+        rw (e, s, h) (through-writes (Use way) b (hitArray way array operand w))
 
-pub writes-below : (tags : List ℕ) (valid : List Bool) (stays : Bool) (m₀ : Memory) (array operand : List ℕ) (w : Doubleword) {first : ℕ} {log₀ : List ℕ} {r : DoublewordResult} {m : Memory} {array′ log : List ℕ} →
-    Writes (writeDone (lookupIn tags valid (w .line)) stays m₀ array operand w) first log₀ r m array′ log → BelowFour (r .change)
-writes-below tags valid stays m₀ array operand w k = rw (k .change) (write-below _ stays m₀ array operand w (lookup-below tags valid (w .line)))
+    pub miss-writes : f ≡ Nothing → Writes (writeDone f stays m₀ array operand w) first log₀ Unchanged cycles m array log
+    unfolding writeDone
+    miss-writes e = rw e (through-writes Unchanged tt array)
+
+-- a part of a value: it fits its bytes, which are those of the operand
+pub part-fits : (value place count : ℕ) → lanesValue value place count < 256 ^ count
+unfolding lanesValue
+part-fits value place count = mod-lt (value / 256 ^ place) (powers-some count)
+
+pub part-bytes : (value place count : ℕ) → place + count ≤ 4 → bytesAt (bytesOf 4 value) place count ≡ bytesOf count (lanesValue value place count)
+unfolding lanesValue
+part-bytes value place count h = bytes-of-part value place count h ∙ sym (bytes-of-lower count (value / 256 ^ place))
+
+-- the bytes of the next doubleword lie in the operand
+pub place-within : (cursor : AccessCursor) (w : Wanted) {ram parity array answers log : ℕ} → 0 < cursor .left → w ≡ wantedOf cursor → AccessNeeds cursor ram parity array answers log → (0 < w .count) × (w .place + w .count ≤ 4)
+place-within cursor w some ew z = rw ew (omega arith, room (cursor .place) (cursor .left) _ (z .operands))
+  where
+    room : (place left r : ℕ) → place + left ≤ 4 → place + min left r ≤ 4
+    room place left r h = omega arith
 
 -- the next doubleword of the code, from what its parts leave
-module _ (cursor : AccessCursor) (xs : List ℕ) (w : Wanted) (given : List ℕ) (ew : w ≡ wantedOf cursor) (eg : given ≡ groupAt cursor xs) (moved : DoublewordResult) (b : BelowFour (moved .change)) where
-  abbrev result : NextResult
-  result = record { line = w .line; change = moved .change; count = w .count; cycles = moved .cycles }
+module _ (cursor : AccessCursor) (xs : List ℕ) (w : Wanted) (given : List ℕ) (ew : w ≡ wantedOf cursor) (eg : given ≡ groupAt cursor xs) (written : DoublewordWritten) where
+  abbrev result : NextWritten
+  result = record { line = w .line; change = written .change; count = w .count; cycles = written .cycles }
 
   pub write-next-left : (one : Wanted → List ℕ → Done) (log₀ : List ℕ) (m : Memory) (array log : List ℕ) →
-      Writes (one w given) (cursor .cycles) log₀ moved m array log →
+      Writes (one w given) (cursor .cycles) log₀ (written .change) (written .cycles) m array log →
       WriteNext (one (wantedOf cursor) (groupAt cursor xs)) cursor log₀ result m array log
   write-next-left one log₀ m array log k =
-      let k′ : Writes (one (wantedOf cursor) (groupAt cursor xs)) (cursor .cycles) log₀ moved m array log = rw (ew, eg) at k in
       record {
         line = ap (λ (x : Wanted). x .line) ew;
-        change = k′ .change;
-        below = b;
         counts = ap (λ (x : Wanted). x .count) ew;
-        made = k′ .made;
-        memories = k′ .memories;
-        arrays = k′ .arrays;
-        logs = k′ .logs;
-        most = k′ .most;
+        writes = rw (ew, eg) at k;
       }

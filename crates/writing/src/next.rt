@@ -2,13 +2,24 @@
 ghost use Prim.Native.Nat.{_<_};
 ghost use lib.ListN.{length};
 ghost use Rattle.ways.specs.Ways.{lookupIn};
+ghost use Rattle.words.specs.Bytes.{bytesOf};
 ghost use Rattle.memory.specs.Parity.{memory};
 ghost use Rattle.doubleword.specs.Cursor.{AccessNeeds, lineAddress, nextDoubleword};
 ghost use Rattle.writing.specs.Writing.{writeDone};
 ghost use Rattle.writing.specs.WritingCode.{WriteNext};
 use crate::writing::write_doubleword;
 use doubleword::AccessCursor;
-use doubleword::NextResult;
+use doubleword::Change;
+use words::lanes_value;
+
+// What the next doubleword did: the directory's change with its line, how many bytes it wrote, the count of cycles. What is left
+// after it is worked out by the caller, in registers.
+pub struct NextWritten {
+    pub line: u32,
+    pub change: Change,
+    pub count: usize,
+    pub cycles: usize,
+}
 
 // The doubleword at a cursor, by lent fields of the directory. stays: CD = NW = 1, where a hit makes no cycle.
 pub fn write_next<'a>(
@@ -20,17 +31,18 @@ pub fn write_next<'a>(
     data: &mut [u8],
     answers: &[u8],
     log: &mut [u32],
-    operand: &[u8],
+    value: u32,
     cursor: AccessCursor,
-) -> NextResult
-    requires { ⌜ (0 < cursor .left) × AccessNeeds cursor (length (now ram)) (length (now parity)) (length (now «data»)) (length (now answers)) (length (now log)) (length (now operand)) ⌝ }
+) -> NextWritten
+    requires { ⌜ (0 < cursor .left) × AccessNeeds cursor (length (now ram)) (length (now parity)) (length (now «data»)) (length (now answers)) (length (now log)) ⌝ }
     ensures { λ r. ⌜ WriteNext (writeDone (lookupIn (now (tags .entry)) (now (valid .entry)) (lineAddress cursor)) stays
-        (memory (now (ram .entry)) (now (parity .entry))) (now («data» .entry)) (now (operand .entry)) (nextDoubleword cursor (now (answers .entry))))
+        (memory (now (ram .entry)) (now (parity .entry))) (now («data» .entry)) (bytesOf 4 value) (nextDoubleword cursor (now (answers .entry))))
         cursor (now (log .entry)) r (memory (now (ram .exit)) (now (parity .exit))) (now («data» .exit)) (now (log .exit)) ⌝ }
 {
     let w = cursor.wanted();
     let group = cursor.group_of(answers);
-    let moved = write_doubleword(
+    let part = lanes_value(value, w.place, w.count);
+    let written = write_doubleword(
         tags,
         valid,
         stays,
@@ -39,15 +51,15 @@ pub fn write_next<'a>(
         data,
         group,
         log,
-        operand,
         w,
+        part,
         cursor.cycles,
     );
-    let change = moved.change;
-    NextResult {
+    let change = written.change;
+    NextWritten {
         line: w.line,
         change,
         count: w.count,
-        cycles: moved.cycles,
+        cycles: written.cycles,
     }
 }

@@ -44,7 +44,15 @@ enum-told c = search needs
 
 returns-3 : tie.Need-returns-3
 unfolding controlOf with
-returns-3 c = sym (two-more _ _ (c .before .before .before .before .before .before .before .before .end-of .ensures .0) _ (c .before .before .before .before .before .before .before .before .end-of .ensures .1) (c .before .before .before .before .before .before .before .if1 .left) ∙ one-end _ _ (c .before .before .before .before .before .end-of2 .ensures .0) _ (c .before .before .before .before .if2 .left) ∙ rw (sym (c .before .before .scan-bit .ensures) ∙ c .enum-told .given .1))
+returns-3 c =
+    let at-scan-bit = c .before .before in
+    let at-if2 = at-scan-bit .before .before in
+    let at-end-of2 = at-if2 .before in
+    let at-if1 = at-end-of2 .before .before in
+    let at-end-of = at-if1 .before in
+    sym
+    (two-more _ _ (at-end-of .end-of .ensures .0) _ (at-end-of .end-of .ensures .1) (at-if1 .if1 .left) ∙
+    one-end _ _ (at-end-of2 .end-of2 .ensures .0) _ (at-if2 .if2 .left) ∙ rw (sym (at-scan-bit .scan-bit .ensures) ∙ c .enum-told .given .1))
 
 scan-bit-requires-2 : tie.Need-scan-bit-requires-2
 scan-bit-requires-2 c κs = search needs
@@ -57,11 +65,33 @@ enum-told-2 c = search needs
 
 returns-4 : tie.Need-returns-4
 unfolding controlOf with
-returns-4 c = sym (two-more _ _ (c .before .before .before .before .before .before .before .before .before .before .before .before .end-of .ensures .0) _ (c .before .before .before .before .before .before .before .before .before .before .before .before .end-of .ensures .1) (c .before .before .before .before .before .before .before .before .before .before .before .if1 .left) ∙ one-end _ _ (c .before .before .before .before .before .before .before .before .before .end-of2 .ensures .0) _ (c .before .before .before .before .before .before .before .before .if2 .left) ∙ rw (sym (c .before .before .before .before .before .before .scan-bit .ensures) ∙ c .before .before .before .before .cd .given .1, sym (c .before .before .scan-bit2 .ensures) ∙ c .enum-told2 .given .1))
+returns-4 c =
+    let at-scan-bit2 = c .before .before in
+    let at-cd = at-scan-bit2 .before .before in
+    let at-scan-bit = at-cd .before .before in
+    let at-if2 = at-scan-bit .before .before in
+    let at-end-of2 = at-if2 .before in
+    let at-if1 = at-end-of2 .before .before in
+    let at-end-of = at-if1 .before in
+    sym
+    (two-more _ _ (at-end-of .end-of .ensures .0) _ (at-end-of .end-of .ensures .1) (at-if1 .if1 .left) ∙
+    one-end _ _ (at-end-of2 .end-of2 .ensures .0) _ (at-if2 .if2 .left) ∙
+    rw (sym (at-scan-bit .scan-bit .ensures) ∙ at-cd .cd .given .1, sym (at-scan-bit2 .scan-bit2 .ensures) ∙ c .enum-told2 .given .1))
 
 returns-5 : tie.Need-returns-5
 unfolding controlOf with
-returns-5 c = sym (two-more _ _ (c .before .before .before .before .before .before .before .before .before .before .before .before .before .end-of .ensures .0) _ (c .before .before .before .before .before .before .before .before .before .before .before .before .before .end-of .ensures .1) (c .before .before .before .before .before .before .before .before .before .before .before .before .if1 .left) ∙ one-end _ _ (c .before .before .before .before .before .before .before .before .before .before .end-of2 .ensures .0) _ (c .before .before .before .before .before .before .before .before .before .if2 .left) ∙ rw (sym (c .before .before .before .before .before .before .before .scan-bit .ensures) ∙ c .before .before .before .before .before .cd .given .1, sym (c .before .before .before .scan-bit2 .ensures) ∙ c .before .nw .given .1))
+returns-5 c =
+    let at-scan-bit2 = c .before .before .before in
+    let at-cd = at-scan-bit2 .before .before in
+    let at-scan-bit = at-cd .before .before in
+    let at-if2 = at-scan-bit .before .before in
+    let at-end-of2 = at-if2 .before in
+    let at-if1 = at-end-of2 .before .before in
+    let at-end-of = at-if1 .before in
+    sym
+    (two-more _ _ (at-end-of .end-of .ensures .0) _ (at-end-of .end-of .ensures .1) (at-if1 .if1 .left) ∙
+    one-end _ _ (at-end-of2 .end-of2 .ensures .0) _ (at-if2 .if2 .left) ∙
+    rw (sym (at-scan-bit .scan-bit .ensures) ∙ at-cd .cd .given .1, sym (at-scan-bit2 .scan-bit2 .ensures) ∙ c .before .nw .given .1))
 
 pub control-of-spec : {M : Type 1} → statement M
 control-of-spec =

@@ -1,4 +1,4 @@
-use Rattle.lines.proofs.Forms.{scan-long, scan-no-letter, scan-alone, scan-fields}
+use Rattle.lines.proofs.Forms.{scan-long, scan-empty, scan-alone, scan-no-letter, scan-fields}
 use mathlib.Core.Path.{sym, _∙_}
 use native.Mathlib.Omega.{arith}
 use borrow.Author.Needs.{needs}
@@ -8,11 +8,8 @@ use Rattle.lines.proofs.scan.Tie as tie
 returns : tie.Need-returns
 returns c = scan-long _ (c .if1 .taken)
 
-end-of-requires : tie.Need-end-of-requires
-end-of-requires c κs = search needs
-
 returns-2 : tie.Need-returns-2
-returns-2 c = scan-no-letter _ (omega arith) _ (c .before .end-of .ensures .0) (c .before .end-of .ensures .1) (c .if2 .taken)
+returns-2 c = scan-empty _ (omega arith) (c .if2 .taken)
 
 shared-slice-read-letter : tie.Need-shared-slice-read-letter
 shared-slice-read-letter c = search needs
@@ -21,7 +18,13 @@ alone-requires : tie.Need-alone-requires
 alone-requires c κs = search needs
 
 returns-3 : tie.Need-returns-3
-returns-3 c = c .alone .ensures ∙ sym (scan-alone _ (omega arith) _ (c .before .before .before .before .end-of .ensures .0) (c .before .before .before .if2 .left) (c .before .if3 .taken))
+returns-3 c = c .alone .ensures ∙ sym (scan-alone _ (omega arith) (c .before .if3 .taken))
+
+shared-slice-read-if4 : tie.Need-shared-slice-read-if4
+shared-slice-read-if4 c = search needs
+
+returns-4 : tie.Need-returns-4
+returns-4 c = scan-no-letter _ (omega arith) (omega arith) (c .if4 .taken)
 
 sub-with-fields : tie.Need-sub-with-fields
 sub-with-fields c = search needs
@@ -35,21 +38,22 @@ part-with-fields-end c = search needs
 with-fields-requires : tie.Need-with-fields-requires
 with-fields-requires c κs = search needs
 
-returns-4 : tie.Need-returns-4
-returns-4 c = c .with-fields .ensures ∙ sym (scan-fields _ (omega arith) _ (c .before .before .before .before .before .end-of .ensures .0) (c .before .before .before .before .if2 .left) (c .before .before .before .before .before .end-of .ensures .1) (c .before .before .if3 .left))
+returns-5 : tie.Need-returns-5
+returns-5 c = c .with-fields .ensures ∙ sym (scan-fields _ (omega arith) (omega arith) (c .before .before .if4 .left))
 
 pub scan-spec : {M : Type 1} → statement M
 scan-spec =
     tie.close
     (tie.spec
     returns
-    end-of-requires
     returns-2
     shared-slice-read-letter
     alone-requires
     returns-3
+    shared-slice-read-if4
+    returns-4
     sub-with-fields
     part-with-fields-start
     part-with-fields-end
     with-fields-requires
-    returns-4)
+    returns-5)

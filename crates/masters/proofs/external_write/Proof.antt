@@ -19,10 +19,27 @@ refused-requires : tie.Need-refused-requires
 refused-requires c κs = search needs
 
 returns : tie.Need-returns
-returns c = rw (c .refused .ensures) (input-refused (c .before .before .before .before .before .before .before .before .args .t1) (memory (now (c .before .before .before .before .before .before .before .before .args .ram)) (now (c .before .before .before .before .before .before .before .before .args .parity))) (c .before .before .before .before .before .before .before .before .args .address) (now (c .before .before .before .before .before .before .before .before .args .bytes)) _ _ (c .before .before .before .before .memory-number .ensures) (c .before .before .before .external-number .ensures) _ (c .before .before .or-else .ensures) (c .before .if1 .taken))
+returns c =
+    let at-or-else = c .before .before in
+    let at-external-number = at-or-else .before in
+    let at-memory-number = at-external-number .before in
+    let start = at-memory-number .before .before .before .before in
+    let a = start .args in
+    rw (c .refused .ensures)
+    (input-refused (a .t1) (memory (now (a .ram)) (now (a .parity))) (a .address) (now (a .bytes)) _ _ (at-memory-number .memory-number .ensures)
+    (at-external-number .external-number .ensures) _ (at-or-else .or-else .ensures) (c .before .if1 .taken))
 
 cast-states-number : tie.Need-cast-states-number
-cast-states-number c = let g = input-good (c .before .before .before .before .before .before .before .before .before .before .before .args .t1) (memory (now (c .before .before .before .before .before .before .before .before .before .before .before .args .ram)) (now (c .before .before .before .before .before .before .before .before .before .before .before .args .parity))) (c .before .before .before .before .before .before .before .before .before .before .before .args .address) (now (c .before .before .before .before .before .before .before .before .before .before .before .args .bytes)) _ _ (c .before .before .before .before .before .before .before .memory-number .ensures) (c .before .before .before .before .before .before .external-number .ensures) _ (c .before .before .before .before .before .or-else .ensures) (c .before .before .before .before .if1 .left) .1 in omega (arith, g .most)
+cast-states-number c =
+    let at-if1 = c .before .before .before .before in
+    let at-or-else = at-if1 .before in
+    let at-external-number = at-or-else .before in
+    let at-memory-number = at-external-number .before in
+    let start = at-memory-number .before .before .before .before in
+    let a = start .args in
+    let g = input-good (a .t1) (memory (now (a .ram)) (now (a .parity))) (a .address) (now (a .bytes)) _ _ (at-memory-number .memory-number .ensures)
+    (at-external-number .external-number .ensures) _ (at-or-else .or-else .ensures) (at-if1 .if1 .left) .1 in
+    omega (arith, g .most)
 
 states-number-requires : tie.Need-states-number-requires
 states-number-requires c κs = search needs
@@ -31,10 +48,30 @@ refused-requires-2 : tie.Need-refused-requires-2
 refused-requires-2 c κs = search needs
 
 returns-2 : tie.Need-returns-2
-returns-2 c = rw (c .refused2 .ensures) (state-refused (c .before .before .before .before .before .before .before .before .before .before .before .before .before .before .args .t1) (memory (now (c .before .before .before .before .before .before .before .before .before .before .before .before .before .before .args .ram)) (now (c .before .before .before .before .before .before .before .before .before .before .before .before .before .before .args .parity))) (c .before .before .before .before .before .before .before .before .before .before .before .before .before .before .args .address) (now (c .before .before .before .before .before .before .before .before .before .before .before .before .before .before .args .bytes)) _ _ (c .before .before .before .before .before .before .before .before .before .before .memory-number .ensures) (c .before .before .before .before .before .before .before .before .before .external-number .ensures) _ (c .before .before .before .before .before .before .before .before .or-else .ensures) (c .before .before .before .before .before .before .before .if1 .left) _ (c .before .before .states-number .ensures) (c .before .if2 .taken))
+returns-2 c =
+    let at-states-number = c .before .before in
+    let at-if1 = at-states-number .before .before .before .before .before in
+    let at-or-else = at-if1 .before in
+    let at-external-number = at-or-else .before in
+    let at-memory-number = at-external-number .before in
+    let start = at-memory-number .before .before .before .before in
+    let a = start .args in
+    rw (c .refused2 .ensures)
+    (state-refused (a .t1) (memory (now (a .ram)) (now (a .parity))) (a .address) (now (a .bytes)) _ _ (at-memory-number .memory-number .ensures)
+    (at-external-number .external-number .ensures) _ (at-or-else .or-else .ensures) (at-if1 .if1 .left) _ (at-states-number .states-number .ensures)
+    (c .before .if2 .taken))
 
 store-bytes-requires : tie.Need-store-bytes-requires
-store-bytes-requires c κs = let g = input-good (c .before .before .before .before .before .before .before .before .before .before .before .before .before .before .before .args .t1) (memory (now (c .before .before .before .before .before .before .before .before .before .before .before .before .before .before .before .args .ram)) (now (c .before .before .before .before .before .before .before .before .before .before .before .before .before .before .before .args .parity))) (c .before .before .before .before .before .before .before .before .before .before .before .before .before .before .before .args .address) (now (c .before .before .before .before .before .before .before .before .before .before .before .before .before .before .before .args .bytes)) _ _ (c .before .before .before .before .before .before .before .before .before .before .before .memory-number .ensures) (c .before .before .before .before .before .before .before .before .before .before .external-number .ensures) _ (c .before .before .before .before .before .before .before .before .before .or-else .ensures) (c .before .before .before .before .before .before .before .before .if1 .left) in (omega arith, g .1 .inside, omega (arith, g .0 .bits, g .0 .whole, g .1 .inside))
+store-bytes-requires c κs =
+    let at-if1 = c .before .before .before .before .before .before .before .before in
+    let at-or-else = at-if1 .before in
+    let at-external-number = at-or-else .before in
+    let at-memory-number = at-external-number .before in
+    let start = at-memory-number .before .before .before .before in
+    let a = start .args in
+    let g = input-good (a .t1) (memory (now (a .ram)) (now (a .parity))) (a .address) (now (a .bytes)) _ _ (at-memory-number .memory-number .ensures)
+    (at-external-number .external-number .ensures) _ (at-or-else .or-else .ensures) (at-if1 .if1 .left) in
+    (omega arith, g .1 .inside, omega (arith, g .0 .bits, g .0 .whole, g .1 .inside))
 
 snooped-requires : tie.Need-snooped-requires
 snooped-requires c κs = search needs
@@ -46,7 +83,19 @@ same-length-2 : tie.Need-same-length-2
 same-length-2 c = c .before .before .before .before .before .store-bytes .kept .1 .1 .1 .0
 
 returns-3 : tie.Need-returns-3
-returns-3 c = external-made (c .before .before .before .before .before .before .before .before .before .before .before .before .before .before .before .before .before .before .before .before .before .args .t1) (memory (now (c .before .before .before .before .before .before .before .before .before .before .before .before .before .before .before .before .before .before .before .before .before .args .ram)) (now (c .before .before .before .before .before .before .before .before .before .before .before .before .before .before .before .before .before .before .before .before .before .args .parity))) (c .before .before .before .before .before .before .before .before .before .before .before .before .before .before .before .before .before .before .before .before .before .args .address) (now (c .before .before .before .before .before .before .before .before .before .before .before .before .before .before .before .before .before .before .before .before .before .args .bytes)) _ _ (c .before .before .before .before .before .before .before .before .before .before .before .before .before .before .before .before .before .memory-number .ensures) (c .before .before .before .before .before .before .before .before .before .before .before .before .before .before .before .before .external-number .ensures) _ (c .before .before .before .before .before .before .before .before .before .before .before .before .before .before .before .or-else .ensures) (c .before .before .before .before .before .before .before .before .before .before .before .before .before .before .if1 .left) _ (c .before .before .before .before .before .before .before .before .before .states-number .ensures) (c .before .before .before .before .before .before .before .before .if2 .left) _ _ (c .snooped .ensures) (c .before .before .before .before .before .store-bytes .ensures)
+returns-3 c =
+    let at-store-bytes = c .before .before .before .before .before in
+    let at-if2 = at-store-bytes .before .before .before in
+    let at-states-number = at-if2 .before in
+    let at-if1 = at-states-number .before .before .before .before .before in
+    let at-or-else = at-if1 .before in
+    let at-external-number = at-or-else .before in
+    let at-memory-number = at-external-number .before in
+    let start = at-memory-number .before .before .before .before in
+    let a = start .args in
+    external-made (a .t1) (memory (now (a .ram)) (now (a .parity))) (a .address) (now (a .bytes)) _ _ (at-memory-number .memory-number .ensures)
+    (at-external-number .external-number .ensures) _ (at-or-else .or-else .ensures) (at-if1 .if1 .left) _ (at-states-number .states-number .ensures)
+    (at-if2 .if2 .left) _ _ (c .snooped .ensures) (at-store-bytes .store-bytes .ensures)
 
 pub external-write-spec : {M : Type 1} → statement M
 external-write-spec =

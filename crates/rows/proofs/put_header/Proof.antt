@@ -33,7 +33,11 @@ loop-less c = omega arith
 
 loop-again : tie.Need-loop-again Inv-loop μ-loop
 unfolding header
-loop-again c = (omega arith, c .before .before .before .before .before .before .loop .inv .1, rw (c .before .before .put .ensures, c .before .before .before .before .before .before .loop .inv .1) (put-next (c .before .before .before .before .before .before .loop .out) header (c .before .before .before .before .before .before .loop .k) (omega arith)) ∙ c .before .before .before .before .before .before .loop .inv .2, c .before .before .put .kept .0 ∙ c .before .before .before .before .before .before .loop .inv .3)
+loop-again c =
+    let at-put = c .before .before in
+    let at-loop = at-put .before .before .before .before in
+    let l = at-loop .loop in
+    (omega arith, l .inv .1, rw (at-put .put .ensures, l .inv .1) (put-next (l .out) header (l .k) (omega arith)) ∙ l .inv .2, at-put .put .kept .0 ∙ l .inv .3)
 
 same-length : tie.Need-same-length Inv-loop μ-loop
 same-length c = c .before .loop .inv .3

@@ -38,13 +38,53 @@ put-requires-4 : tie.Need-put-requires-4
 put-requires-4 c κs = search needs
 
 add-result : tie.Need-add-result
-add-result c = omega (arith, c .before .before .before .before .before .before .before .before .before .before .before .before .before .before .before .before .before .before .before .before .before .before .before .before .before .before .before .before .before .before .put-number .ensures .1, c .before .before .before .before .before .before .before .before .before .before .before .before .before .before .before .before .before .before .before .before .before .before .put-number2 .ensures .1, c .before .before .before .before .before .before .before .before .before .before .before .before .before .before .put-number3 .ensures .1, c .before .before .before .before .before .before .put-number4 .ensures .1, c .before .before .before .before .before .before .before .before .before .before .before .before .before .before .before .before .before .before .before .before .before .before .before .before .before .before .before .before .before .before .before .before .before .pre, c .before .before .before .before .before .before .before .before .before .before .before .before .before .before .before .before .before .before .before .before .before .before .before .before .before .before .before .before .before .before .before .before .before .fits)
+add-result c =
+    let at-put-number4 = c .before .before .before .before .before .before in
+    let at-put-number3 = at-put-number4 .before .before .before .before .before .before .before .before in
+    let at-put-number2 = at-put-number3 .before .before .before .before .before .before .before .before in
+    let at-put-number = at-put-number2 .before .before .before .before .before .before .before .before in
+    let start = at-put-number .before .before .before in
+    omega (
+      arith,
+      at-put-number .put-number .ensures .1,
+      at-put-number2 .put-number2 .ensures .1,
+      at-put-number3 .put-number3 .ensures .1,
+      at-put-number4 .put-number4 .ensures .1,
+      start .pre,
+      start .fits,
+    )
 
 same-length : tie.Need-same-length
 same-length c = search needs
 
 returns : tie.Need-returns
-returns c = (row-put (c .before .before .before .before .before .before .before .before .before .before .before .before .before .before .before .before .before .before .before .before .before .before .before .before .before .before .before .before .before .before .before .before .before .args .out .now) (c .before .before .before .before .before .before .before .before .before .before .before .before .before .before .before .before .before .before .before .before .before .before .before .before .before .before .before .before .before .before .before .before .before .args .at) (c .before .before .before .before .before .before .before .before .before .before .before .before .before .before .before .before .before .before .before .before .before .before .before .before .before .before .before .before .before .before .before .before .before .args .event) (c .before .before .before .before .before .before .before .before .before .before .before .before .before .before .before .before .before .before .before .before .before .before .before .before .before .before .before .before .before .before .before .before .before .args .number) (c .before .before .before .before .before .before .before .before .before .before .before .before .before .before .before .before .before .before .before .before .before .before .before .before .before .before .before .before .before .before .before .before .before .args .value) (c .before .before .before .before .before .before .before .before .before .before .before .before .before .before .before .before .before .before .before .before .before .before .before .before .before .before .before .before .before .before .before .before .before .args .cycles) (c .before .before .before .before .before .before .before .before .before .before .before .before .before .before .before .before .before .before .before .before .before .before .before .before .before .before .before .before .before .before .put-number .result) (c .before .before .before .before .before .before .before .before .before .before .before .before .before .before .before .before .before .before .before .before .before .before .put-number2 .result) (c .before .before .before .before .before .before .before .before .before .before .before .before .before .before .put-number3 .result) (c .before .before .before .before .before .before .put-number4 .result) _ _ _ _ _ _ _ _ (c .before .before .before .before .before .before .before .before .before .before .before .before .before .before .before .before .before .before .before .before .before .before .before .before .before .before .before .before .before .before .put-number .ensures .0 .0) (c .before .before .before .before .before .before .before .before .before .before .before .before .before .before .before .before .before .before .before .before .before .before .before .before .before .before .before .before .before .before .put-number .ensures .0 .1) (c .before .before .before .before .before .before .before .before .before .before .before .before .before .before .before .before .before .before .before .before .before .before .before .before .before .before .put .ensures) (c .before .before .before .before .before .before .before .before .before .before .before .before .before .before .before .before .before .before .before .before .before .before .put-number2 .ensures .0 .0) (c .before .before .before .before .before .before .before .before .before .before .before .before .before .before .before .before .before .before .before .before .before .before .put-number2 .ensures .0 .1) (c .before .before .before .before .before .before .before .before .before .before .before .before .before .before .before .before .before .before .put2 .ensures) (c .before .before .before .before .before .before .before .before .before .before .before .before .before .before .put-number3 .ensures .0 .0) (c .before .before .before .before .before .before .before .before .before .before .before .before .before .before .put-number3 .ensures .0 .1) (c .before .before .before .before .before .before .before .before .before .before .put3 .ensures) (c .before .before .before .before .before .before .put-number4 .ensures .0 .0) (c .before .before .before .before .before .before .put-number4 .ensures .0 .1) (c .before .before .put4 .ensures), omega (arith, c .before .before .before .before .before .before .before .before .before .before .before .before .before .before .before .before .before .before .before .before .before .before .before .before .before .before .before .before .before .before .put-number .ensures .1, c .before .before .before .before .before .before .before .before .before .before .before .before .before .before .before .before .before .before .before .before .before .before .put-number2 .ensures .1, c .before .before .before .before .before .before .before .before .before .before .before .before .before .before .put-number3 .ensures .1, c .before .before .before .before .before .before .put-number4 .ensures .1, c .before .before .before .before .before .before .before .before .before .before .before .before .before .before .before .before .before .before .before .before .before .before .before .before .before .before .before .before .before .before .before .before .before .pre, c .before .before .before .before .before .before .before .before .before .before .before .before .before .before .before .before .before .before .before .before .before .before .before .before .before .before .before .before .before .before .before .before .before .fits))
+returns c =
+    let at-put4 = c .before .before in
+    let at-put-number4 = at-put4 .before .before .before .before in
+    let at-put3 = at-put-number4 .before .before .before .before in
+    let at-put-number3 = at-put3 .before .before .before .before in
+    let at-put2 = at-put-number3 .before .before .before .before in
+    let at-put-number2 = at-put2 .before .before .before .before in
+    let at-put = at-put-number2 .before .before .before .before in
+    let at-put-number = at-put .before .before .before .before in
+    let start = at-put-number .before .before .before in
+    let a = start .args in (
+      row-put (a .out .now) (a .at) (a .event) (a .number) (a .value) (a .cycles) (at-put-number .put-number .result) (at-put-number2 .put-number2 .result)
+          (at-put-number3 .put-number3 .result) (at-put-number4 .put-number4 .result) _ _ _ _ _ _ _ _ (at-put-number .put-number .ensures .0 .0)
+          (at-put-number .put-number .ensures .0 .1) (at-put .put .ensures) (at-put-number2 .put-number2 .ensures .0 .0)
+          (at-put-number2 .put-number2 .ensures .0 .1) (at-put2 .put2 .ensures) (at-put-number3 .put-number3 .ensures .0 .0)
+          (at-put-number3 .put-number3 .ensures .0 .1) (at-put3 .put3 .ensures) (at-put-number4 .put-number4 .ensures .0 .0)
+          (at-put-number4 .put-number4 .ensures .0 .1) (at-put4 .put4 .ensures),
+      omega (
+        arith,
+        at-put-number .put-number .ensures .1,
+        at-put-number2 .put-number2 .ensures .1,
+        at-put-number3 .put-number3 .ensures .1,
+        at-put-number4 .put-number4 .ensures .1,
+        start .pre,
+        start .fits,
+      ),
+    )
 
 pub put-row-spec : {M : Type 1} → statement M
 put-row-spec =

@@ -1,42 +1,29 @@
 use native.Mathlib.Omega.{arith}
-use Rattle.bus.proofs.Flags.{lanes-next, lanes-by-four, lanes-by-eight}
+use lib.Pow.{pow-pos}
+use Rattle.bus.proofs.Flags.{one-shl, lanes-shifted, lanes-below}
 use borrow.Author.Needs.{needs}
 use Rattle.bus.proofs.record.lanes_of.Statement.{statement}
 use Rattle.bus.proofs.record.lanes_of.Tie as tie
 
-low-lanes-requires : tie.Need-low-lanes-requires
-low-lanes-requires c κs = search needs
+cast-end : tie.Need-cast-end
+cast-end c = search needs
 
-mul-result : tie.Need-mul-result
-mul-result c = search needs
+shl-end : tie.Need-shl-end
+shl-end c = search needs
 
-mul-result-2 : tie.Need-mul-result-2
-mul-result-2 c = search needs
+sub-result : tie.Need-sub-result
+sub-result c = rw (one-shl 32 (c .args .count) (omega arith)) (pow-pos (c .args .count))
 
-mul-result-3 : tie.Need-mul-result-3
-mul-result-3 c = search needs
+cast-result : tie.Need-cast-result
+cast-result c = search needs
+
+shl-result : tie.Need-shl-result
+shl-result c = search needs
 
 returns : tie.Need-returns
-returns c = (rw (c .match .keys1) (c .before .low-lanes .ensures .0), omega arith)
-
-returns-2 : tie.Need-returns-2
-returns-2 c = (rw (c .match .keys2, lanes-next 0) (omega arith), omega arith)
-
-returns-3 : tie.Need-returns-3
-returns-3 c = (rw (c .match .keys3, lanes-by-four) (omega arith), omega arith)
-
-returns-4 : tie.Need-returns-4
-returns-4 c = (omega (arith, lanes-by-eight (c .before .before .args .lane) (c .before .before .args .count) (omega arith) (c .before .before .pre)), omega arith)
+returns c =
+    let e = lanes-shifted (c .args .lane) (c .args .count) (c .pre) in
+    (e, rw e (lanes-below (c .args .lane) (c .args .count) (c .pre)))
 
 pub lanes-of-spec : {M : Type 1} → statement M
-lanes-of-spec =
-    tie.close
-    (tie.spec
-    low-lanes-requires
-    mul-result
-    mul-result-2
-    mul-result-3
-    returns
-    returns-2
-    returns-3
-    returns-4)
+lanes-of-spec = tie.close (tie.spec cast-end shl-end sub-result cast-result shl-result returns)

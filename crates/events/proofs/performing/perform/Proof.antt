@@ -1,8 +1,13 @@
-use Rattle.fields.proofs.Parts.{drop-part}
+use Rattle.events.specs.Perform.{performed, lineDone, eventDone, externalEvent}
 use Rattle.lines.proofs.Within.{external-line}
-use Rattle.events.specs.Perform.{lineDone, eventDone, externalEvent}
+use Rattle.fields.proofs.Parts.{drop-part}
+use Rattle.masters.specs.Masters.{directoryOutcome}
 use Rattle.access.specs.Access.{state}
+use Rattle.refusal.specs.Outcome.{outcome}
 use Rattle.memory.specs.Parity.{memory}
+use Rattle.directory.specs.Steps.{directoryOf}
+use Rattle.directory.specs.declared.steps.DirectoryResult.{DirectoryResult}
+use Rattle.directory.specs.declared.steps.Directory.{Directory}
 use mathlib.Core.Path.{sym, ap, _∙_}
 use denote.Ref.{now}
 use native.Mathlib.Omega.{arith}
@@ -35,40 +40,64 @@ enum-known-event-3 : tie.Need-enum-known-event-3
 enum-known-event-3 c = search needs
 
 sub-perform-external : tie.Need-sub-perform-external
-sub-perform-external c = omega (arith, external-line _ _ _ (sym (c .before .before .before .before .before .scan .ensures) ∙ c .before .before .before .event3 .given .1))
+sub-perform-external c =
+    let c6 = c .before .before .before .before .before .before in
+    let c8 = c6 .before .before in
+    omega (arith, external-line _ _ _ (sym (c8 .scan .ensures) ∙ c6 .event3 .given .1))
 
 part-perform-external-start : tie.Need-part-perform-external-start
-part-perform-external-start c = omega (arith, external-line _ _ _ (sym (c .before .before .before .before .before .scan .ensures) ∙ c .before .before .before .event3 .given .1))
+part-perform-external-start c =
+    let c6 = c .before .before .before .before .before .before in
+    let c8 = c6 .before .before in
+    omega (arith, external-line _ _ _ (sym (c8 .scan .ensures) ∙ c6 .event3 .given .1))
 
 part-perform-external-end : tie.Need-part-perform-external-end
 part-perform-external-end c = search needs
 
 perform-external-requires : tie.Need-perform-external-requires
-perform-external-requires c κs = omega (arith, external-line _ _ _ (sym (c .before .before .before .before .before .before .scan .ensures) ∙ c .before .before .before .before .event3 .given .1))
+perform-external-requires c κs =
+    let c7 = c .before .before .before .before .before .before .before in
+    let c9 = c7 .before .before in
+    omega (arith, external-line _ _ _ (sym (c9 .scan .ensures) ∙ c7 .event3 .given .1))
+
+number-only-requires : tie.Need-number-only-requires
+number-only-requires c κs = search needs
 
 enum-known-event-4 : tie.Need-enum-known-event-4
 enum-known-event-4 c = search needs
 
-snoop-requires : tie.Need-snoop-requires
-snoop-requires c κs = search needs
+snoop-in-place-requires : tie.Need-snoop-in-place-requires
+snoop-in-place-requires c κs = search needs
+
+number-only-requires-2 : tie.Need-number-only-requires-2
+number-only-requires-2 c κs = search needs
 
 enum-told-2 : tie.Need-enum-told-2
 enum-told-2 c = search needs
 
-flush-requires : tie.Need-flush-requires
-flush-requires c κs = search needs
+flush-in-place-requires : tie.Need-flush-in-place-requires
+flush-in-place-requires c κs = search needs
+
+number-only-requires-3 : tie.Need-number-only-requires-3
+number-only-requires-3 c κs = search needs
 
 enum-known-event-5 : tie.Need-enum-known-event-5
 enum-known-event-5 c = search needs
 
-control-requires : tie.Need-control-requires
-control-requires c κs = search needs
+control-in-place-requires : tie.Need-control-in-place-requires
+control-in-place-requires c κs = search needs
+
+number-only-requires-4 : tie.Need-number-only-requires-4
+number-only-requires-4 c κs = search needs
 
 enum-told-3 : tie.Need-enum-told-3
 enum-told-3 c = search needs
 
-reset-requires : tie.Need-reset-requires
-reset-requires c κs = search needs
+reset-in-place-requires : tie.Need-reset-in-place-requires
+reset-in-place-requires c κs = search needs
+
+number-only-requires-5 : tie.Need-number-only-requires-5
+number-only-requires-5 c κs = search needs
 
 returns : tie.Need-returns
 unfolding lineDone eventDone
@@ -85,7 +114,11 @@ same-length-3 c = search needs
 
 returns-2 : tie.Need-returns-2
 unfolding lineDone eventDone
-returns-2 c = rw (sym (c .before .before .before .before .before .before .before .before .before .scan .ensures) ∙ c .before .before .before .before .before .before .before .event .given .1) (c .before .before .perform-read .ensures)
+returns-2 c =
+    let c2 = c .before .before in
+    let c10 = c2 .before .before .before .before .before .before .before .before in
+    let c12 = c10 .before .before in
+    rw (sym (c12 .scan .ensures) ∙ c10 .event .given .1) (c2 .perform-read .ensures _)
 
 same-length-4 : tie.Need-same-length-4
 same-length-4 c = search needs
@@ -98,7 +131,11 @@ same-length-6 c = search needs
 
 returns-3 : tie.Need-returns-3
 unfolding lineDone eventDone
-returns-3 c = rw (sym (c .before .before .before .before .before .before .before .before .before .before .before .before .before .scan .ensures) ∙ c .before .before .before .before .before .before .before .before .before .before .before .event2 .given .1) (c .before .before .before .before .before .before .perform-write .ensures)
+returns-3 c =
+    let c6 = c .before .before .before .before .before .before in
+    let c14 = c6 .before .before .before .before .before .before .before .before in
+    let c16 = c14 .before .before in
+    rw (sym (c16 .scan .ensures) ∙ c14 .event2 .given .1) (c6 .perform-write .ensures)
 
 same-length-7 : tie.Need-same-length-7
 same-length-7 c = search needs
@@ -108,23 +145,54 @@ same-length-8 c = search needs
 
 returns-4 : tie.Need-returns-4
 unfolding lineDone eventDone
-returns-4 c = rw (sym (c .before .before .before .before .before .before .before .before .before .before .before .scan .ensures) ∙ c .before .before .before .before .before .before .before .before .before .event3 .given .1) (ap (externalEvent (state (c .before .before .before .before .before .before .before .before .before .before .before .before .before .before .before .before .args .given) (memory (now (c .before .before .before .before .before .before .before .before .before .before .before .before .before .before .before .before .args .ram)) (now (c .before .before .before .before .before .before .before .before .before .before .before .before .before .before .before .before .args .parity))) (now (c .before .before .before .before .before .before .before .before .before .before .before .before .before .before .before .before .args .«data»)))) (c .before .before .before .before .perform-external .ensures) ∙ rw drop-part)
+returns-4 c =
+    let c5 = c .before .before .before .before .before in
+    let c13 = c5 .before .before .before .before .before .before .before .before in
+    let c15 = c13 .before .before in
+    let c20 = c15 .before .before .before .before .before in
+    let a = c20 .args in
+    rw (sym (c15 .scan .ensures) ∙ c13 .event3 .given .1, c .number-only .ensures)
+    (ap (externalEvent (state (directoryOf (now (a .tags)) (now (a .valid)) (now (a .lru)) (now (a .cd)) (now (a .nw))) (memory (now (a .ram)) (now (a .parity))) (now (a .«data»)))) (c5 .perform-external .ensures _) ∙ rw drop-part)
 
 returns-5 : tie.Need-returns-5
 unfolding lineDone eventDone
-returns-5 c = rw (sym (c .before .before .before .before .scan .ensures) ∙ c .before .before .event4 .given .1, c .snoop .ensures)
+returns-5 c =
+    let c6 = c .before .before .before .before .before .before in
+    let c8 = c6 .before .before in
+    let c13 = c8 .before .before .before .before .before in
+    let a = c13 .args in
+    rw (sym (c8 .scan .ensures) ∙ c6 .event4 .given .1, c .number-only2 .ensures)
+    (ap (λ (r : DirectoryResult). performed (directoryOutcome r) (memory (now (a .ram)) (now (a .parity))) (now (a .«data»))) (c .before .snoop-in-place .ensures _))
 
 returns-6 : tie.Need-returns-6
 unfolding lineDone eventDone
-returns-6 c = rw (sym (c .before .before .before .scan .ensures) ∙ c .before .enum-told2 .given .1, c .flush .ensures)
+returns-6 c =
+    let c3 = c .before .before .before in
+    let c5 = c3 .before .before in
+    let c10 = c5 .before .before .before .before .before in
+    let a = c10 .args in
+    rw (sym (c5 .scan .ensures) ∙ c3 .enum-told2 .given .1, c .number-only3 .ensures)
+    (ap (λ (d : Directory). performed (outcome d 0 0 0) (memory (now (a .ram)) (now (a .parity))) (now (a .«data»))) (c .before .flush-in-place .ensures _ _ _ _))
 
 returns-7 : tie.Need-returns-7
 unfolding lineDone eventDone
-returns-7 c = rw (sym (c .before .before .before .before .scan .ensures) ∙ c .before .before .event5 .given .1, c .control .ensures)
+returns-7 c =
+    let c5 = c .before .before .before .before .before in
+    let c7 = c5 .before .before in
+    let c12 = c7 .before .before .before .before .before in
+    let a = c12 .args in
+    rw (sym (c7 .scan .ensures) ∙ c5 .event5 .given .1, c .number-only4 .ensures)
+    (ap (λ (r : DirectoryResult). performed (directoryOutcome r) (memory (now (a .ram)) (now (a .parity))) (now (a .«data»))) (c .before .control-in-place .ensures _ _ _))
 
 returns-8 : tie.Need-returns-8
 unfolding lineDone eventDone
-returns-8 c = rw (sym (c .before .before .before .scan .ensures) ∙ c .before .enum-told3 .given .1, c .reset .ensures)
+returns-8 c =
+    let c7 = c .before .before .before .before .before .before .before in
+    let c9 = c7 .before .before in
+    let c14 = c9 .before .before .before .before .before in
+    let a = c14 .args in
+    rw (sym (c9 .scan .ensures) ∙ c7 .enum-told3 .given .1, c .number-only5 .ensures)
+    (ap (λ (d : Directory). performed (outcome d 0 0 0) (memory (now (a .ram)) (now (a .parity))) (now (a .«data»))) (c .before .reset-in-place .ensures))
 
 pub perform-spec : {M : Type 1} → statement M
 perform-spec =
@@ -142,14 +210,19 @@ perform-spec =
     part-perform-external-start
     part-perform-external-end
     perform-external-requires
+    number-only-requires
     enum-known-event-4
-    snoop-requires
+    snoop-in-place-requires
+    number-only-requires-2
     enum-told-2
-    flush-requires
+    flush-in-place-requires
+    number-only-requires-3
     enum-known-event-5
-    control-requires
+    control-in-place-requires
+    number-only-requires-4
     enum-told-3
-    reset-requires
+    reset-in-place-requires
+    number-only-requires-5
     returns
     same-length
     same-length-2

@@ -1,37 +1,48 @@
-use lib.ListN.{length-replicate}
-use mathlib.Core.Path.{sym}
-use Prim.Native.Nat.{ℕ}
-use Rattle.fields.specs.Fields.{pairBytes}
 use Rattle.fields.proofs.Pairs.{front-count, pairs-length}
-use mathlib.Core.Path.{_∙_}
+use Rattle.fields.specs.Fields.{pairBytes}
 use native.Mathlib.Omega.{arith}
+use mathlib.Core.Path.{_∙_}
 use borrow.Author.Needs.{needs}
 use Rattle.events.proofs.performing.perform_external.Statement.{statement}
 use Rattle.events.proofs.performing.perform_external.Tie as tie
 
 slice-aggregate-pair-bytes : tie.Need-slice-aggregate-pair-bytes
-slice-aggregate-pair-bytes c = sym (length-replicate {A = ℕ} 80 0)
+slice-aggregate-pair-bytes c = search needs
 
 pair-bytes-requires : tie.Need-pair-bytes-requires
 pair-bytes-requires c κs = search needs
 
 array-share-prefix-bytes : tie.Need-array-share-prefix-bytes
-array-share-prefix-bytes c = front-count 80 _ (pairBytes (c .before .before .before .before .before .before .before .before .args .pairs .now)) _ (c .before .before .before .pair-bytes .ensures .0) (c .before .before .before .pair-bytes .ensures .1) (omega (arith, pairs-length (c .before .before .before .before .before .before .before .before .args .pairs .now), c .before .before .before .before .before .before .before .before .pre)) .0
+array-share-prefix-bytes c =
+    let c4 = c .before .before .before .before in
+    let c9 = c4 .before .before .before .before .before in
+    let a = c9 .args in
+    front-count 80 _ (pairBytes (a .pairs .now)) _ (c4 .pair-bytes .ensures .0) (c4 .pair-bytes .ensures .1) (omega (arith, pairs-length (a .pairs .now), c9 .pre)) .0
 
-slice-aggregate-external-write : tie.Need-slice-aggregate-external-write
-slice-aggregate-external-write c = front-count 80 _ (pairBytes (c .before .before .before .before .before .before .before .before .before .args .pairs .now)) _ (c .before .before .before .before .pair-bytes .ensures .0) (c .before .before .before .before .pair-bytes .ensures .1) (omega (arith, pairs-length (c .before .before .before .before .before .before .before .before .before .args .pairs .now), c .before .before .before .before .before .before .before .before .before .pre)) .1
+slice-aggregate-external-write-in-place : tie.Need-slice-aggregate-external-write-in-place
+slice-aggregate-external-write-in-place c =
+    let c5 = c .before .before .before .before .before in
+    let c10 = c5 .before .before .before .before .before in
+    let a = c10 .args in
+    front-count 80 _ (pairBytes (a .pairs .now)) _ (c5 .pair-bytes .ensures .0) (c5 .pair-bytes .ensures .1) (omega (arith, pairs-length (a .pairs .now), c10 .pre)) .1
 
-external-write-requires : tie.Need-external-write-requires
-external-write-requires c κs = tt
+external-write-in-place-requires : tie.Need-external-write-in-place-requires
+external-write-in-place-requires c κs = search needs
 
 same-length : tie.Need-same-length
-same-length c = c .before .before .before .before .external-write .kept .1 .0
+same-length c = search needs
 
 same-length-2 : tie.Need-same-length-2
-same-length-2 c = c .before .before .before .before .external-write .kept .1 .1 .0
+same-length-2 c = search needs
 
 returns : tie.Need-returns
-returns c = c .before .before .before .before .external-write .ensures ∙ rw (front-count 80 _ (pairBytes (c .before .before .before .before .before .before .before .before .before .before .before .before .before .before .args .pairs .now)) _ (c .before .before .before .before .before .before .before .before .before .pair-bytes .ensures .0) (c .before .before .before .before .before .before .before .before .before .pair-bytes .ensures .1) (omega (arith, pairs-length (c .before .before .before .before .before .before .before .before .before .before .before .before .before .before .args .pairs .now), c .before .before .before .before .before .before .before .before .before .before .before .before .before .before .pre)) .2)
+returns c cd =
+    let c4 = c .before .before .before .before in
+    let c10 = c4 .before .before .before .before .before .before in
+    let c15 = c10 .before .before .before .before .before in
+    let a = c15 .args in
+    c4 .external-write-in-place .ensures cd ∙ rw
+    (front-count 80 _ (pairBytes (a .pairs .now)) _ (c10 .pair-bytes .ensures .0) (c10 .pair-bytes .ensures .1) (omega (arith, pairs-length (a .pairs .now), c15 .pre)) .2)
 
 pub perform-external-spec : {M : Type 1} → statement M
 perform-external-spec =
@@ -40,8 +51,8 @@ perform-external-spec =
     slice-aggregate-pair-bytes
     pair-bytes-requires
     array-share-prefix-bytes
-    slice-aggregate-external-write
-    external-write-requires
+    slice-aggregate-external-write-in-place
+    external-write-in-place-requires
     same-length
     same-length-2
     returns)

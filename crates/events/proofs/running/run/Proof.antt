@@ -15,7 +15,17 @@ same-length : tie.Need-same-length
 same-length c = c .before .before .put-row .kept .0 ∙ c .before .before .before .before .before .before .before .put-header .kept .0
 
 returns : tie.Need-returns
-returns c = (rw (output-long (c .before .before .before .before .before .before .before .before .before .before .before .args .input .now) (c .before .before .before .before .if1 .taken)) (after-header (c .before .before .before .before .before .before .before .before .before .before .before .args .output .now) _ _ _ _ _ (c .before .before .before .before .before .before .before .put-header .ensures .0) (c .before .before .before .before .before .before .before .put-header .ensures .1) (c .before .before .put-row .ensures .0 .0) (c .before .before .put-row .ensures .0 .1)), omega (arith, c .before .before .before .before .before .before .before .put-header .ensures .0, header-length, c .before .before .put-row .ensures .1))
+returns c =
+    let at-put-row = c .before .before in
+    let at-if1 = at-put-row .before .before in
+    let at-put-header = at-if1 .before .before .before in
+    let start = at-put-header .before .before .before .before in
+    let a = start .args in (
+      rw (output-long (a .input .now) (at-if1 .if1 .taken))
+          (after-header (a .output .now) _ _ _ _ _ (at-put-header .put-header .ensures .0) (at-put-header .put-header .ensures .1)
+          (at-put-row .put-row .ensures .0 .0) (at-put-row .put-row .ensures .0 .1)),
+      omega (arith, at-put-header .put-header .ensures .0, header-length, at-put-row .put-row .ensures .1),
+    )
 
 run-lines-requires : tie.Need-run-lines-requires
 run-lines-requires c κs = (omega arith, omega (arith, c .before .before .before .before .put-header .ensures, header-length))
@@ -24,7 +34,16 @@ same-length-2 : tie.Need-same-length-2
 same-length-2 c = c .before .before .run-lines .kept .1 .0 ∙ c .before .before .before .before .before .before .before .put-header .kept .0
 
 returns-2 : tie.Need-returns-2
-returns-2 c = (rw (output-lines (c .before .before .before .before .before .before .before .before .before .before .before .args .input .now) (omega arith)) (after-header (c .before .before .before .before .before .before .before .before .before .before .before .args .output .now) _ _ _ _ _ (c .before .before .before .before .before .before .before .put-header .ensures .0) (c .before .before .before .before .before .before .before .put-header .ensures .1) (c .before .before .run-lines .ensures .0 .0) (c .before .before .run-lines .ensures .0 .1)), omega (arith, c .before .before .before .before .before .before .before .put-header .ensures .0, header-length, c .before .before .run-lines .ensures .1))
+returns-2 c =
+    let at-run-lines = c .before .before in
+    let at-put-header = at-run-lines .before .before .before .before .before in
+    let start = at-put-header .before .before .before .before in
+    let a = start .args in (
+      rw (output-lines (a .input .now) (omega arith))
+          (after-header (a .output .now) _ _ _ _ _ (at-put-header .put-header .ensures .0) (at-put-header .put-header .ensures .1)
+          (at-run-lines .run-lines .ensures .0 .0) (at-run-lines .run-lines .ensures .0 .1)),
+      omega (arith, at-put-header .put-header .ensures .0, header-length, at-run-lines .run-lines .ensures .1),
+    )
 
 pub run-spec : {M : Type 1} → statement M
 run-spec =

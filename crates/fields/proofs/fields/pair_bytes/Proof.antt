@@ -55,7 +55,15 @@ loop-less : tie.Need-loop-less Inv-loop μ-loop
 loop-less c = omega arith
 
 loop-again : tie.Need-loop-again Inv-loop μ-loop
-loop-again c = (omega arith, length-set (c .before .before .before .before .before .loop .bytes) _ _ ∙ c .before .before .before .before .before .loop .inv .1, pair-next (c .before .before .before .before .before .loop .bytes) (c .before .before .before .before .before .before .before .before .args .field .now) (c .before .before .before .before .before .loop .k) _ _ (omega arith) (c .before .before .hex-of .ensures .0) (c .hex-of2 .ensures .0) ∙ c .before .before .before .before .before .loop .inv .2)
+loop-again c =
+    let at-hex-of = c .before .before in
+    let at-loop = at-hex-of .before .before .before in
+    let start = at-loop .before .before .before in
+    let l = at-loop .loop in (
+      omega arith,
+      length-set (l .bytes) _ _ ∙ l .inv .1,
+      pair-next (l .bytes) (start .args .field .now) (l .k) _ _ (omega arith) (at-hex-of .hex-of .ensures .0) (c .hex-of2 .ensures .0) ∙ l .inv .2,
+    )
 
 same-length : tie.Need-same-length Inv-loop μ-loop
 same-length c = c .before .loop .inv .1

@@ -48,16 +48,37 @@ loop-less : tie.Need-loop-less Inv-loop μ-loop
 loop-less c = omega arith
 
 loop-again : tie.Need-loop-again Inv-loop μ-loop
-loop-again c = (omega arith, power-step (c .before .before .before .before .loop .value) (getD (c .before .before .before .before .before .before .before .args .field .now) (c .before .before .before .before .loop .k) 0) (c .before .before .before .before .loop .k) (c .before .before .before .before .loop .inv .1) (omega arith), rw (a-digit (getD (c .before .before .before .before .before .before .before .args .field .now) (c .before .before .before .before .loop .k) 0) (omega arith) (omega arith)) at (sym (all-step isDigit (c .before .before .before .before .before .before .before .args .field .now) (c .before .before .before .before .loop .k) (omega arith))) ∙ c .before .before .before .before .loop .inv .2, sym (value-step (c .before .before .before .before .loop .value) (c .before .before .before .before .before .before .before .args .field .now) (c .before .before .before .before .loop .k) (omega arith)) ∙ c .before .before .before .before .loop .inv .3)
+loop-again c =
+    let at-loop = c .before .before .before .before in
+    let start = at-loop .before .before .before in
+    let a = start .args in
+    let l = at-loop .loop in (
+      omega arith,
+      power-step (l .value) (getD (a .field .now) (l .k) 0) (l .k) (l .inv .1) (omega arith),
+      rw (a-digit (getD (a .field .now) (l .k) 0) (omega arith) (omega arith)) at (sym (all-step isDigit (a .field .now) (l .k) (omega arith))) ∙ l .inv .2,
+      sym (value-step (l .value) (a .field .now) (l .k) (omega arith)) ∙ l .inv .3,
+    )
 
 returns-5 : tie.Need-returns-5 Inv-loop μ-loop
-returns-5 c = number-large (c .before .before .before .before .before .args .field .now) (rw (sym (value-end (c .before .before .loop .value) (c .before .before .before .before .before .args .field .now) (c .before .before .loop .k) (omega arith)) ∙ c .before .before .loop .inv .3) at (c .if5 .taken))
+returns-5 c =
+    let at-loop = c .before .before in
+    let start = at-loop .before .before .before in
+    let a = start .args in
+    let l = at-loop .loop in
+    number-large (a .field .now) (rw (sym (value-end (l .value) (a .field .now) (l .k) (omega arith)) ∙ l .inv .3) at (c .if5 .taken))
 
 cast-t13 : tie.Need-cast-t13 Inv-loop μ-loop
 cast-t13 c = omega arith
 
 returns-6 : tie.Need-returns-6 Inv-loop μ-loop
-returns-6 c = ap Value (sym (value-end (c .before .before .loop .value) (c .before .before .before .before .before .args .field .now) (c .before .before .loop .k) (omega arith)) ∙ c .before .before .loop .inv .3) ∙ number-value (c .before .before .before .before .before .args .field .now) (omega arith) (omega arith) (sym (c .before .before .loop .inv .2) ∙ all-end isDigit (c .before .before .before .before .before .args .field .now) (c .before .before .loop .k) (omega arith)) (rw (sym (value-end (c .before .before .loop .value) (c .before .before .before .before .before .args .field .now) (c .before .before .loop .k) (omega arith)) ∙ c .before .before .loop .inv .3) at (let h : c .before .before .loop .value ≤ 4294967295 = omega arith in h))
+returns-6 c =
+    let at-loop = c .before .before in
+    let start = at-loop .before .before .before in
+    let a = start .args in
+    let l = at-loop .loop in
+    ap Value (sym (value-end (l .value) (a .field .now) (l .k) (omega arith)) ∙ l .inv .3) ∙ number-value (a .field .now) (omega arith) (omega arith)
+    (sym (l .inv .2) ∙ all-end isDigit (a .field .now) (l .k) (omega arith))
+    (rw (sym (value-end (l .value) (a .field .now) (l .k) (omega arith)) ∙ l .inv .3) at (let h : l .value ≤ 4294967295 = omega arith in h))
 
 pub scan-number-spec : {M : Type 1} → statement M
 scan-number-spec =

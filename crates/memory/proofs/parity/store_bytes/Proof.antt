@@ -1,10 +1,10 @@
-use Rattle.memory.proofs.Bits.{four-count, four-room}
+use Rattle.memory.proofs.Bits.{whole-count, whole-room}
 use borrow.Author.Needs.{needs}
 use Rattle.memory.proofs.parity.store_bytes.Statement.{statement}
 use Rattle.memory.proofs.parity.store_bytes.Tie as tie
 
-store-doubleword-requires : tie.Need-store-doubleword-requires
-store-doubleword-requires c κs = four-room _ _ (c .before .before .if1 .taken) _ _ _ _ (c .before .before .before .before .before .before .pre)
+store-line-requires : tie.Need-store-line-requires
+store-line-requires c κs = whole-room 16 _ _ (c .before .before .if1 .taken) _ _ _ _ (c .before .before .before .before .before .before .pre)
 
 store-each-requires : tie.Need-store-each-requires
 store-each-requires c κs = search needs
@@ -16,7 +16,11 @@ same-length-2 : tie.Need-same-length-2
 same-length-2 c = search needs
 
 returns : tie.Need-returns
-returns c = rw (four-count (c .before .before .before .before .before .before .before .before .before .before .before .args .count) (c .before .before .before .before .before .before .before .before .before .before .before .args .a) (c .before .before .before .before .before .before .before .if1 .taken)) (c .before .before .before .before .store-doubleword .ensures)
+returns c =
+    let k = c .before .before .before .before in
+    let t = k .before .before .before in
+    let a = t .before .before .before .before .args in
+    rw (whole-count 16 (a .count) (a .a) (t .if1 .taken)) (k .store-line .ensures)
 
 same-length-3 : tie.Need-same-length-3
 same-length-3 c = search needs
@@ -31,7 +35,7 @@ pub store-bytes-spec : {M : Type 1} → statement M
 store-bytes-spec =
     tie.close
     (tie.spec
-    store-doubleword-requires
+    store-line-requires
     store-each-requires
     same-length
     same-length-2

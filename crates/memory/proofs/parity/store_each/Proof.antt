@@ -6,7 +6,7 @@ use lib.ListN.{length}
 use borrow.Author.Needs.{needs}
 use Rattle.words.specs.Bytes.{bytesAt}
 use Rattle.memory.specs.Parity.{Memory, memory, stored}
-use Rattle.memory.proofs.Bits.{store-next, put-lengths}
+use Rattle.memory.proofs.Bits.{stored-on, stored-lengths}
 use Rattle.memory.proofs.parity.store_each.Statement.{statement}
 use Rattle.memory.proofs.parity.store_each.Tie as tie
 
@@ -19,17 +19,17 @@ abbrev μ-loop : tie.MeasureT-loop
 loop-holds : tie.Need-loop-holds Inv-loop μ-loop
 loop-holds c = (simp unary-clauses, omega arith, refl, refl)
 
-add-put-byte : tie.Need-add-put-byte Inv-loop μ-loop
-add-put-byte c = search needs
+add-store-next : tie.Need-add-store-next Inv-loop μ-loop
+add-store-next c = search needs
 
-add-put-byte-2 : tie.Need-add-put-byte-2 Inv-loop μ-loop
-add-put-byte-2 c = search needs
+add-store-next-2 : tie.Need-add-store-next-2 Inv-loop μ-loop
+add-store-next-2 c = search needs
 
-shared-slice-read-put-byte : tie.Need-shared-slice-read-put-byte Inv-loop μ-loop
-shared-slice-read-put-byte c = search needs
+sub-store-next : tie.Need-sub-store-next Inv-loop μ-loop
+sub-store-next c = search needs
 
-put-byte-requires : tie.Need-put-byte-requires Inv-loop μ-loop
-put-byte-requires c κs = search needs
+store-next-requires : tie.Need-store-next-requires Inv-loop μ-loop
+store-next-requires c κs = search needs
 
 add-k : tie.Need-add-k Inv-loop μ-loop
 add-k c = search needs
@@ -38,7 +38,10 @@ loop-less : tie.Need-loop-less Inv-loop μ-loop
 loop-less c = search needs
 
 loop-again : tie.Need-loop-again Inv-loop μ-loop
-loop-again c = let e = c .before .before .before .before .put-byte .ensures in let i = c .before .before .before .before .before .before .before .before .before .loop .inv in (rw e (store-next _ _ _ _ _ _ (omega arith) ∙ i .0), omega arith, ap (λ (m : Memory). length (m .ram)) e ∙ put-lengths _ _ _ .0 ∙ i .2, ap (λ (m : Memory). length (m .parity)) e ∙ put-lengths _ _ _ .1 ∙ i .3)
+loop-again c =
+    let n = c .before .before .before .before .store-next .ensures in
+    let i = c .before .before .before .before .before .before .before .before .loop .inv in
+    (rw (n .1) (stored-on _ _ _ _ _ _ _ (n .0 .1) ∙ i .0), omega arith, ap (λ (m : Memory). length (m .ram)) (n .1) ∙ stored-lengths _ _ _ .0 ∙ i .2, ap (λ (m : Memory). length (m .parity)) (n .1) ∙ stored-lengths _ _ _ .1 ∙ i .3)
 
 same-length : tie.Need-same-length Inv-loop μ-loop
 same-length c = c .before .loop .inv .2
@@ -57,10 +60,10 @@ store-each-spec =
     Inv-loop
     μ-loop
     loop-holds
-    add-put-byte
-    add-put-byte-2
-    shared-slice-read-put-byte
-    put-byte-requires
+    add-store-next
+    add-store-next-2
+    sub-store-next
+    store-next-requires
     add-k
     loop-less
     loop-again

@@ -11,19 +11,16 @@ victim-requires : tie.Need-victim-requires
 victim-requires c κs = search needs
 
 data-offset-requires : tie.Need-data-offset-requires
-data-offset-requires c κs = rw (c .before .victim .ensures) (victim-below _ _ _)
+data-offset-requires c κs = rw (c .victim .ensures) (victim-below _ _ _)
 
-copy-bytes-requires : tie.Need-copy-bytes-requires
-copy-bytes-requires c κs = search needs
+copy-line-requires : tie.Need-copy-line-requires
+copy-line-requires c κs = search needs
 
 same-length : tie.Need-same-length
 same-length c = search needs
 
 returns : tie.Need-returns
-returns c = rw (c .before .before .before .before .before .before .before .if1 .taken) (rw (c .before .before .before .before .before .victim .ensures, c .before .before .before .before .before .before .set-of .ensures), c .before .before .copy-bytes .ensures ∙ rw (c .before .before .before .data-offset .ensures .0, c .before .before .before .before .before .victim .ensures, c .before .before .before .before .before .before .set-of .ensures))
-
-returns-2 : tie.Need-returns-2
-returns-2 c = search needs
+returns c = (c .before .before .before .before .before .victim .ensures ∙ rw (c .before .before .before .before .before .before .set-of .ensures), c .before .before .copy-line .ensures ∙ rw (c .before .before .before .before .data-offset .ensures .0))
 
 pub keep-line-spec : {M : Type 1} → statement M
 keep-line-spec =
@@ -32,7 +29,6 @@ keep-line-spec =
     set-of-requires
     victim-requires
     data-offset-requires
-    copy-bytes-requires
+    copy-line-requires
     same-length
-    returns
-    returns-2)
+    returns)

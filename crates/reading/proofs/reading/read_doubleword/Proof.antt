@@ -1,79 +1,159 @@
-use denote.Ref.{now}
-use mathlib.Core.Path.{_≡_, sym, _∙_}
-use Rattle.ways.specs.declared.ways.Found.the-variants.{At, Nothing}
-use Rattle.ways.specs.Ways.{lookupIn}
-use Rattle.ways.proofs.FourWays.{lookup-below}
-use Rattle.reading.proofs.ReadDoublewords.{hit-reads, miss-reads, missed-done, missed-length}
+use native.Mathlib.Omega.{arith}
+use mathlib.Core.Path.{sym, _∙_}
+use borrow.Author.Tests.{not-true, not-false, eq-eqb, ne-eqb}
+use Rattle.ways.proofs.FourWays.{lookup-below, victim-below}
+use Rattle.reading.proofs.ReadDoublewords.{hit-reads, plain-reads, dropped-reads, kept-reads, one-doubleword}
 use borrow.Author.Needs.{needs}
 use Rattle.reading.proofs.reading.read_doubleword.Statement.{statement}
 use Rattle.reading.proofs.reading.read_doubleword.Tie as tie
+use Rattle.reading.proofs.reading.read_doubleword.Reads as reads
+use Rattle.reading.proofs.reading.read_doubleword.Lts as lts
+use Rattle.cycles.proofs.fill_cycles.Reads as fill-cycles-reads
+use Rattle.doubleword.proofs.data_offset.Reads as data-offset-reads
+use Rattle.reading.proofs.plain.plain_read.Reads as plain-read-reads
+use Rattle.reading.proofs.reading.keep_line.Reads as keep-line-reads
+use Rattle.ways.proofs.lookup.Reads as lookup-reads
+use Rattle.words.proofs.value_at.Reads as value-at-reads
 
--- what the lookup found
-found : (c : tie.After-way) → lookupIn (now (c .before .before .before .before .before .before .before .before .before .args .tags)) (now (c .before .before .before .before .before .before .before .before .before .args .valid)) (c .before .before .before .before .before .before .before .before .before .args .w .line) ≡ At (c .way .given .0 .0)
-found c = sym (c .before .before .lookup .ensures) ∙ c .way .given .1
-
-missing : (c : tie.After-enum-told) → lookupIn (now (c .before .before .before .before .before .before .before .before .before .args .tags)) (now (c .before .before .before .before .before .before .before .before .before .args .valid)) (c .before .before .before .before .before .before .before .before .before .args .w .line) ≡ Nothing
-missing c = sym (c .before .before .lookup .ensures) ∙ c .enum-told .given .1
-
+-- src/reading.rt:68:29
 lookup-requires : tie.Need-lookup-requires
 lookup-requires c κs = search needs
 
+-- src/reading.rt:68:22
 enum-known-way : tie.Need-enum-known-way
 enum-known-way c = search needs
 
+-- src/reading.rt:69:36
 data-offset-requires : tie.Need-data-offset-requires
-data-offset-requires c κs = lookup-below _ _ _ _ (found (c .before .before))
+data-offset-requires c κs = lookup-below _ _ _ _ (sym (c .before .before .before .before .lookup .ensures) ∙ c .before .before .way .given .1)
 
-add-copy-bytes : tie.Need-add-copy-bytes
-add-copy-bytes c = search needs
+-- src/reading.rt:69:36
+add-value-at : tie.Need-add-value-at
+add-value-at c = search needs
 
-copy-bytes-requires : tie.Need-copy-bytes-requires
-copy-bytes-requires c κs = search needs
+-- src/reading.rt:69:13
+value-at-requires : tie.Need-value-at-requires
+value-at-requires c κs = search needs
 
+-- src/reading.rt:72:9
 same-length : tie.Need-same-length
 same-length c = search needs
 
-same-length-2 : tie.Need-same-length-2
-same-length-2 c = search needs
-
+-- src/reading.rt:72:9
 returns : tie.Need-returns
-returns c = hit-reads _ _ _ _ _ _ _ _ _ _ _ _ (found (c .before .before .before .before .before .before .before .before)) (c .before .before .before .before .before .data-offset .ensures .0) (c .before .before .copy-bytes .ensures)
+returns c =
+    let at-data-offset = c .before .before in
+    let at-way = at-data-offset .before .before .before in
+    let at-lookup = at-way .before .before in
+    let at-slice-known = at-lookup .before .before .before in
+    hit-reads _ _ _ _ _ _ _ _ _ _ _ (sym (at-lookup .lookup .ensures) ∙ at-way .way .given .1)
+    (lookup-below _ _ _ _ (sym (at-lookup .lookup .ensures) ∙ at-way .way .given .1)) (at-data-offset .data-offset .ensures .0) (c .value-at .ensures)
+    (λ i. omega (arith, at-slice-known .slice-known .given i))
 
 enum-told : tie.Need-enum-told
 enum-told c = search needs
 
-shared-slice-read-fills : tie.Need-shared-slice-read-fills
-shared-slice-read-fills c = search needs
+-- src/reading.rt:78:22
+shared-slice-read-if1 : tie.Need-shared-slice-read-if1
+shared-slice-read-if1 c = search needs
 
-slice-aggregate-read-missed : tie.Need-slice-aggregate-read-missed
-slice-aggregate-read-missed c = search needs
+-- src/reading.rt:79:13
+plain-read-requires : tie.Need-plain-read-requires
+plain-read-requires c κs = search needs
 
-read-missed-requires : tie.Need-read-missed-requires
-read-missed-requires c κs = search needs
+-- src/reading.rt:80:9
+same-length-2 : tie.Need-same-length-2
+same-length-2 c = search needs
 
-slice-aggregate-copy-bytes : tie.Need-slice-aggregate-copy-bytes
-slice-aggregate-copy-bytes c = search needs
-
-copy-bytes-requires-2 : tie.Need-copy-bytes-requires-2
-copy-bytes-requires-2 c κs = search needs
-
-slice-aggregate-keep-line : tie.Need-slice-aggregate-keep-line
-slice-aggregate-keep-line c = search needs
-
-keep-line-requires : tie.Need-keep-line-requires
-keep-line-requires c κs = (c .before .before .before .before .before .before .before .before .before .before .before .before .before .before .before .before .before .before .before .before .before .before .before .before .pre .1, missed-length (c .before .before .before .before .before .before .before .before .before .before .before .read-missed .ensures))
-
-same-length-3 : tie.Need-same-length-3
-same-length-3 c = c .before .before .keep-line .kept .1 .1 .0
-
-same-length-4 : tie.Need-same-length-4
-same-length-4 c = c .before .before .before .before .before .before .before .before .before .before .before .before .before .before .read-missed .kept .1 .1 .1 .0
-
-same-length-5 : tie.Need-same-length-5
-same-length-5 c = c .before .before .before .before .before .before .before .before .copy-bytes2 .kept .1 .1 .0
-
+-- src/reading.rt:80:9
 returns-2 : tie.Need-returns-2
-returns-2 c = miss-reads _ _ _ _ _ _ _ _ _ _ _ _ _ (missing (c .before .before .before .before .before .before .before .before .before .before .before .before .before .before .before .before .before .before)) (missed-done _ _ _ _ _ _ _ _ _ _ _ _ _ _ (c .before .before .before .before .before .before .before .before .before .before .before .before .before .before .read-missed .ensures) (c .before .before .keep-line .ensures .0) (c .before .before .keep-line .ensures .1) (c .before .before .before .before .before .before .before .before .copy-bytes2 .ensures))
+returns-2 c =
+    let at-plain-read = c .before .before in
+    let at-if1 = at-plain-read .before .before in
+    let at-enum-told = at-if1 .before .before in
+    let at-lookup = at-enum-told .before .before in
+    let at-shared-slice-known = at-lookup .before .before .before .before .before in
+    let start = at-shared-slice-known .before in
+    let p = start .pre .0 in
+    let r = at-plain-read .plain-read .ensures in
+    plain-reads _ _ _ _ _ _ _ _ (sym (at-lookup .lookup .ensures) ∙ at-enum-told .enum-told .given .1) (one-doubleword _ _ _ _ _ _ p)
+    (omega (arith, p .served)) _ (r .0) (λ i. omega (arith, at-shared-slice-known .shared-slice-known .given i)) _ _ (not-true _ (at-if1 .if1 .taken))
+    (r .1) (r .2)
+
+-- src/reading.rt:86:16
+cast-line : tie.Need-cast-line
+cast-line c = search needs
+
+-- src/reading.rt:88:9
+fill-cycles-requires : tie.Need-fill-cycles-requires
+fill-cycles-requires c κs = search needs
+
+-- src/reading.rt:89:36
+add-value-at-2 : tie.Need-add-value-at-2
+add-value-at-2 c = search needs
+
+-- src/reading.rt:89:9
+value-at-requires-2 : tie.Need-value-at-requires-2
+value-at-requires-2 c κs = search needs
+
+-- src/reading.rt:90:16
+sub-if2 : tie.Need-sub-if2
+sub-if2 c = search needs
+
+-- src/reading.rt:90:8
+shared-slice-read-if2 : tie.Need-shared-slice-read-if2
+shared-slice-read-if2 c = search needs
+
+-- src/reading.rt:91:13
+keep-line-requires : tie.Need-keep-line-requires
+keep-line-requires c κs = search needs
+
+-- src/reading.rt:93:9
+same-length-3 : tie.Need-same-length-3
+same-length-3 c = search needs
+
+-- src/reading.rt:93:9
+same-length-4 : tie.Need-same-length-4
+same-length-4 c = search needs
+
+-- src/reading.rt:93:9
+returns-3 : tie.Need-returns-3
+returns-3 c =
+    let at-keep-line = c .before .before in
+    let at-if2 = at-keep-line .before .before in
+    let at-value-at2 = at-if2 .before .before in
+    let at-fill-cycles = at-value-at2 .before .before .before .before in
+    let at-if1 = at-fill-cycles .before .before .before .before in
+    let at-enum-told = at-if1 .before .before in
+    let at-lookup = at-enum-told .before .before in
+    let at-shared-slice-known = at-lookup .before .before .before .before .before in
+    let start = at-shared-slice-known .before in
+    let p = start .pre .0 in
+    let r = at-fill-cycles .fill-cycles .ensures in
+    kept-reads _ _ _ _ _ _ _ _ (sym (at-lookup .lookup .ensures) ∙ at-enum-told .enum-told .given .1) (one-doubleword _ _ _ _ _ _ p)
+    (omega (arith, p .served)) _ (at-value-at2 .value-at2 .ensures) (λ i. omega (arith, at-shared-slice-known .shared-slice-known .given i)) _ _
+    (not-false _ (at-if1 .if1 .left)) (r .0) (r .1) (r .2) (eq-eqb _ 1 (at-if2 .if2 .taken)) _ (at-keep-line .keep-line .ensures .0)
+    (rw (at-keep-line .keep-line .ensures .0) (victim-below _ _ _)) _ (at-keep-line .keep-line .ensures .1)
+
+-- src/reading.rt:50:1
+same-length-5 : tie.Need-same-length-5
+same-length-5 c = search needs
+
+-- src/reading.rt:50:1
+returns-4 : tie.Need-returns-4
+returns-4 c =
+    let at-value-at2 = c .before .before in
+    let at-fill-cycles = at-value-at2 .before .before .before .before in
+    let at-if1 = at-fill-cycles .before .before .before .before in
+    let at-enum-told = at-if1 .before .before in
+    let at-lookup = at-enum-told .before .before in
+    let at-shared-slice-known = at-lookup .before .before .before .before .before in
+    let start = at-shared-slice-known .before in
+    let p = start .pre .0 in
+    let r = at-fill-cycles .fill-cycles .ensures in
+    dropped-reads _ _ _ _ _ _ _ _ (sym (at-lookup .lookup .ensures) ∙ at-enum-told .enum-told .given .1) (one-doubleword _ _ _ _ _ _ p)
+    (omega (arith, p .served)) _ (at-value-at2 .value-at2 .ensures) (λ i. omega (arith, at-shared-slice-known .shared-slice-known .given i)) _ _
+    (not-false _ (at-if1 .if1 .left)) (r .0) (r .1) (r .2) (ne-eqb _ 1 (c .if2 .left))
 
 pub read-doubleword-spec : {M : Type 1} → statement M
 read-doubleword-spec =
@@ -82,20 +162,24 @@ read-doubleword-spec =
     lookup-requires
     enum-known-way
     data-offset-requires
-    add-copy-bytes
-    copy-bytes-requires
+    add-value-at
+    value-at-requires
     same-length
-    same-length-2
     returns
     enum-told
-    shared-slice-read-fills
-    slice-aggregate-read-missed
-    read-missed-requires
-    slice-aggregate-copy-bytes
-    copy-bytes-requires-2
-    slice-aggregate-keep-line
+    shared-slice-read-if1
+    plain-read-requires
+    same-length-2
+    returns-2
+    cast-line
+    fill-cycles-requires
+    add-value-at-2
+    value-at-requires-2
+    sub-if2
+    shared-slice-read-if2
     keep-line-requires
     same-length-3
     same-length-4
+    returns-3
     same-length-5
-    returns-2)
+    returns-4)

@@ -1,0 +1,235 @@
+use native.Mathlib.Omega.{arith}
+use mathlib.Core.Path.{refl, sym, _∙_}
+use Rattle.access.proofs.InPlace.{unchanged-in-place, used-in-place, filled-in-place, reads-in-place}
+use borrow.Author.Tests.{not-true, not-false, eq-eqb, ne-eqb}
+use Rattle.ways.proofs.FourWays.{lookup-below, victim-below}
+use Rattle.reading.proofs.ReadDoublewords.{hit-reads, plain-reads, dropped-reads, kept-reads, one-doubleword}
+use borrow.Author.Needs.{needs}
+use Rattle.access.proofs.reading_in_place.doubleword_in_place.Statement.{statement}
+use Rattle.access.proofs.reading_in_place.doubleword_in_place.Tie as tie
+use Rattle.access.proofs.reading_in_place.doubleword_in_place.Reads as reads
+use Rattle.access.proofs.reading_in_place.doubleword_in_place.Lts as lts
+use Rattle.cycles.proofs.fill_cycles.Reads as fill-cycles-reads
+use Rattle.doubleword.proofs.data_offset.Reads as data-offset-reads
+use Rattle.reading.proofs.plain_read.Reads as plain-read-reads
+use Rattle.reading.proofs.keep_line.Reads as keep-line-reads
+use Rattle.steps_in_place.proofs.fill_in_place.Reads as fill-in-place-reads
+use Rattle.steps_in_place.proofs.use_in_place.Reads as use-in-place-reads
+use Rattle.ways.proofs.set_of.Reads as set-of-reads
+use Rattle.ways.proofs.tag_of.Reads as tag-of-reads
+use Rattle.ways.proofs.lookup.Reads as lookup-reads
+use Rattle.words.proofs.value_at.Reads as value-at-reads
+
+-- src/reading_in_place.rt:62:29
+lookup-requires : tie.Need-lookup-requires
+lookup-requires c κs = search needs
+
+-- src/reading_in_place.rt:62:22
+enum-known-way : tie.Need-enum-known-way
+enum-known-way c = search needs
+
+-- src/reading_in_place.rt:63:36
+data-offset-requires : tie.Need-data-offset-requires
+data-offset-requires c κs = lookup-below _ _ _ _ (sym (c .before .before .before .before .lookup .ensures) ∙ c .before .before .way .given .1)
+
+-- src/reading_in_place.rt:63:36
+add-value-at : tie.Need-add-value-at
+add-value-at c = search needs
+
+-- src/reading_in_place.rt:63:13
+value-at-requires : tie.Need-value-at-requires
+value-at-requires c κs = search needs
+
+-- src/reading_in_place.rt:64:27
+set-of-requires : tie.Need-set-of-requires
+set-of-requires c κs = search needs
+
+-- src/reading_in_place.rt:64:9
+use-in-place-requires : tie.Need-use-in-place-requires
+use-in-place-requires c κs = (rw (c .set-of .ensures) (omega arith), lookup-below _ _ _ _ (sym (c .before .before .before .before .before .before .before .before .before .lookup .ensures) ∙ c .before .before .before .before .before .before .before .way .given .1))
+
+-- src/reading_in_place.rt:66:9
+same-length : tie.Need-same-length
+same-length c = search needs
+
+-- src/reading_in_place.rt:66:9
+returns : tie.Need-returns
+returns c =
+    let at-value-at = c .before .before .before in
+    let at-data-offset = at-value-at .before .before in
+    let at-way = at-data-offset .before .before .before in
+    let at-lookup = at-way .before .before in
+    let at-slice-known = at-lookup .before .before .before .before .before in
+    let f = sym (at-lookup .lookup .ensures) ∙ at-way .way .given .1 in (
+      refl,
+      reads-in-place
+          (hit-reads _ _ _ _ _ _ _ _ _ _ _ f (lookup-below _ _ _ _ f) (at-data-offset .data-offset .ensures .0) (at-value-at .value-at .ensures)
+          (λ i. omega (arith, at-slice-known .slice-known .given i)))
+          (used-in-place _ _ _ _ _ _ _ (c .before .set-of .ensures) (λ cd nw. c .use-in-place .ensures _ _ cd nw)),
+    )
+
+enum-told : tie.Need-enum-told
+enum-told c = search needs
+
+-- src/reading_in_place.rt:72:22
+shared-slice-read-if1 : tie.Need-shared-slice-read-if1
+shared-slice-read-if1 c = search needs
+
+-- src/reading_in_place.rt:73:13
+plain-read-requires : tie.Need-plain-read-requires
+plain-read-requires c κs = search needs
+
+-- src/reading_in_place.rt:74:9
+same-length-2 : tie.Need-same-length-2
+same-length-2 c = search needs
+
+-- src/reading_in_place.rt:74:9
+returns-2 : tie.Need-returns-2
+returns-2 c =
+    let at-plain-read = c .before .before in
+    let at-if1 = at-plain-read .before .before in
+    let at-enum-told = at-if1 .before .before in
+    let at-lookup = at-enum-told .before .before in
+    let at-shared-slice-known = at-lookup .before .before .before .before .before .before .before in
+    let start = at-shared-slice-known .before in
+    let p = start .pre .0 in
+    let r = at-plain-read .plain-read .ensures in (
+      refl,
+      reads-in-place
+          (plain-reads _ _ _ _ _ _ _ _ (sym (at-lookup .lookup .ensures) ∙ at-enum-told .enum-told .given .1) (one-doubleword _ _ _ _ _ _ p)
+          (omega (arith, p .served)) _ (r .0) (λ i. omega (arith, at-shared-slice-known .shared-slice-known .given i)) _ _ (not-true _ (at-if1 .if1 .taken))
+          (r .1) (r .2))
+          (unchanged-in-place _ _ _ _),
+    )
+
+-- src/reading_in_place.rt:80:16
+cast-line : tie.Need-cast-line
+cast-line c = search needs
+
+-- src/reading_in_place.rt:82:9
+fill-cycles-requires : tie.Need-fill-cycles-requires
+fill-cycles-requires c κs = search needs
+
+-- src/reading_in_place.rt:83:36
+add-value-at-2 : tie.Need-add-value-at-2
+add-value-at-2 c = search needs
+
+-- src/reading_in_place.rt:83:9
+value-at-requires-2 : tie.Need-value-at-requires-2
+value-at-requires-2 c κs = search needs
+
+-- src/reading_in_place.rt:84:16
+sub-if2 : tie.Need-sub-if2
+sub-if2 c = search needs
+
+-- src/reading_in_place.rt:84:8
+shared-slice-read-if2 : tie.Need-shared-slice-read-if2
+shared-slice-read-if2 c = search needs
+
+-- src/reading_in_place.rt:85:13
+keep-line-requires : tie.Need-keep-line-requires
+keep-line-requires c κs =
+    let start = c .before .before .before .before .before .before .before .before .before .before .before .before .before .before .before .before .before .before .before .before .before .before .before .before .before in
+    (start .pre .1, start .pre .0 .inside)
+
+-- src/reading_in_place.rt:86:13
+set-of-requires-2 : tie.Need-set-of-requires-2
+set-of-requires-2 c κs = search needs
+
+-- src/reading_in_place.rt:87:51
+tag-of-requires : tie.Need-tag-of-requires
+tag-of-requires c κs = search needs
+
+-- src/reading_in_place.rt:87:9
+fill-in-place-requires : tie.Need-fill-in-place-requires
+fill-in-place-requires c κs = (rw (c .before .before .before .before .set-of2 .ensures) (omega arith), rw (c .before .before .before .before .before .before .before .keep-line .ensures .0) (victim-below _ _ _))
+
+-- src/reading_in_place.rt:88:9
+same-length-3 : tie.Need-same-length-3
+same-length-3 c = search needs
+
+-- src/reading_in_place.rt:88:9
+same-length-4 : tie.Need-same-length-4
+same-length-4 c = search needs
+
+-- src/reading_in_place.rt:88:9
+returns-3 : tie.Need-returns-3
+returns-3 c =
+    let at-set-of2 = c .before .before .before .before .before in
+    let at-keep-line = at-set-of2 .before .before .before in
+    let at-if2 = at-keep-line .before .before .before .before in
+    let at-value-at2 = at-if2 .before .before in
+    let at-fill-cycles = at-value-at2 .before .before .before .before in
+    let at-if1 = at-fill-cycles .before .before .before .before in
+    let at-enum-told = at-if1 .before .before in
+    let at-lookup = at-enum-told .before .before in
+    let at-shared-slice-known = at-lookup .before .before .before .before .before .before .before in
+    let start = at-shared-slice-known .before in
+    let p = start .pre .0 in
+    let r = at-fill-cycles .fill-cycles .ensures in (
+      refl,
+      reads-in-place
+          (kept-reads _ _ _ _ _ _ _ _ (sym (at-lookup .lookup .ensures) ∙ at-enum-told .enum-told .given .1) (one-doubleword _ _ _ _ _ _ p)
+          (omega (arith, p .served)) _ (at-value-at2 .value-at2 .ensures) (λ i. omega (arith, at-shared-slice-known .shared-slice-known .given i)) _ _
+          (not-false _ (at-if1 .if1 .left)) (r .0) (r .1) (r .2) (eq-eqb _ 1 (at-if2 .if2 .taken)) _ (at-keep-line .keep-line .ensures .0)
+          (rw (at-keep-line .keep-line .ensures .0) (victim-below _ _ _)) _ (at-keep-line .keep-line .ensures .1))
+          (filled-in-place _ _ _ _ _ _ _ _ _ _ (at-set-of2 .set-of2 .ensures) (c .before .tag-of .ensures) (λ cd nw. c .fill-in-place .ensures cd nw)),
+    )
+
+-- src/reading_in_place.rt:43:1
+same-length-5 : tie.Need-same-length-5
+same-length-5 c = search needs
+
+-- src/reading_in_place.rt:43:1
+returns-4 : tie.Need-returns-4
+returns-4 c =
+    let at-value-at2 = c .before .before in
+    let at-fill-cycles = at-value-at2 .before .before .before .before in
+    let at-if1 = at-fill-cycles .before .before .before .before in
+    let at-enum-told = at-if1 .before .before in
+    let at-lookup = at-enum-told .before .before in
+    let at-shared-slice-known = at-lookup .before .before .before .before .before .before .before in
+    let start = at-shared-slice-known .before in
+    let p = start .pre .0 in
+    let r = at-fill-cycles .fill-cycles .ensures in (
+      refl,
+      reads-in-place
+          (dropped-reads _ _ _ _ _ _ _ _ (sym (at-lookup .lookup .ensures) ∙ at-enum-told .enum-told .given .1) (one-doubleword _ _ _ _ _ _ p)
+          (omega (arith, p .served)) _ (at-value-at2 .value-at2 .ensures) (λ i. omega (arith, at-shared-slice-known .shared-slice-known .given i)) _ _
+          (not-false _ (at-if1 .if1 .left)) (r .0) (r .1) (r .2) (ne-eqb _ 1 (c .if2 .left)))
+          (unchanged-in-place _ _ _ _),
+    )
+
+pub doubleword-in-place-spec : {M : Type 1} → statement M
+doubleword-in-place-spec =
+    tie.close
+    (tie.spec
+    lookup-requires
+    enum-known-way
+    data-offset-requires
+    add-value-at
+    value-at-requires
+    set-of-requires
+    use-in-place-requires
+    same-length
+    returns
+    enum-told
+    shared-slice-read-if1
+    plain-read-requires
+    same-length-2
+    returns-2
+    cast-line
+    fill-cycles-requires
+    add-value-at-2
+    value-at-requires-2
+    sub-if2
+    shared-slice-read-if2
+    keep-line-requires
+    set-of-requires-2
+    tag-of-requires
+    fill-in-place-requires
+    same-length-3
+    same-length-4
+    returns-3
+    same-length-5
+    returns-4)

@@ -1,0 +1,109 @@
+// The doublewords of an accepted read or write on a directory whose arrays are lent, for a caller that has asked for the numbers.
+// A read does not look at NW, so its contract holds for either value.
+ghost use mathlib.Core.Path.{_≡_};
+ghost use mathlib.Core.Bool.{Bool};
+ghost use lib.ListN.{length};
+ghost use Rattle.directory.specs.Steps.{directoryOf};
+ghost use Rattle.memory.specs.Parity.{memory};
+ghost use Rattle.refusal.specs.Outcome.{outcome};
+ghost use Rattle.refusal.specs.Refusal.{argumentNumber, lentNumber, orElse, statesNumberIn, valueNumber};
+ghost use Rattle.access.specs.Access.{after, readCall, state, writeCall};
+use crate::result::CallResult;
+use doubleword::AccessCursor;
+use doubleword::change_in_place;
+use reading::read_next;
+use reading::with_part;
+use writing::write_next;
+
+pub fn read_accepted<'a>(
+    tags: &'a mut [u32; 512],
+    valid: &'a mut [bool; 512],
+    lru: &'a mut [u8; 128],
+    cd: bool,
+    ram: &[u8],
+    parity: &[u8],
+    data: &mut [u8],
+    address: u32,
+    width: u32,
+    pcd: bool,
+    answers: &[u8],
+    log: &mut [u32],
+) -> CallResult
+    requires { ⌜ (orElse (lentNumber (length (now ram)) (length (now parity)) (length (now «data»))) (argumentNumber (length (now ram)) address width (now answers) (length (now log))) ≡ 0)
+        × (statesNumberIn (now tags) (now valid) (now lru) address width ≡ 0) ⌝ }
+    ensures { λ r. ⌜ ((nw : Bool) → after (outcome (directoryOf (now (tags .exit)) (now (valid .exit)) (now (lru .exit)) cd nw) (r .number) (r .value) (r .cycles))
+        (memory (now (ram .entry)) (now (parity .entry))) (now («data» .exit)) (now (log .exit))
+        ≡ readCall (state (directoryOf (now (tags .entry)) (now (valid .entry)) (now (lru .entry)) cd nw) (memory (now (ram .entry)) (now (parity .entry))) (now («data» .entry))) address width pcd (now (answers .entry)) (now (log .entry))) ⌝ }
+{
+    let mut value: u32 = 0;
+    let mut cursor = AccessCursor::begin(address, width);
+    while 0 < cursor.left {
+        let next = read_next(
+            tags,
+            valid,
+            lru,
+            !cd & !pcd,
+            ram,
+            parity,
+            data,
+            answers,
+            log,
+            cursor,
+        );
+        let change = next.change;
+        change_in_place(tags, valid, lru, next.line, change);
+        value = with_part(value, cursor.place, next.value);
+        cursor = cursor.next(next.count, next.cycles);
+    }
+    CallResult {
+        number: 0,
+        value,
+        cycles: cursor.cycles as u32,
+    }
+}
+
+pub fn write_accepted<'a>(
+    tags: &'a mut [u32; 512],
+    valid: &'a mut [bool; 512],
+    lru: &'a mut [u8; 128],
+    cd: bool,
+    nw: bool,
+    ram: &mut [u8],
+    parity: &mut [u8],
+    data: &mut [u8],
+    address: u32,
+    width: u32,
+    value: u32,
+    answers: &[u8],
+    log: &mut [u32],
+) -> CallResult
+    requires { ⌜ (orElse (lentNumber (length (now ram)) (length (now parity)) (length (now «data»))) (argumentNumber (length (now ram)) address width (now answers) (length (now log))) ≡ 0)
+        × (valueNumber width value ≡ 0) × (statesNumberIn (now tags) (now valid) (now lru) address width ≡ 0) ⌝ }
+    ensures { λ r. ⌜ after (outcome (directoryOf (now (tags .exit)) (now (valid .exit)) (now (lru .exit)) cd nw) (r .number) (r .value) (r .cycles))
+        (memory (now (ram .exit)) (now (parity .exit))) (now («data» .exit)) (now (log .exit))
+        ≡ writeCall (state (directoryOf (now (tags .entry)) (now (valid .entry)) (now (lru .entry)) cd nw) (memory (now (ram .entry)) (now (parity .entry))) (now («data» .entry))) address width value (now (answers .entry)) (now (log .entry)) ⌝ }
+{
+    let mut cursor = AccessCursor::begin(address, width);
+    while 0 < cursor.left {
+        let next = write_next(
+            tags,
+            valid,
+            cd & nw,
+            ram,
+            parity,
+            data,
+            answers,
+            log,
+            value,
+            cursor,
+        );
+        let change = next.change;
+        change_in_place(tags, valid, lru, next.line, change);
+        cursor = cursor.next(next.count, next.cycles);
+    }
+    CallResult {
+        number: 0,
+        value: 0,
+        cycles: cursor.cycles as u32,
+    }
+}

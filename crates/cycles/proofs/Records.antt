@@ -1,0 +1,248 @@
+-- The records of cycles of one doubleword from numbers are those of reads and writes.
+use Prim.Native.Nat.{ℕ, zero, suc, _+_, _*_, _-_, _/_, _%_, _^_, _≤_, _<_}
+use mathlib.Core.Path.{_≡_, refl, sym, _∙_, ap}
+use mathlib.Core.Bool.{Bool, true, false, cond, not, _&&_}
+use mathlib.Core.List.{List, [], _∷_, map}
+use native.Mathlib.Omega.{arith}
+use native.Mathlib.Nat.{add-zero, zero-add, mod-eq-of-lt, mul-div-cancel}
+use native.Mathlib.Decide.{decLe, decLt}
+use lib.Dec.{eqb}
+use lib.ListN.{length, getD, replicate, length-replicate}
+use lib.Seq.{sets, length-sets}
+use borrow.Author.Tests.{eqb-false, eq-eqb}
+use Rattle.laws.proofs.Tests.{by-test}
+use Rattle.words.specs.Bytes.{bytesAt, bytesOf, valueOf, wordIn, lanesValue, lanesWord}
+use Rattle.words.proofs.Places.{sets-below, sets-above, sets-in, zeros-at, bytes-all}
+use Rattle.words.proofs.Spans.{bytes-same}
+use Rattle.words.proofs.Numbers.{Small, of-small, of-length, value-of-bytes}
+use Rattle.words.proofs.Parts.{powers-some, word-in, word-of-all, word-in-lanes}
+use Rattle.memory.specs.Parity.{memory}
+use Rattle.bus.specs.Bus.{Run, run, sizeOf, Cycle, cyclesOf}
+use Rattle.bus.specs.Record.{Record, flagsOf, writeKind, readRecord, writeRecord, logged}
+use Rattle.bus.specs.Runs.{runCycles}
+use Rattle.bus.proofs.Sizing.{size-some, size-most, size-lane, size-whole}
+use Rattle.bus.proofs.Runs.{cycles-alone}
+use Rattle.cycles.specs.Parts.{dueBits, bitsIn, moving, partRecord}
+use Rattle.cycles.specs.Made.{CyclesMade}
+use Rattle.cycles.specs.Sent.{sentLine}
+use Rattle.cycles.proofs.Parity.{part-wrong}
+use Rattle.cycles.proofs.Made.{made-one, made-same}
+
+-- RECORDS FROM NUMBERS
+
+-- no record tells a cycle's answer
+pub part-blind : (kind address word held due : ℕ) (w : Run) (x : ℕ) (b : Bool) →
+    partRecord kind address word held due (record { moved = w; answer = x; last = b }) ≡ partRecord kind address word held due (moving (w .from) (w .count) b)
+unfolding partRecord
+part-blind kind address word held due w x b = refl
+
+-- the record of a cycle, from what its parts leave
+pub part-left : (kind address word held due lane count place : ℕ) (last : Bool) (log₀ : List ℕ) {flags moved : ℕ} {log : List ℕ} → 0 < count → lane + count ≤ 4 →
+    flags ≡ flagsOf lane count kind last (not (eqb (bitsIn held lane count) (bitsIn due lane count))) →
+    moved ≡ lanesWord word lane count →
+    log ≡ logged log₀ place (record { address = address; flags = flags; word = moved } ∷ []) →
+    log ≡ logged log₀ place (partRecord kind address word held due (moving lane count last) ∷ [])
+unfolding partRecord
+part-left kind address word held due lane count place last log₀ some l ef ed el =
+    let e : lane % 4 ≡ lane = omega arith in
+    rw e (el ∙ rw (ed, ef))
+
+-- only the lane matters that a run starts in
+pub part-lane : (kind address word held due : ℕ) (last : Bool) (xs : List ℕ) (a b count : ℕ) → a % 4 ≡ b % 4 →
+    map (partRecord kind address word held due) (runCycles last xs (run a count)) ≡ map (partRecord kind address word held due) (runCycles last xs (run b count))
+unfolding runCycles partRecord
+part-lane kind address word held due last [] a b count e = refl
+part-lane kind address word held due last (x ∷ xs) a b count e =
+    let make = partRecord kind address word held due in
+    let s = sizeOf x (run b count) in
+    let h : (a + s) % 4 ≡ (b + s) % 4 = omega arith in
+    rw (size-lane x a b count e, e)
+    (by-test (λ t. _≡_ {A = List Record}
+    (make (record { moved = run b s; answer = x; last = eqb s count && last }) ∷ map make (cond t [] (runCycles last xs (run (a + s) (count - s)))))
+    (make (record { moved = run b s; answer = x; last = eqb s count && last }) ∷ map make (cond t [] (runCycles last xs (run (b + s) (count - s))))))
+    (eqb s count)
+    (λ _. refl)
+    (λ _. rw (part-lane kind address word held due last xs (a + s) (b + s) (count - s) h)))
+
+-- so what the code leaves for a lane, it leaves for each offset that lies in it
+pub part-from : (kind address word held due lane count : ℕ) → lane < 4 → (xs : List ℕ) (first used r : ℕ) (log₀ log : List ℕ) →
+    CyclesMade (partRecord kind address word held due) (runCycles true xs (run lane count)) first used log₀ r log →
+    (from : ℕ) → from % 4 ≡ lane → CyclesMade (partRecord kind address word held due) (cyclesOf xs (run from count ∷ [])) first used log₀ r log
+part-from kind address word held due lane count l xs first used r log₀ log k from e =
+    rw (cycles-alone xs (run from count))
+    (made-same _ _ _ _ first used r log₀ log (part-lane kind address word held due true xs lane from count (omega arith)) k)
+
+-- MAKERS THAT AGREE ON SOME BYTES
+
+-- a maker agrees with another on each cycle that moves some of these bytes
+abbrev pub Agree : (Cycle → Record) → (Cycle → Record) → ℕ → ℕ → Type 0
+Agree f g low end = (c : Cycle) → low ≤ c .moved .from → 0 < c .moved .count → c .moved .from + c .moved .count ≤ end → f c ≡ g c
+
+pub agree-run : (f g : Cycle → Record) (low end : ℕ) → Agree f g low end → (last : Bool) (xs : List ℕ) (from count : ℕ) → low ≤ from → 0 < count → from + count ≤ end →
+    map f (runCycles last xs (run from count)) ≡ map g (runCycles last xs (run from count))
+unfolding runCycles
+agree-run f g low end h last [] from count a s b = refl
+agree-run f g low end h last (x ∷ xs) from count a some b =
+    let s = sizeOf x (run from count) in
+    let p = size-some x from count some in
+    let q = size-most x from count in
+    let c : Cycle = record { moved = run from s; answer = x; last = eqb s count && last } in
+    rw (h c a p (omega arith))
+    (by-test (λ t. eqb s count ≡ t → g c ∷ map f (cond t [] (runCycles last xs (run (from + s) (count - s)))) ≡ g c ∷ map g (cond t [] (runCycles last xs (run (from + s) (count - s)))))
+    (eqb s count)
+    (λ _ _. refl)
+    (λ _ e. let n = eqb-false s count e in rw (agree-run f g low end h last xs (from + s) (count - s) (omega arith) (omega arith) (omega arith)))
+    refl)
+
+-- READS
+
+-- a cycle of one doubleword of RAM
+pub read-part : (kind : ℕ) (ram parity : List ℕ) (line base : ℕ) → ((i : ℕ) → getD ram i 0 < 256) → line % 16 ≡ 0 → base % 4 ≡ 0 →
+    Agree (partRecord kind (line + base) (wordIn 0 (bytesAt ram (line + base) 4)) (getD parity ((line + base) / 4) 0) (dueBits ram (line + base))) (readRecord kind (memory ram parity) line) base (base + 4)
+unfolding partRecord readRecord
+read-part kind ram parity line base small al whole c low some high =
+    let from = c .moved .from in
+    let count = c .moved .count in
+    let e : from / 4 * 4 ≡ base = omega arith in
+    let l : from % 4 + count ≤ 4 = omega arith in
+    let p : line + from ≡ line + base + from % 4 = omega arith in
+    let m : (line + base) % 4 ≡ 0 = omega arith in
+    rw (e, p, part-wrong ram parity (line + base) (from % 4) count m l, word-in-lanes ram small (line + base) (from % 4) count l)
+
+-- the records of a run inside one doubleword of RAM
+pub read-records : (kind : ℕ) (ram parity : List ℕ) (line from count base : ℕ) → ((i : ℕ) → getD ram i 0 < 256) → line % 16 ≡ 0 → 0 < count → from % 4 + count ≤ 4 → base ≡ line + from / 4 * 4 →
+    (last : Bool) (xs : List ℕ) →
+    map (partRecord kind base (wordIn 0 (bytesAt ram base 4)) (getD parity (base / 4) 0) (dueBits ram base)) (runCycles last xs (run from count))
+    ≡ map (readRecord kind (memory ram parity) line) (runCycles last xs (run from count))
+read-records kind ram parity line from count base small al some l e last xs =
+    let low = from / 4 * 4 in
+    rw e (agree-run _ _ low (low + 4) (read-part kind ram parity line low small al (omega arith)) last xs from count (omega arith) some (omega arith))
+
+-- what the code leaves from numbers of RAM is what a read leaves
+module _ (kind : ℕ) (ram parity : List ℕ) (line from count base : ℕ) (small : (i : ℕ) → getD ram i 0 < 256) (al : line % 16 ≡ 0) (some : 0 < count) (l : from % 4 + count ≤ 4)
+    (e : base ≡ line + from / 4 * 4) (xs : List ℕ) (first used r : ℕ) (log₀ log : List ℕ) where
+  abbrev numbers : Cycle → Record
+  numbers = partRecord kind base (wordIn 0 (bytesAt ram base 4)) (getD parity (base / 4) 0) (dueBits ram base)
+
+  pub read-made : (lane : ℕ) → lane % 4 ≡ from % 4 → (last : Bool) →
+      CyclesMade numbers (runCycles last xs (run lane count)) first used log₀ r log →
+      CyclesMade (readRecord kind (memory ram parity) line) (runCycles last xs (run from count)) first used log₀ r log
+  read-made lane h last =
+      made-same _ _ _ _ first used r log₀ log
+      (part-lane kind base _ _ _ last xs lane from count h ∙ read-records kind ram parity line from count base small al some l e last xs)
+
+  pub read-alone : CyclesMade numbers (cyclesOf xs (run from count ∷ [])) first used log₀ r log →
+      CyclesMade (readRecord kind (memory ram parity) line) (cyclesOf xs (run from count ∷ [])) first used log₀ r log
+  read-alone = rw (cycles-alone xs (run from count)) (read-made from refl true)
+
+-- WRITES
+
+-- a byte of those of a number
+small-at : (l : List ℕ) → Small l → (i : ℕ) → getD l i 0 < 256
+small-at [] h i = omega arith
+small-at (b ∷ l) h zero = h .0
+small-at (b ∷ l) h (suc i) = small-at l (h .1) i
+
+-- what holds of 0, and of each of these bytes, holds of each byte where they are put among zeros
+put-cases : (P : ℕ → Type 0) (n from : ℕ) (bytes : List ℕ) → from + length bytes ≤ n → (i : ℕ) →
+    (i < from → P 0) → (from + length bytes ≤ i → P 0) → (from ≤ i → i < from + length bytes → P (getD bytes (i - from) 0)) → P (getD (sets (replicate n 0) from bytes) i 0)
+put-cases P n from bytes h i f g k =
+    elim (decLt i from) [
+      | yes p ↦ rw (sets-below (replicate n 0) from bytes i p, zeros-at n i) (f p)
+      | no p ↦ elim (decLe (from + length bytes) i) [
+        | yes q ↦ rw (sets-above (replicate n 0) from bytes i q, zeros-at n i) (g q)
+        | no q ↦
+            let e : from + (i - from) ≡ i = omega arith in
+            let l : from + (i - from) < length (replicate {A = ℕ} n 0) = rw (length-replicate {A = ℕ} n 0) (omega arith) in
+            let z : getD (sets (replicate n 0) from bytes) i 0 ≡ getD bytes (i - from) 0 = rw e at (sets-in (replicate n 0) from bytes (i - from) (omega arith) l) in
+            rw z (k (omega arith) (omega arith))
+      ]
+    ]
+
+-- the bytes of a number, sent in one doubleword of a line
+module _ (from count value : ℕ) (l : from % 4 + count ≤ 4) (short : from < 16) where
+  abbrev sent : List ℕ
+  sent = sentLine from (bytesOf count value)
+
+  abbrev low : ℕ
+  low = from / 4 * 4
+
+  fits : from + length (bytesOf count value) ≤ 16
+  fits = rw (of-length count value) (omega arith)
+
+  sent-small : (i : ℕ) → getD sent i 0 < 256
+  sent-small i =
+      put-cases (λ b. b < 256) 16 from (bytesOf count value) fits i (λ _. omega arith) (λ _. omega arith)
+      (λ _ _. small-at (bytesOf count value) (of-small count value) (i - from))
+
+  sent-doubleword : bytesAt sent low 4 ≡ sets (replicate 4 0) (from % 4) (bytesOf count value)
+  sent-doubleword =
+      let lane = from % 4 in
+      let bytes = bytesOf count value in
+      let zeros = replicate {A = ℕ} 4 0 in
+      let n : length bytes ≡ count = of-length count value in
+      let e : from ≡ low + lane = omega arith in
+      let z : length (sets zeros lane bytes) ≡ 4 = length-sets zeros lane bytes in
+      bytes-same sent (sets zeros lane bytes) low 0 4
+      (λ o h.
+      put-cases (λ b. b ≡ getD (sets zeros lane bytes) (0 + o) 0) 16 from bytes fits (low + o)
+      (λ p. rw (zero-add o) (sym (sets-below zeros lane bytes o (omega arith) ∙ zeros-at 4 o)))
+      (λ p. rw (zero-add o) (sym (sets-above zeros lane bytes o (omega arith) ∙ zeros-at 4 o)))
+      (λ p q.
+      let f : lane + (o - lane) ≡ o = omega arith in
+      let g : low + o - from ≡ o - lane = omega arith in
+      rw (g, zero-add o) (sym (rw f at (sets-in zeros lane bytes (o - lane) (omega arith) (omega arith))))))
+      ∙ rw z at (bytes-all (sets zeros lane bytes))
+
+  -- the number in its lanes
+  sent-word : value < 256 ^ count → wordIn 0 (bytesAt sent low 4) ≡ value * 256 ^ (from % 4)
+  sent-word k =
+      let n = of-length count value in
+      word-of-all sent low ∙ ap valueOf sent-doubleword ∙ word-in (from % 4) (bytesOf count value) (rw n l)
+      ∙ rw (value-of-bytes count value, mod-eq-of-lt k)
+
+  -- a cycle that sends some of them
+  pub write-part : (line : ℕ) → value < 256 ^ count →
+      Agree (partRecord writeKind (line + low) (value * 256 ^ (from % 4)) 0 0) (writeRecord sent line) low (low + 4)
+  unfolding partRecord writeRecord
+  write-part line k c a some b =
+      let at = c .moved .from in
+      let size = c .moved .count in
+      let e : at / 4 * 4 ≡ low = omega arith in
+      let h : at % 4 + size ≤ 4 = omega arith in
+      let p : at ≡ low + at % 4 = omega arith in
+      let w : wordIn (at % 4) (bytesAt sent at size) ≡ lanesWord (value * 256 ^ (from % 4)) (at % 4) size =
+      ap (λ (i : ℕ). wordIn (at % 4) (bytesAt sent i size)) p ∙ word-in-lanes sent sent-small low (at % 4) size h ∙ rw (sent-word k) in
+      rw (e, w, eq-eqb (bitsIn 0 (at % 4) size) (bitsIn 0 (at % 4) size) refl)
+
+  -- the records of a write
+  pub write-records : (line : ℕ) → 0 < count → value < 256 ^ count → (xs : List ℕ) →
+      map (partRecord writeKind (line + low) (value * 256 ^ (from % 4)) 0 0) (cyclesOf xs (run from count ∷ [])) ≡ map (writeRecord sent line) (cyclesOf xs (run from count ∷ []))
+  write-records line some k xs =
+      rw (cycles-alone xs (run from count))
+      (agree-run _ _ low (low + 4) (write-part line k) true xs from count (omega arith) some (omega arith))
+
+  -- what the code leaves from a number is what a write leaves
+  pub write-made : (line : ℕ) → 0 < count → value < 256 ^ count → (xs : List ℕ) (first used r : ℕ) (log₀ log : List ℕ) →
+      CyclesMade (partRecord writeKind (line + low) (value * 256 ^ (from % 4)) 0 0) (cyclesOf xs (run from count ∷ [])) first used log₀ r log →
+      CyclesMade (writeRecord sent line) (cyclesOf xs (run from count ∷ [])) first used log₀ r log
+  write-made line some k xs first used r log₀ log = made-same _ _ _ _ first used r log₀ log (write-records line some k xs)
+
+  -- the lanes of a number in its place are all that it has
+  own-lanes : value < 256 ^ count → value * 256 ^ (from % 4) ≡ lanesWord (value * 256 ^ (from % 4)) (from % 4) count
+  unfolding lanesWord lanesValue
+  own-lanes k = rw (mul-div-cancel value (powers-some (from % 4)), mod-eq-of-lt k)
+
+  -- one cycle, where the board asks for no smaller size
+  pub write-whole : (line : ℕ) → 0 < count → value < 256 ^ count → (xs : List ℕ) → 0 < length xs → getD xs 0 0 / 2 % 4 ≡ 0 → (first : ℕ) (log₀ log : List ℕ) {flags word : ℕ} →
+      flags ≡ flagsOf (from % 4) count writeKind true false → word ≡ value * 256 ^ (from % 4) →
+      log ≡ logged log₀ first (record { address = line + low; flags = flags; word = word } ∷ []) →
+      CyclesMade (writeRecord sent line) (cyclesOf xs (run from count ∷ [])) first 0 log₀ 1 log
+  write-whole line some k xs some-answer w first log₀ log {flags} ef ew el =
+      let lane = from % 4 in
+      let v = value * 256 ^ lane in
+      let f : lane % 4 + count ≤ 4 = omega arith in
+      let same : flags ≡ flagsOf lane count writeKind true (not (eqb (bitsIn 0 lane count) (bitsIn 0 lane count))) = ef ∙ rw (eq-eqb (bitsIn 0 lane count) (bitsIn 0 lane count) refl) in
+      let put = part-left writeKind (line + low) v 0 0 lane count first true log₀ some l same (ew ∙ own-lanes k) el in
+      let made = made-one (partRecord writeKind (line + low) v 0 0) (part-blind writeKind (line + low) v 0 0) true xs first lane count 0 log₀ log some-answer (size-whole (getD xs 0 0) lane count w f) (rw (add-zero first) put) in
+      write-made line some k xs first 0 1 log₀ log (part-from writeKind (line + low) v 0 0 lane count (omega arith) xs first 0 1 log₀ log made from refl)

@@ -1,0 +1,64 @@
+// The cycles of a fill.
+ghost use mathlib.Core.Path.{_≡_};
+ghost use Prim.Native.Nat.{_+_, _*_, _≤_, _<_};
+ghost use lib.ListN.{length};
+ghost use Rattle.memory.specs.Parity.{memory};
+ghost use Rattle.bus.specs.Bus.{burst, cyclesOf};
+ghost use Rattle.bus.specs.Record.{fillKind, readRecord};
+ghost use Rattle.bus.specs.Runs.{offsets};
+ghost use Rattle.cycles.specs.Made.{CyclesMade};
+ghost use Rattle.cycles.specs.Parts.{LineNeeds};
+use crate::lanes::due_bits;
+use crate::whole::whole_cycles;
+use words::word_at;
+
+// The burst order: the offsets of the doublewords of a line, by the one that it starts with.
+fn burst_order(start: usize) -> [usize; 4]
+    requires { ⌜ start < 4 ⌝ }
+    ensures { λ r. ⌜ r ≡ offsets (burst start) ⌝ }
+{
+    match start {
+        0 => [0, 4, 8, 12],
+        1 => [4, 0, 12, 8],
+        2 => [8, 12, 0, 4],
+        _ => [12, 8, 4, 0],
+    }
+}
+
+// The cycles of a fill that starts with a doubleword of a line. first: the place of the first record in the log. Answers how many
+// cycles were made.
+pub fn fill_cycles(
+    ram: &[u8],
+    parity: &[u8],
+    answers: &[u8],
+    log: &mut [u32],
+    line: usize,
+    start: usize,
+    first: usize,
+) -> usize
+    requires { ⌜ (start < 4) × (16 ≤ length (now answers)) × (3 * (first + 16) ≤ length (now log)) × LineNeeds line 0 (length (now ram)) (length (now parity)) ⌝ }
+    ensures { λ r. ⌜ CyclesMade (readRecord fillKind (memory (now (ram .entry)) (now (parity .entry))) line) (cyclesOf (now (answers .entry)) (burst start)) first 0 (now (log .entry)) r (now (log .exit)) × (0 < r) × (r ≤ 16) ⌝ }
+{
+    let order = burst_order(start);
+    let mut used: usize = 0;
+    let mut turn: usize = 0;
+    while turn < 4 {
+        let base = line + order[turn];
+        let word = word_at(&ram[..], base);
+        let held = parity[base / 4];
+        let due = due_bits(&ram[..], base);
+        used = whole_cycles(
+            &answers[..],
+            log,
+            base as u32,
+            word,
+            held,
+            due,
+            used,
+            first,
+            turn == 3,
+        );
+        turn += 1;
+    }
+    used
+}
