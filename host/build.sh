@@ -1,23 +1,27 @@
 #!/bin/sh
 # Builds the host's programs into target/host/ of the repository, with a C++ compiler alone.
 #
-#     host/build.sh [LIBRARY]     default: target/staticlib/libhost.a, which `rt staticlib host` writes
+#     host/build.sh [FOLDER]     default: target/staticlib, where `rt staticlib host` and `rt staticlib program` write the libraries
 #
 # From the environment: CXX, the compiler (g++), and CXXFLAGS_BASELINE, how it optimises the baseline (-O2).
 set -eu
 usage() {
-    echo "usage: host/build.sh [LIBRARY]" >&2
+    echo "usage: host/build.sh [FOLDER]" >&2
     exit 2
 }
 [ $# -le 1 ] || usage
 case ${1:-} in -*) usage ;; esac
 root=$(cd "$(dirname "$0")/.." && pwd)
-library=${1:-$root/target/staticlib/libhost.a}
-if [ ! -f "$library" ]; then
-    echo "build.sh: no library at $library; run rt staticlib host, or name one" >&2
-    exit 2
-fi
-library=$(cd "$(dirname "$library")" && pwd)/$(basename "$library")
+folder=${1:-$root/target/staticlib}
+for name in host program; do
+    if [ ! -f "$folder/lib$name.a" ]; then
+        echo "build.sh: no library at $folder/lib$name.a; run rt staticlib $name, or name another folder" >&2
+        exit 2
+    fi
+done
+folder=$(cd "$folder" && pwd)
+calls="$folder/libhost.a"
+program="$folder/libprogram.a"
 cd "$root"
 cxx=${CXX:-g++}
 flags="-std=c++17 -Wall -Wextra -Werror -Ihost/include -Ihost"
@@ -29,8 +33,8 @@ for part in unit program; do
     $cxx $flags ${CXXFLAGS_BASELINE:--O2} -c host/baseline/$part.cpp -o $out/baseline_$part.o
 done
 baseline="$out/baseline_unit.o $out/baseline_program.o"
-$cxx $flags -O2 host/example/example.cpp "$library" -o $out/example
-$cxx $flags -O2 host/differential.cpp $baseline "$library" -o $out/differential
-$cxx $flags -O2 host/benchmark.cpp $baseline "$library" -o $out/benchmark
+$cxx $flags -O2 host/example/example.cpp "$calls" -o $out/example
+$cxx $flags -O2 host/differential.cpp $baseline "$calls" "$program" -o $out/differential
+$cxx $flags -O2 host/benchmark.cpp $baseline "$calls" "$program" -o $out/benchmark
 $cxx $flags -O2 host/rows.cpp $baseline -o $out/rows
 echo "built example, differential, benchmark and rows in $out/"

@@ -1,8 +1,9 @@
 /* The 486 cache and bus unit, for a host in C (C11) or C++ (C++17). The rules are document 01's.
 
-   Link with target/staticlib/libhost.a, which `rt staticlib host` writes for x86-64. The unit keeps
-   nothing between calls: each works on what the caller lends it for the time of that call, so that calls
-   on different directories and buffers may run at the same time.
+   Link with target/staticlib/libhost.a, which `rt staticlib host` writes for x86-64; a host that calls
+   unit486_run links target/staticlib/libprogram.a too, which `rt staticlib program` writes. The unit
+   keeps nothing between calls: each works on what the caller lends it for the time of that call, so that
+   calls on different directories and buffers may run at the same time.
 
    VERSION. Before its first call a host compares unit486_version() with UNIT486_VERSION: an archive of
    another version may have another layout, and nothing below is said of it.
@@ -141,9 +142,9 @@ static_assert(sizeof(unit486_result) == 12, "layout of a result");
 /* A pointer and its length stand together below. */
 /* clang-format off */
 
-/* ---- The library's functions. tags and valid have 512 elements each, lru has 128. ---- */
+/* ---- The libraries' functions. tags and valid have 512 elements each, lru has 128. ---- */
 
-/* The library's UNIT486_VERSION. Every version has this call. */
+/* The UNIT486_VERSION of libhost.a. Every version has this call. */
 uint32_t unit486_version(void);
 
 /* A read of 1, 2 or 4 bytes, little-endian; they may lie in two doublewords or two lines. A miss fills its
@@ -209,9 +210,10 @@ uint32_t unit486_drop_line(unit486_directory *directory, uint32_t address);
    of a width other than 1, 2 and 4 has no upper doubleword. */
 void unit486_board_answers(uint32_t address, uint32_t width, uint8_t *answers);
 
-/* The event program on lines in memory: puts as much of the output as fits, answers its whole length
-   (at most UNIT486_OUTPUT_MOST). Bytes past the output are unchanged. The program's own RAM, parity and
-   data array and copies of the directory are on the stack, some 112 KB: give a thread 128 KB or more. */
+/* The event program on lines in memory, in libprogram.a: puts as much of the output as fits, answers its
+   whole length (at most UNIT486_OUTPUT_MOST). Bytes past the output are unchanged. The program's own RAM,
+   parity and data array and copies of the directory are on the stack, some 112 KB: give a thread 128 KB
+   or more. */
 size_t unit486_run(const uint8_t *input, size_t input_length, uint8_t *output, size_t output_length);
 
 #ifdef __cplusplus

@@ -18,7 +18,7 @@ use Rattle.refusal.specs.Refusal.{orElse, statesNumberOf, lentNumber, argumentN
 use Rattle.refusal.specs.Outcome.{outcome}
 use Rattle.access.specs.Access.{State, state, Progress, allOf, readOne, writeOne, after, refused, accepted, readNumber, writeNumber, readAll, writeAll, operandOf, readCall, writeCall}
 use Rattle.doubleword.specs.Cursor.{accessBegin, AccessNeeds}
-use Rattle.refusal.proofs.Accepted.{or-zero, zero-or, first-or, or-grouped, lent-accepted, arguments-accepted}
+use Rattle.refusal.proofs.Accepted.{or-zero, lent-accepted, arguments-accepted}
 use Rattle.access.proofs.AccessLoop.{restOf, AccessInvariant, access-invariant-begin, access-invariant-end}
 use Rattle.access.proofs.WriteLoop.{WriteKept}
 use Rattle.access.proofs.ReadLoop.{ReadKept, ReadInvariant, reading-begin, reading-end}
@@ -59,22 +59,24 @@ whole one xs p cursor d m array log log₀ value v z g ev =
     let e = access-invariant-end one xs cursor (state d m array) log z g in
     finished p d m array log log₀ value v (cursor .cycles) (e .0) (e .1) (e .2) ev
 
--- reads and writes: the input's number n, then the later one
-module _ (d : Directory) (m : Memory) (array : List ℕ) (address width : ℕ) (answers log : List ℕ) (n : ℕ)
-    (en : n ≡ orElse (lentNumber (length (m .ram)) (length (m .parity)) (length array)) (argumentNumber (length (m .ram)) address width answers (length log))) where
+-- reads and writes by the number that the code has asked for
+module _ (d : Directory) (m : Memory) (array : List ℕ) (address width : ℕ) (answers log : List ℕ) where
   abbrev s : State
   s = state d m array
 
-  -- a call whose number is the input's, or else a later one
-  numbered : (later : ℕ) → orElse (lentNumber (length (m .ram)) (length (m .parity)) (length array)) (orElse (argumentNumber (length (m .ram)) address width answers (length log)) later) ≡ orElse n later
-  numbered later = sym (or-grouped (lentNumber (length (m .ram)) (length (m .parity)) (length array)) (argumentNumber (length (m .ram)) address width answers (length log)) later) ∙ ap (λ (x : ℕ). orElse x later) (sym en)
+  abbrev lent : ℕ
+  lent = lentNumber (length (m .ram)) (length (m .parity)) (length array)
 
-  -- what the loops start with
-  pub needs-begin : n ≡ 0 → AccessNeeds (accessBegin address width) (length (m .ram)) (length (m .parity)) (length array) (length answers) (length log)
-  needs-begin z =
-      let p = or-zero (lentNumber (length (m .ram)) (length (m .parity)) (length array)) _ (sym en ∙ z) in
+  abbrev argument : ℕ
+  argument = argumentNumber (length (m .ram)) address width answers (length log)
+
+  -- what the loops start with, whatever number is asked for later
+  needs-begin : (later : ℕ) → orElse lent (orElse argument later) ≡ 0 →
+      AccessNeeds (accessBegin address width) (length (m .ram)) (length (m .parity)) (length array) (length answers) (length log)
+  needs-begin later z =
+      let p = or-zero lent (orElse argument later) z in
       let l = lent-accepted _ _ _ (p .0) in
-      let r = arguments-accepted _ _ _ answers _ (p .1) in
+      let r = arguments-accepted _ _ _ answers _ (or-zero argument later (p .1) .0) in
       record {
         inside = r .inside;
         whole = l .0 .whole;
@@ -90,72 +92,54 @@ module _ (d : Directory) (m : Memory) (array : List ℕ) (address width : ℕ) (
       }
 
   module _ (pcd : Bool) where
-    pub read-begin : n ≡ 0 → ReadKept pcd answers (allOf (readOne pcd) s (restOf (accessBegin address width) answers)) log array m (accessBegin address width) d array log 0
-    read-begin z = record { reading = reading-begin pcd answers (accessBegin address width) s log refl refl; needs = needs-begin z; arrays = refl; logs = refl }
+    abbrev readsNumber : ℕ
+    readsNumber = orElse lent (orElse argument (statesNumberOf d address width))
 
-    read-number : readNumber s address width answers log ≡ orElse n (statesNumberOf d address width)
+    pub read-begin : readsNumber ≡ 0 → ReadKept pcd answers (allOf (readOne pcd) s (restOf (accessBegin address width) answers)) log array m (accessBegin address width) d array log 0
+    read-begin z =
+        record {
+          reading = reading-begin pcd answers (accessBegin address width) s log refl refl;
+          needs = needs-begin (statesNumberOf d address width) z;
+          arrays = refl;
+          logs = refl;
+        }
+
+    pub read-turned : (k : ℕ) → k ≡ readsNumber → (k ≡ 0 → ⊥) → refused k s log ≡ readCall s address width pcd answers log
     unfolding readNumber
-    read-number = numbered (statesNumberOf d address width)
+    read-turned k e h = sym (rw (← e) at (read-refused s address width pcd answers log (λ z. h (e ∙ z))))
 
-    read-turned : (k : ℕ) → readNumber s address width answers log ≡ k → (k ≡ 0 → ⊥) → refused k s log ≡ readCall s address width pcd answers log
-    read-turned k e h = sym (rw e at (read-refused s address width pcd answers log (λ z. h (sym e ∙ z))))
-
-    pub read-input-refused : (n ≡ 0 → ⊥) → refused n s log ≡ readCall s address width pcd answers log
-    read-input-refused h = read-turned n (read-number ∙ first-or n _ h) h
-
-    module _ (z : n ≡ 0) (bad : ℕ) (eb : bad ≡ statesNumberOf d address width) where
-      pub read-state-refused : (bad ≡ 0 → ⊥) → refused bad s log ≡ readCall s address width pcd answers log
-      read-state-refused h = read-turned bad (read-number ∙ zero-or n _ z ∙ sym eb) h
-
-      pub read-accepted : bad ≡ 0 → readCall s address width pcd answers log ≡ accepted (valueOf (readAll s address width pcd answers .bytes)) (readAll s address width pcd answers) log
-      read-accepted b = read-done s address width pcd answers log (read-number ∙ zero-or n _ z ∙ sym eb ∙ b)
-
-      pub read-made : bad ≡ 0 → (cursor : AccessCursor) (d′ : Directory) (array′ log′ : List ℕ) (value : ℕ) → cursor .left ≡ 0 →
-          ReadInvariant pcd answers (allOf (readOne pcd) s (restOf (accessBegin address width) answers)) log cursor (state d′ m array′) log′ value →
-          after (outcome d′ 0 value (cursor .cycles)) m array′ log′ ≡ readCall s address width pcd answers log
-      unfolding readCall readAll restOf
-      read-made b cursor d′ array′ log′ value e g =
-          let p = allOf (readOne pcd) s (doublewordsOf groupCount answers address width 0) in
-          whole (readOne pcd) answers p cursor d′ m array′ log′ log value (valueOf (p .bytes)) e (g .invariant) (reading-end pcd answers cursor (state d′ m array′) log′ value e g)
-          ∙ sym (cond-true _ _ _ (eq-eqb _ 0 (read-number ∙ zero-or n _ z ∙ sym eb ∙ b)))
+    pub read-made : readsNumber ≡ 0 → (cursor : AccessCursor) (d′ : Directory) (array′ log′ : List ℕ) (value : ℕ) → cursor .left ≡ 0 →
+        ReadInvariant pcd answers (allOf (readOne pcd) s (restOf (accessBegin address width) answers)) log cursor (state d′ m array′) log′ value →
+        after (outcome d′ 0 value (cursor .cycles)) m array′ log′ ≡ readCall s address width pcd answers log
+    unfolding readCall readNumber readAll restOf
+    read-made z cursor d′ array′ log′ value e g =
+        let p = allOf (readOne pcd) s (doublewordsOf groupCount answers address width 0) in
+        whole (readOne pcd) answers p cursor d′ m array′ log′ log value (valueOf (p .bytes)) e (g .invariant) (reading-end pcd answers cursor (state d′ m array′) log′ value e g)
+        ∙ sym (cond-true _ _ _ (eq-eqb _ 0 z))
 
   module _ (value : ℕ) where
-    pub write-begin : n ≡ 0 → WriteKept (operandOf value) answers (allOf (writeOne (operandOf value)) s (restOf (accessBegin address width) answers)) log array m (accessBegin address width) d m array log
+    abbrev writesNumber : ℕ
+    writesNumber = orElse lent (orElse argument (orElse (valueNumber width value) (statesNumberOf d address width)))
+
+    pub write-begin : writesNumber ≡ 0 → WriteKept (operandOf value) answers (allOf (writeOne (operandOf value)) s (restOf (accessBegin address width) answers)) log array m (accessBegin address width) d m array log
     write-begin z =
         record {
           writing = access-invariant-begin (writeOne (operandOf value)) answers (accessBegin address width) s log refl;
-          needs = needs-begin z;
+          needs = needs-begin (orElse (valueNumber width value) (statesNumberOf d address width)) z;
           rams = refl;
           parities = refl;
           arrays = refl;
           logs = refl;
         }
 
-    write-number : writeNumber s address width value answers log ≡ orElse n (orElse (valueNumber width value) (statesNumberOf d address width))
+    pub write-turned : (k : ℕ) → k ≡ writesNumber → (k ≡ 0 → ⊥) → refused k s log ≡ writeCall s address width value answers log
     unfolding writeNumber
-    write-number = numbered (orElse (valueNumber width value) (statesNumberOf d address width))
+    write-turned k e h = sym (rw (← e) at (write-refused s address width value answers log (λ z. h (e ∙ z))))
 
-    write-turned : (k : ℕ) → writeNumber s address width value answers log ≡ k → (k ≡ 0 → ⊥) → refused k s log ≡ writeCall s address width value answers log
-    write-turned k e h = sym (rw e at (write-refused s address width value answers log (λ z. h (sym e ∙ z))))
-
-    pub write-input-refused : (n ≡ 0 → ⊥) → refused n s log ≡ writeCall s address width value answers log
-    write-input-refused h = write-turned n (write-number ∙ first-or n _ h) h
-
-    module _ (z : n ≡ 0) (large : ℕ) (el : large ≡ valueNumber width value) where
-      later : (k : ℕ) → orElse large (statesNumberOf d address width) ≡ k → writeNumber s address width value answers log ≡ k
-      later k e = write-number ∙ zero-or n _ z ∙ ap (λ (x : ℕ). orElse x (statesNumberOf d address width)) (sym el) ∙ e
-
-      pub write-value-refused : (large ≡ 0 → ⊥) → refused large s log ≡ writeCall s address width value answers log
-      write-value-refused h = write-turned large (later large (first-or large _ h)) h
-
-      module _ (l : large ≡ 0) (bad : ℕ) (eb : bad ≡ statesNumberOf d address width) where
-        pub write-state-refused : (bad ≡ 0 → ⊥) → refused bad s log ≡ writeCall s address width value answers log
-        write-state-refused h = write-turned bad (later bad (zero-or large _ l ∙ sym eb)) h
-
-        pub write-made : bad ≡ 0 → (cursor : AccessCursor) (d′ : Directory) (m′ : Memory) (array′ log′ : List ℕ) → cursor .left ≡ 0 →
-            AccessInvariant (writeOne (operandOf value)) answers (allOf (writeOne (operandOf value)) s (restOf (accessBegin address width) answers)) log cursor (state d′ m′ array′) log′ →
-            after (outcome d′ 0 0 (cursor .cycles)) m′ array′ log′ ≡ writeCall s address width value answers log
-        unfolding writeCall writeAll restOf
-        write-made b cursor d′ m′ array′ log′ e g =
-            whole (writeOne (operandOf value)) answers (allOf (writeOne (operandOf value)) s (doublewordsOf groupCount answers address width 0)) cursor d′ m′ array′ log′ log 0 0 e g refl
-            ∙ sym (cond-true _ _ _ (eq-eqb _ 0 (later 0 (zero-or large _ l ∙ sym eb ∙ b))))
+    pub write-made : writesNumber ≡ 0 → (cursor : AccessCursor) (d′ : Directory) (m′ : Memory) (array′ log′ : List ℕ) → cursor .left ≡ 0 →
+        AccessInvariant (writeOne (operandOf value)) answers (allOf (writeOne (operandOf value)) s (restOf (accessBegin address width) answers)) log cursor (state d′ m′ array′) log′ →
+        after (outcome d′ 0 0 (cursor .cycles)) m′ array′ log′ ≡ writeCall s address width value answers log
+    unfolding writeCall writeNumber writeAll restOf
+    write-made z cursor d′ m′ array′ log′ e g =
+        whole (writeOne (operandOf value)) answers (allOf (writeOne (operandOf value)) s (doublewordsOf groupCount answers address width 0)) cursor d′ m′ array′ log′ log 0 0 e g refl
+        ∙ sym (cond-true _ _ _ (eq-eqb _ 0 z))

@@ -3,6 +3,5 @@ pub mod Values
 pub mod AccessLoop
 pub mod ReadLoop
 pub mod WriteLoop
-pub mod InPlace
 pub mod Calls
 pub mod Bench

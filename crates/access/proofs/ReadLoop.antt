@@ -132,12 +132,12 @@ module _ {pcd : Bool} {xs : List ℕ} {p : Progress} {log₀ array₀ : List ℕ
         room place left r h = omega arith
 
     -- the next turn
-    pub kept-next : (count : ℕ) → count ≡ countOf cursor → (d′ : Directory) (value′ : ℕ) (u : AccessCursor) → d′ ≡ changed d (lineAddress cursor) change → value′ ≡ value + part * 256 ^ cursor .place →
+    pub kept-next : (line count : ℕ) → line ≡ lineAddress cursor → count ≡ countOf cursor → (d′ : Directory) (value′ : ℕ) (u : AccessCursor) → d′ ≡ changed d line change → value′ ≡ value + part * 256 ^ cursor .place →
         u ≡ accessNext cursor count n → length array′ ≡ length array → length log′ ≡ length log →
         ReadKept pcd xs p log₀ array₀ m u d′ array′ log′ value′
-    kept-next count ec d′ value′ u ed ev eu ea el =
+    kept-next line count en ec d′ value′ u ed ev eu ea el =
         record {
-          reading = reading-next pcd xs cursor d m array log value change part n d′ array′ log′ some kept-more k value′ count u (g .reading) ed ev ec eu;
+          reading = reading-next pcd xs cursor d m array log value change part n d′ array′ log′ some kept-more k value′ count u (g .reading) (rw en at ed) ev ec eu;
           needs = cursor-needs cursor u count n some ec eu _ _ _ _ _ (k .most) (g .needs);
           arrays = ea ∙ g .arrays;
           logs = el ∙ g .logs;

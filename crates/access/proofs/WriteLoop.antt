@@ -35,11 +35,11 @@ module _ {operand xs : List ℕ} {p : Progress} {log₀ array₀ : List ℕ} {m�
 
   -- the next turn
   pub kept-next : {change : Change} {n : ℕ} {m′ : Memory} {array′ log′ : List ℕ} → Writes done (cursor .cycles) log change n m′ array′ log′ →
-      (count : ℕ) → count ≡ countOf cursor → (d′ : Directory) (u : AccessCursor) → d′ ≡ changed d (lineAddress cursor) change → u ≡ accessNext cursor count n →
+      (line count : ℕ) → line ≡ lineAddress cursor → count ≡ countOf cursor → (d′ : Directory) (u : AccessCursor) → d′ ≡ changed d line change → u ≡ accessNext cursor count n →
       length (m′ .ram) ≡ length (m .ram) → length (m′ .parity) ≡ length (m .parity) → length array′ ≡ length array → length log′ ≡ length log →
       WriteKept operand xs p log₀ array₀ m₀ u d′ m′ array′ log′
-  kept-next {n = n} {m′ = m′} {array′ = array′} {log′ = log′} k count ec d′ u ed eu er ep ea el =
-      let c : d′ ≡ changed d (here .line) (done .change) = ed ∙ ap (changed d (here .line)) (k .changes) in
+  kept-next {n = n} {m′ = m′} {array′ = array′} {log′ = log′} k line count en ec d′ u ed eu er ep ea el =
+      let c : d′ ≡ changed d (here .line) (done .change) = (rw en at ed) ∙ ap (changed d (here .line)) (k .changes) in
       let es : state d′ m′ array′ ≡ next (state d m array) here done =
       ap (λ (x : Directory). state x m′ array′) c
       ∙ ap (λ (x : Memory). state (changed d (here .line) (done .change)) x array′) (k .memories)

@@ -1,14 +1,10 @@
-// Reads and writes, by value and in place: the calls for every input, and the doublewords of an accepted one in place.
-// RAM, parity array, data array, answers and log are lent by the caller.
-mod accepted;
+// Reads and writes, by value and in place. RAM, parity array, data array, answers and log are lent by the caller.
 mod read_call;
 mod reading_in_place;
 mod result;
 mod write_call;
 mod writing_in_place;
 
-pub use accepted::read_accepted;
-pub use accepted::write_accepted;
 pub use read_call::read;
 pub use reading_in_place::read_in_place;
 pub use result::CallResult;

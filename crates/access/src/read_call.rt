@@ -1,6 +1,8 @@
 // The read call by value.
 ghost use mathlib.Core.Path.{_≡_};
+ghost use lib.ListN.{length};
 ghost use Rattle.memory.specs.Parity.{memory};
+ghost use Rattle.refusal.specs.Refusal.{argumentNumber, lentNumber, orElse, statesNumberOf};
 ghost use Rattle.access.specs.Access.{after, readCall, state};
 use directory::Directory;
 use doubleword::AccessCursor;
@@ -9,11 +11,11 @@ use doubleword::changed_by;
 use reading::read_next;
 use reading::with_part;
 use refusal::Outcome;
-use refusal::input_number;
+use refusal::read_number;
 use refusal::refused;
-use refusal::states_number;
 
-pub fn read(
+// The doublewords of a read whose number is 0.
+fn read_all(
     mut given: Directory,
     ram: &[u8],
     parity: &[u8],
@@ -24,17 +26,11 @@ pub fn read(
     answers: &[u8],
     log: &mut [u32],
 ) -> Outcome
+    requires { ⌜ orElse (lentNumber (length (now ram)) (length (now parity)) (length (now «data»)))
+        (orElse (argumentNumber (length (now ram)) address width (now answers) (length (now log))) (statesNumberOf given address width)) ≡ 0 ⌝ }
     ensures { λ r. ⌜ after r (memory (now (ram .entry)) (now (parity .entry))) (now («data» .exit)) (now (log .exit))
         ≡ readCall (state given (memory (now (ram .entry)) (now (parity .entry))) (now («data» .entry))) address width pcd (now (answers .entry)) (now (log .entry)) ⌝ }
 {
-    let number = input_number(ram, parity, data, answers, log, address, width);
-    if number != 0 {
-        return refused(given, number);
-    }
-    let bad = states_number(&given.tags, &given.valid, &given.lru, address, width);
-    if bad != 0 {
-        return refused(given, bad);
-    }
     let mut value: u32 = 0;
     let mut cursor = AccessCursor::begin(address, width);
     while 0 < cursor.left {
@@ -64,4 +60,36 @@ pub fn read(
         value,
         cycles: cursor.cycles as u32,
     }
+}
+
+pub fn read(
+    given: Directory,
+    ram: &[u8],
+    parity: &[u8],
+    data: &mut [u8],
+    address: u32,
+    width: u32,
+    pcd: bool,
+    answers: &[u8],
+    log: &mut [u32],
+) -> Outcome
+    ensures { λ r. ⌜ after r (memory (now (ram .entry)) (now (parity .entry))) (now («data» .exit)) (now (log .exit))
+        ≡ readCall (state given (memory (now (ram .entry)) (now (parity .entry))) (now («data» .entry))) address width pcd (now (answers .entry)) (now (log .entry)) ⌝ }
+{
+    let number = read_number(
+        &given.tags,
+        &given.valid,
+        &given.lru,
+        ram,
+        parity,
+        data,
+        address,
+        width,
+        answers,
+        log,
+    );
+    if number != 0 {
+        return refused(given, number);
+    }
+    read_all(given, ram, parity, data, address, width, pcd, answers, log)
 }

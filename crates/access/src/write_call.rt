@@ -1,19 +1,20 @@
 // The write call by value.
 ghost use mathlib.Core.Path.{_≡_};
+ghost use lib.ListN.{length};
 ghost use Rattle.memory.specs.Parity.{memory};
+ghost use Rattle.refusal.specs.Refusal.{argumentNumber, lentNumber, orElse, statesNumberOf, valueNumber};
 ghost use Rattle.access.specs.Access.{after, state, writeCall};
 use directory::Directory;
 use doubleword::AccessCursor;
 use doubleword::Change;
 use doubleword::changed_by;
 use refusal::Outcome;
-use refusal::input_number;
 use refusal::refused;
-use refusal::states_number;
-use refusal::value_number;
+use refusal::write_number;
 use writing::write_next;
 
-pub fn write(
+// The doublewords of a write whose number is 0.
+fn write_all(
     mut given: Directory,
     ram: &mut [u8],
     parity: &mut [u8],
@@ -24,21 +25,11 @@ pub fn write(
     answers: &[u8],
     log: &mut [u32],
 ) -> Outcome
+    requires { ⌜ orElse (lentNumber (length (now ram)) (length (now parity)) (length (now «data»)))
+        (orElse (argumentNumber (length (now ram)) address width (now answers) (length (now log))) (orElse (valueNumber width value) (statesNumberOf given address width))) ≡ 0 ⌝ }
     ensures { λ r. ⌜ after r (memory (now (ram .exit)) (now (parity .exit))) (now («data» .exit)) (now (log .exit))
         ≡ writeCall (state given (memory (now (ram .entry)) (now (parity .entry))) (now («data» .entry))) address width value (now (answers .entry)) (now (log .entry)) ⌝ }
 {
-    let number = input_number(ram, parity, data, answers, log, address, width);
-    if number != 0 {
-        return refused(given, number);
-    }
-    let large = value_number(width, value);
-    if large != 0 {
-        return refused(given, large);
-    }
-    let bad = states_number(&given.tags, &given.valid, &given.lru, address, width);
-    if bad != 0 {
-        return refused(given, bad);
-    }
     let mut cursor = AccessCursor::begin(address, width);
     while 0 < cursor.left {
         let next = write_next(
@@ -66,4 +57,47 @@ pub fn write(
         value: 0,
         cycles: cursor.cycles as u32,
     }
+}
+
+pub fn write(
+    given: Directory,
+    ram: &mut [u8],
+    parity: &mut [u8],
+    data: &mut [u8],
+    address: u32,
+    width: u32,
+    value: u32,
+    answers: &[u8],
+    log: &mut [u32],
+) -> Outcome
+    ensures { λ r. ⌜ after r (memory (now (ram .exit)) (now (parity .exit))) (now («data» .exit)) (now (log .exit))
+        ≡ writeCall (state given (memory (now (ram .entry)) (now (parity .entry))) (now («data» .entry))) address width value (now (answers .entry)) (now (log .entry)) ⌝ }
+{
+    let number = write_number(
+        &given.tags,
+        &given.valid,
+        &given.lru,
+        ram,
+        parity,
+        data,
+        address,
+        width,
+        value,
+        answers,
+        log,
+    );
+    if number != 0 {
+        return refused(given, number);
+    }
+    write_all(
+        given,
+        ram,
+        parity,
+        data,
+        address,
+        width,
+        value,
+        answers,
+        log,
+    )
 }

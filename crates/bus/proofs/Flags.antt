@@ -1,17 +1,18 @@
 -- The flags of moved bytes, and a record's words in the log.
-use Prim.Native.Nat.{ℕ, zero, suc, _+_, _*_, _-_, _%_, _^_, _≤_, _<_}
-use mathlib.Core.Path.{_≡_, refl, sym, _∙_, ap}
+use Prim.Native.Nat.{ℕ, zero, suc, _+_, _*_, _^_, _≤_}
+use mathlib.Core.Path.{_≡_, refl}
 use mathlib.Core.List.{List, [], _∷_, _++_}
 use native.Mathlib.Omega.{arith}
-use native.Mathlib.Nat.{pow-suc, add-zero, zero-add, add-comm, one-mul, mod-eq-of-lt}
+use native.Mathlib.Nat.{pow-suc, add-zero, zero-add, add-comm}
 use lib.ListN.{length, set}
-use lib.Pow.{pow-pos, pow-mono, high-ones, shl-exact}
+use lib.Pow.{pow-pos, pow-mono}
 use lib.Seq.{sets}
 use Rattle.laws.proofs.Lists.{sets-append}
+use Rattle.words.specs.Bytes.{lanesMask}
 use Rattle.bus.specs.Record.{Record, lanesOf, wordsOf, logged}
 
 -- The flags of moved bytes by powers of two.
-pub lanes-power : (n lane : ℕ) → lanesOf lane n + 2 ^ lane ≡ 2 ^ (lane + n)
+lanes-power : (n lane : ℕ) → lanesOf lane n + 2 ^ lane ≡ 2 ^ (lane + n)
 unfolding lanesOf
 lanes-power zero lane = rw (add-zero lane, zero-add)
 lanes-power (suc n) lane =
@@ -27,16 +28,10 @@ lanes-below lane n h =
     let c : 2 ^ (lane + n) ≤ 2 ^ 4 = pow-mono h in
     omega arith
 
--- A 1 shifted in a number of so many bits.
-pub one-shl : (w n : ℕ) → n < w → 1 * 2 ^ n % 2 ^ w ≡ 2 ^ n
-one-shl w n h = shl-exact {a = 1} 1 n w (omega arith) (omega arith) ∙ one-mul (2 ^ n)
-
--- The flags of moved bytes by shifts of 32 bits.
-pub lanes-shifted : (lane n : ℕ) → lane + n ≤ 4 → (1 * 2 ^ n % 2 ^ 32 - 1) * 2 ^ lane % 2 ^ 32 ≡ lanesOf lane n
-lanes-shifted lane n h =
-    let e : 1 * 2 ^ n % 2 ^ 32 ≡ 2 ^ n = one-shl 32 n (omega arith) in
-    let f : (2 ^ n - 1) * 2 ^ lane ≡ lanesOf lane n = sym (high-ones n lane) ∙ ap (λ (k : ℕ). 2 ^ k - 2 ^ lane) (add-comm n lane) ∙ omega (arith, lanes-power n lane) in
-    rw (e, f) (mod-eq-of-lt (omega (arith, lanes-below lane n h)))
+-- They are the mask of these lanes.
+pub lanes-mask : (lane n : ℕ) → lanesOf lane n ≡ lanesMask lane n
+unfolding lanesMask
+lanes-mask lane n = rw (add-comm n lane) (omega (arith, lanes-power n lane))
 
 -- Three words put one after another.
 pub three-words : (l : List ℕ) (i a b c : ℕ) → set (set (set l i a) (i + 1) b) (i + 2) c ≡ sets l i (a ∷ b ∷ c ∷ [])

@@ -1,11 +1,15 @@
 -- Laws of sizing: how many of the wanted bytes a cycle moves.
-use Prim.Native.Nat.{ℕ, _+_, _-_, _/_, _%_, _≤_, _<_, min}
-use mathlib.Core.Path.{_≡_, _∙_}
-use mathlib.Core.Bool.{cond}
+use Prim.Native.Nat.{ℕ, suc, _+_, _-_, _/_, _%_, _^_, _≤_, _<_, min}
+use mathlib.Core.Path.{_≡_, refl, _∙_}
+use mathlib.Core.Bool.{cond, not, _&&_}
 use native.Mathlib.Omega.{arith}
-use native.Mathlib.Nat.{div-div-eq-div-mul}
-use borrow.Author.Tests.{eq-eqb, ne-eqb}
+use native.Mathlib.Nat.{div-div-eq-div-mul, pow-suc, add-comm}
+use native.Mathlib.Numerals.{add-one}
+use lib.Dec.{eqb}
+use borrow.Author.Tests.{eqb-true, eqb-false, eq-eqb, ne-eqb}
+use Rattle.laws.proofs.Below.{four}
 use Rattle.laws.proofs.Tests.{by-test, same-or}
+use Rattle.words.specs.Bytes.{lanesMask}
 use Rattle.bus.specs.Bus.{bs8, bs16, run, sizeLimit, sizeOf}
 
 limit-some : (x from : ℕ) → 0 < sizeLimit x from
@@ -59,3 +63,42 @@ size-one x from = let a = size-some x from 1 (omega arith) in let b = size-most 
 pub size-lane : (x a b count : ℕ) → a % 4 ≡ b % 4 → sizeOf x (run a count) ≡ sizeOf x (run b count)
 unfolding sizeOf sizeLimit
 size-lane x a b count e = let h : a % 2 ≡ b % 2 = omega arith in rw (e, h)
+
+-- MASKS OF LANES
+
+-- the mask of one lane
+pub mask-one : (lane : ℕ) → lanesMask lane 1 ≡ 2 ^ lane
+unfolding lanesMask
+mask-one lane = rw (add-comm 1 lane, add-one lane) (omega (arith, pow-suc 2 lane))
+
+-- a mask's lanes in the half of its lowest one: those of the lower half, or all where none lies there
+abbrev Half : ℕ → ℕ → Type 0
+Half lane n = let m = lanesMask lane (suc n) in lane + suc n ≤ 4 → cond (not (eqb (m % 4) 0)) (m % 4) m ≡ lanesMask lane (min (suc n) (2 - lane % 2))
+
+half-lanes : (lane n : ℕ) → Half lane n
+unfolding lanesMask
+half-lanes lane n l =
+    four (λ k. Half k n)
+    (four (Half 0) (λ _. refl) (λ _. refl) (λ _. refl) (λ _. refl) n (omega arith))
+    (four (Half 1) (λ _. refl) (λ _. refl) (λ _. refl) (λ h. absurd (omega arith)) n (omega arith))
+    (four (Half 2) (λ _. refl) (λ _. refl) (λ h. absurd (omega arith)) (λ h. absurd (omega arith)) n (omega arith))
+    (four (Half 3) (λ _. refl) (λ h. absurd (omega arith)) (λ h. absurd (omega arith)) (λ h. absurd (omega arith)) n (omega arith))
+    lane
+    (omega arith)
+    l
+
+-- no BS8#: the lanes that are moved, by the mask of those wanted
+pub moved-more : (x lane count m : ℕ) → (x / 2 % 2 ≡ 1 → ⊥) → 0 < count → lane + count ≤ 4 → m ≡ lanesMask lane count →
+    cond (bs16 x && not (eqb (m % 4) 0)) (m % 4) m ≡ lanesMask lane (sizeOf x (run lane count))
+moved-more x lane count m b some l w =
+    let e : suc (count - 1) ≡ count = omega arith in
+    by-test (λ t. bs16 x ≡ t → cond (t && not (eqb (m % 4) 0)) (m % 4) m ≡ lanesMask lane (sizeOf x (run lane count)))
+    (bs16 x)
+    (λ _ h.
+    let k = eqb-true (x / 4 % 2) 1 h in
+    rw (w, size-half x lane count (omega arith) (λ z. omega arith)) (rw e at (half-lanes lane (count - 1) (omega arith))))
+    (λ _ h. rw (w, size-whole x lane count (neither (x / 2) b (rw (div-div-eq-div-mul x 2 2) (eqb-false (x / 4 % 2) 1 h))) (omega arith)))
+    refl
+  where
+    neither : (y : ℕ) → (y % 2 ≡ 1 → ⊥) → (y / 2 % 2 ≡ 1 → ⊥) → y % 4 ≡ 0
+    neither y h k = omega arith

@@ -1,24 +1,20 @@
 // The sizing of a cycle.
 ghost use mathlib.Core.Path.{_≡_};
-ghost use Rattle.bus.specs.Bus.{run, sizeLimit, sizeOf};
+ghost use Prim.Native.Nat.{ℕ, _+_, _^_, _≤_, _<_};
+ghost use Rattle.words.specs.Bytes.{lanesMask};
+ghost use Rattle.bus.specs.Bus.{run, sizeOf};
 
-// The bytes that an answer lets a cycle move from an offset on.
-fn size_limit(answer: u8, from: usize) -> usize
-    ensures { λ r. ⌜ r ≡ sizeLimit answer from ⌝ }
+// The lanes that a cycle moves of those still wanted, by masks. lowest: the mask of the lowest wanted lane alone.
+pub fn moved_lanes(answer: u8, lowest: u32, wanted: u32) -> u32
+    ensures { λ r. ⌜ ((lane count : ℕ) → 0 < count → lane + count ≤ 4 → lowest ≡ 2 ^ lane → wanted ≡ lanesMask lane count
+        → r ≡ lanesMask lane (sizeOf answer (run lane count))) ⌝ }
 {
     if answer / 2 % 2 == 1 {
-        return 1;
+        return lowest;
     }
-    if answer / 4 % 2 == 1 {
-        return 2 - from % 2;
+    let lower_half = wanted % 4;
+    if (answer / 4 % 2 == 1) & (lower_half != 0) {
+        return lower_half;
     }
-    4 - from % 4
-}
-
-// How many of the wanted bytes a cycle moves.
-pub fn size_of(answer: u8, from: usize, count: usize) -> usize
-    ensures { λ r. ⌜ r ≡ sizeOf answer (run from count) ⌝ }
-{
-    let limit = size_limit(answer, from);
-    if count <= limit { count } else { limit }
+    wanted
 }

@@ -2,6 +2,6 @@
 mod cycle;
 mod record;
 
-pub use cycle::size_of;
+pub use cycle::moved_lanes;
 pub use record::flags_of;
 pub use record::put_record;

@@ -2,18 +2,10 @@
 ghost use mathlib.Core.Path.{_≡_};
 ghost use mathlib.Core.Bool.{cond};
 ghost use mathlib.Core.List.{[], _∷_};
-ghost use Prim.Native.Nat.{_+_, _*_, _≤_};
+ghost use Prim.Native.Nat.{ℕ, _+_, _*_, _≤_};
 ghost use lib.ListN.{length};
-ghost use Rattle.bus.specs.Record.{flagsOf, lanesOf, logged};
-
-// The flags of moved bytes: so many from a lane on. With no branch on either.
-fn lanes_of(lane: usize, count: usize) -> u32
-    requires { ⌜ lane + count ≤ 4 ⌝ }
-    ensures { λ r. ⌜ (r ≡ lanesOf lane count) × (r ≤ 15) ⌝ }
-{
-    let end: u32 = 1 << count;
-    (end - 1) << lane
-}
+ghost use Rattle.words.specs.Bytes.{lanesMask};
+ghost use Rattle.bus.specs.Record.{flagsOf, logged};
 
 fn flag_if(on: bool, flag: u32) -> u32
     ensures { λ r. ⌜ (r ≡ cond on flag 0) × (r ≤ flag) ⌝ }
@@ -21,12 +13,12 @@ fn flag_if(on: bool, flag: u32) -> u32
     if on { flag } else { 0 }
 }
 
-// The flags of a cycle. kind: 0 for a plain read, 16 for a write, 32 for a fill.
-pub fn flags_of(lane: usize, count: usize, kind: u32, last: bool, wrong: bool) -> u32
-    requires { ⌜ (lane + count ≤ 4) × (kind ≤ 32) ⌝ }
-    ensures { λ r. ⌜ r ≡ flagsOf lane count kind last wrong ⌝ }
+// The flags of a cycle. mask: the lanes that it moves; kind: 0 for a plain read, 16 for a write, 32 for a fill.
+pub fn flags_of(mask: u32, kind: u32, last: bool, wrong: bool) -> u32
+    requires { ⌜ (mask ≤ 15) × (kind ≤ 32) ⌝ }
+    ensures { λ r. ⌜ ((lane count : ℕ) → lane + count ≤ 4 → mask ≡ lanesMask lane count → r ≡ flagsOf lane count kind last wrong) ⌝ }
 {
-    lanes_of(lane, count) + kind + flag_if(last, 64) + flag_if(wrong, 128)
+    mask + kind + flag_if(last, 64) + flag_if(wrong, 128)
 }
 
 // A record at its place in the log.

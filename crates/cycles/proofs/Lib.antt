@@ -1,5 +1,6 @@
 -- Laws that several proofs cite.
 pub mod Parity
+pub mod Masks
 pub mod Made
 pub mod Records
 pub mod Loops

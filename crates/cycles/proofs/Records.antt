@@ -4,7 +4,7 @@ use mathlib.Core.Path.{_≡_, refl, sym, _∙_, ap}
 use mathlib.Core.Bool.{Bool, true, false, cond, not, _&&_}
 use mathlib.Core.List.{List, [], _∷_, map}
 use native.Mathlib.Omega.{arith}
-use native.Mathlib.Nat.{add-zero, zero-add, mod-eq-of-lt, mul-div-cancel}
+use native.Mathlib.Nat.{add-zero, zero-add, mod-eq-of-lt, mod-lt}
 use native.Mathlib.Decide.{decLe, decLt}
 use lib.Dec.{eqb}
 use lib.ListN.{length, getD, replicate, length-replicate}
@@ -37,15 +37,13 @@ unfolding partRecord
 part-blind kind address word held due w x b = refl
 
 -- the record of a cycle, from what its parts leave
-pub part-left : (kind address word held due lane count place : ℕ) (last : Bool) (log₀ : List ℕ) {flags moved : ℕ} {log : List ℕ} → 0 < count → lane + count ≤ 4 →
-    flags ≡ flagsOf lane count kind last (not (eqb (bitsIn held lane count) (bitsIn due lane count))) →
-    moved ≡ lanesWord word lane count →
+pub part-left : (kind address word held due lane count place : ℕ) (last : Bool) (log₀ : List ℕ) {flags moved : ℕ} {log : List ℕ} →
+    flags ≡ flagsOf (lane % 4) count kind last (not (eqb (bitsIn held (lane % 4) count) (bitsIn due (lane % 4) count))) →
+    moved ≡ lanesWord word (lane % 4) count →
     log ≡ logged log₀ place (record { address = address; flags = flags; word = moved } ∷ []) →
     log ≡ logged log₀ place (partRecord kind address word held due (moving lane count last) ∷ [])
 unfolding partRecord
-part-left kind address word held due lane count place last log₀ some l ef ed el =
-    let e : lane % 4 ≡ lane = omega arith in
-    rw e (el ∙ rw (ed, ef))
+part-left kind address word held due lane count place last log₀ ef ed el = el ∙ rw (ed, ef)
 
 -- only the lane matters that a run starts in
 pub part-lane : (kind address word held due : ℕ) (last : Bool) (xs : List ℕ) (a b count : ℕ) → a % 4 ≡ b % 4 →
@@ -64,13 +62,13 @@ part-lane kind address word held due last (x ∷ xs) a b count e =
     (λ _. refl)
     (λ _. rw (part-lane kind address word held due last xs (a + s) (b + s) (count - s) h)))
 
--- so what the code leaves for a lane, it leaves for each offset that lies in it
-pub part-from : (kind address word held due lane count : ℕ) → lane < 4 → (xs : List ℕ) (first used r : ℕ) (log₀ log : List ℕ) →
-    CyclesMade (partRecord kind address word held due) (runCycles true xs (run lane count)) first used log₀ r log →
-    (from : ℕ) → from % 4 ≡ lane → CyclesMade (partRecord kind address word held due) (cyclesOf xs (run from count ∷ [])) first used log₀ r log
-part-from kind address word held due lane count l xs first used r log₀ log k from e =
-    rw (cycles-alone xs (run from count))
-    (made-same _ _ _ _ first used r log₀ log (part-lane kind address word held due true xs lane from count (omega arith)) k)
+-- one cycle, where the board asks for no smaller size
+pub part-whole : (kind address word held due lane count : ℕ) → lane + count ≤ 4 → (xs : List ℕ) → 0 < length xs → getD xs 0 0 / 2 % 4 ≡ 0 → (first : ℕ) (log₀ log : List ℕ) →
+    log ≡ logged log₀ first (partRecord kind address word held due (moving lane count true) ∷ []) →
+    CyclesMade (partRecord kind address word held due) (runCycles true xs (run lane count)) first 0 log₀ 1 log
+part-whole kind address word held due lane count l xs some w first log₀ log el =
+    made-one (partRecord kind address word held due) (part-blind kind address word held due) true xs first lane count 0 log₀ log some
+    (size-whole (getD xs 0 0) lane count w (omega arith)) (rw (add-zero first) el)
 
 -- MAKERS THAT AGREE ON SOME BYTES
 
@@ -131,9 +129,10 @@ module _ (kind : ℕ) (ram parity : List ℕ) (line from count base : ℕ) (smal
       made-same _ _ _ _ first used r log₀ log
       (part-lane kind base _ _ _ last xs lane from count h ∙ read-records kind ram parity line from count base small al some l e last xs)
 
-  pub read-alone : CyclesMade numbers (cyclesOf xs (run from count ∷ [])) first used log₀ r log →
+  -- and with no other run, from the run of its lanes
+  pub read-alone : CyclesMade numbers (runCycles true xs (run (from % 4) count)) first used log₀ r log →
       CyclesMade (readRecord kind (memory ram parity) line) (cyclesOf xs (run from count ∷ [])) first used log₀ r log
-  read-alone = rw (cycles-alone xs (run from count)) (read-made from refl true)
+  read-alone = rw (cycles-alone xs (run from count)) (read-made (from % 4) (omega arith) true)
 
 -- WRITES
 
@@ -159,8 +158,11 @@ put-cases P n from bytes h i f g k =
       ]
     ]
 
--- the bytes of a number, sent in one doubleword of a line
-module _ (from count value : ℕ) (l : from % 4 + count ≤ 4) (short : from < 16) where
+-- lanes of a doubleword, sent to one of a line
+module _ (from count word : ℕ) (l : from % 4 + count ≤ 4) (short : from < 16) where
+  abbrev value : ℕ
+  value = lanesValue word (from % 4) count
+
   abbrev sent : List ℕ
   sent = sentLine from (bytesOf count value)
 
@@ -195,54 +197,47 @@ module _ (from count value : ℕ) (l : from % 4 + count ≤ 4) (short : from < 1
       ∙ rw z at (bytes-all (sets zeros lane bytes))
 
   -- the number in its lanes
-  sent-word : value < 256 ^ count → wordIn 0 (bytesAt sent low 4) ≡ value * 256 ^ (from % 4)
-  sent-word k =
+  sent-word : wordIn 0 (bytesAt sent low 4) ≡ lanesWord word (from % 4) count
+  unfolding lanesWord lanesValue
+  sent-word =
       let n = of-length count value in
       word-of-all sent low ∙ ap valueOf sent-doubleword ∙ word-in (from % 4) (bytesOf count value) (rw n l)
-      ∙ rw (value-of-bytes count value, mod-eq-of-lt k)
+      ∙ rw (value-of-bytes count value, mod-eq-of-lt (mod-lt (word / 256 ^ (from % 4)) (powers-some count)))
 
-  -- a cycle that sends some of them
-  pub write-part : (line : ℕ) → value < 256 ^ count →
-      Agree (partRecord writeKind (line + low) (value * 256 ^ (from % 4)) 0 0) (writeRecord sent line) low (low + 4)
-  unfolding partRecord writeRecord
-  write-part line k c a some b =
-      let at = c .moved .from in
-      let size = c .moved .count in
-      let e : at / 4 * 4 ≡ low = omega arith in
-      let h : at % 4 + size ≤ 4 = omega arith in
-      let p : at ≡ low + at % 4 = omega arith in
-      let w : wordIn (at % 4) (bytesAt sent at size) ≡ lanesWord (value * 256 ^ (from % 4)) (at % 4) size =
-      ap (λ (i : ℕ). wordIn (at % 4) (bytesAt sent i size)) p ∙ word-in-lanes sent sent-small low (at % 4) size h ∙ rw (sent-word k) in
-      rw (e, w, eq-eqb (bitsIn 0 (at % 4) size) (bitsIn 0 (at % 4) size) refl)
+  -- what the code leaves from a doubleword that has no other lanes is what a write leaves
+  module _ (own : word ≡ lanesWord word (from % 4) count) (some : 0 < count) (line : ℕ) where
+    abbrev sending : Cycle → Record
+    sending = partRecord writeKind (line + low) word 0 0
 
-  -- the records of a write
-  pub write-records : (line : ℕ) → 0 < count → value < 256 ^ count → (xs : List ℕ) →
-      map (partRecord writeKind (line + low) (value * 256 ^ (from % 4)) 0 0) (cyclesOf xs (run from count ∷ [])) ≡ map (writeRecord sent line) (cyclesOf xs (run from count ∷ []))
-  write-records line some k xs =
-      rw (cycles-alone xs (run from count))
-      (agree-run _ _ low (low + 4) (write-part line k) true xs from count (omega arith) some (omega arith))
+    -- a cycle that sends some of them
+    write-part : Agree sending (writeRecord sent line) low (low + 4)
+    unfolding partRecord writeRecord
+    write-part c a some b =
+        let at = c .moved .from in
+        let size = c .moved .count in
+        let e : at / 4 * 4 ≡ low = omega arith in
+        let h : at % 4 + size ≤ 4 = omega arith in
+        let p : at ≡ low + at % 4 = omega arith in
+        let w : wordIn (at % 4) (bytesAt sent at size) ≡ lanesWord word (at % 4) size =
+        ap (λ (i : ℕ). wordIn (at % 4) (bytesAt sent i size)) p ∙ word-in-lanes sent sent-small low (at % 4) size h ∙ ap (λ (v : ℕ). lanesWord v (at % 4) size) (sent-word ∙ sym own) in
+        rw (e, w, eq-eqb (bitsIn 0 (at % 4) size) (bitsIn 0 (at % 4) size) refl)
 
-  -- what the code leaves from a number is what a write leaves
-  pub write-made : (line : ℕ) → 0 < count → value < 256 ^ count → (xs : List ℕ) (first used r : ℕ) (log₀ log : List ℕ) →
-      CyclesMade (partRecord writeKind (line + low) (value * 256 ^ (from % 4)) 0 0) (cyclesOf xs (run from count ∷ [])) first used log₀ r log →
-      CyclesMade (writeRecord sent line) (cyclesOf xs (run from count ∷ [])) first used log₀ r log
-  write-made line some k xs first used r log₀ log = made-same _ _ _ _ first used r log₀ log (write-records line some k xs)
+    pub write-made : (xs : List ℕ) (first used r : ℕ) (log₀ log : List ℕ) → CyclesMade sending (runCycles true xs (run (from % 4) count)) first used log₀ r log →
+        CyclesMade (writeRecord sent line) (cyclesOf xs (run from count ∷ [])) first used log₀ r log
+    write-made xs first used r log₀ log =
+        rw (cycles-alone xs (run from count))
+        (made-same _ _ _ _ first used r log₀ log
+        (part-lane writeKind (line + low) word 0 0 true xs (from % 4) from count (omega arith)
+        ∙ agree-run _ _ low (low + 4) write-part true xs from count (omega arith) some (omega arith)))
 
-  -- the lanes of a number in its place are all that it has
-  own-lanes : value < 256 ^ count → value * 256 ^ (from % 4) ≡ lanesWord (value * 256 ^ (from % 4)) (from % 4) count
-  unfolding lanesWord lanesValue
-  own-lanes k = rw (mul-div-cancel value (powers-some (from % 4)), mod-eq-of-lt k)
-
-  -- one cycle, where the board asks for no smaller size
-  pub write-whole : (line : ℕ) → 0 < count → value < 256 ^ count → (xs : List ℕ) → 0 < length xs → getD xs 0 0 / 2 % 4 ≡ 0 → (first : ℕ) (log₀ log : List ℕ) {flags word : ℕ} →
-      flags ≡ flagsOf (from % 4) count writeKind true false → word ≡ value * 256 ^ (from % 4) →
-      log ≡ logged log₀ first (record { address = line + low; flags = flags; word = word } ∷ []) →
-      CyclesMade (writeRecord sent line) (cyclesOf xs (run from count ∷ [])) first 0 log₀ 1 log
-  write-whole line some k xs some-answer w first log₀ log {flags} ef ew el =
-      let lane = from % 4 in
-      let v = value * 256 ^ lane in
-      let f : lane % 4 + count ≤ 4 = omega arith in
-      let same : flags ≡ flagsOf lane count writeKind true (not (eqb (bitsIn 0 lane count) (bitsIn 0 lane count))) = ef ∙ rw (eq-eqb (bitsIn 0 lane count) (bitsIn 0 lane count) refl) in
-      let put = part-left writeKind (line + low) v 0 0 lane count first true log₀ some l same (ew ∙ own-lanes k) el in
-      let made = made-one (partRecord writeKind (line + low) v 0 0) (part-blind writeKind (line + low) v 0 0) true xs first lane count 0 log₀ log some-answer (size-whole (getD xs 0 0) lane count w f) (rw (add-zero first) put) in
-      write-made line some k xs first 0 1 log₀ log (part-from writeKind (line + low) v 0 0 lane count (omega arith) xs first 0 1 log₀ log made from refl)
+    -- one cycle, where the board asks for no smaller size
+    pub write-whole : (xs : List ℕ) → 0 < length xs → getD xs 0 0 / 2 % 4 ≡ 0 → (first : ℕ) (log₀ log : List ℕ) {flags : ℕ} →
+        flags ≡ flagsOf (from % 4) count writeKind true false →
+        log ≡ logged log₀ first (record { address = line + low; flags = flags; word = word } ∷ []) →
+        CyclesMade (writeRecord sent line) (cyclesOf xs (run from count ∷ [])) first 0 log₀ 1 log
+    write-whole xs answered w first log₀ log {flags} ef el =
+        let lane = from % 4 in
+        let e : lane % 4 ≡ lane = omega arith in
+        let same : flags ≡ flagsOf lane count writeKind true (not (eqb (bitsIn 0 lane count) (bitsIn 0 lane count))) = ef ∙ rw (eq-eqb (bitsIn 0 lane count) (bitsIn 0 lane count) refl) in
+        let put = part-left writeKind (line + low) word 0 0 lane count first true log₀ (rw e same) (rw e own) el in
+        write-made xs first 0 1 log₀ log (part-whole writeKind (line + low) word 0 0 lane count l xs answered w first log₀ log put)

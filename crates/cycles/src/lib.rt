@@ -9,6 +9,5 @@ mod whole;
 mod write;
 
 pub use fill::fill_cycles;
-pub use part::part_cycles;
 pub use plain::plain_cycles;
 pub use write::write_cycles;

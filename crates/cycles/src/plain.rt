@@ -8,7 +8,9 @@ ghost use Rattle.bus.specs.Record.{plainKind, readRecord};
 ghost use Rattle.cycles.specs.Made.{CyclesMade};
 ghost use Rattle.cycles.specs.Parts.{LineNeeds};
 use crate::lanes::due_bits;
-use crate::part::part_cycles;
+use crate::lanes::put_part;
+use crate::part::sized_cycles;
+use words::lanes_mask;
 use words::word_at;
 
 // The cycles of so many bytes of a doubleword, from an offset of a line on. first: the place of the first record in the log. Answers
@@ -30,14 +32,20 @@ pub fn plain_cycles(
     let word = word_at(&ram[..], base);
     let held = parity[base / 4];
     let due = due_bits(&ram[..], base);
-    part_cycles(
+    let lane = from % 4;
+    if answers[0] / 2 % 4 == 0 {
+        let mask = lanes_mask(lane, count);
+        put_part(log, first, base as u32, word, held, due, mask, 0, true);
+        return 1;
+    }
+    sized_cycles(
         &answers[..],
         log,
         base as u32,
         word,
         held,
         due,
-        from % 4,
+        lane,
         count,
         first,
         0,

@@ -26,11 +26,11 @@ fn upper_half(
 {
     let next = used + 1;
     if answers[used] / 2 % 2 == 0 {
-        put_part(log, first + used, base, word, held, due, 2, 2, 32, last);
+        put_part(log, first + used, base, word, held, due, 12, 32, last);
         return next;
     }
-    put_part(log, first + used, base, word, held, due, 2, 1, 32, false);
-    put_part(log, first + next, base, word, held, due, 3, 1, 32, last);
+    put_part(log, first + used, base, word, held, due, 4, 32, false);
+    put_part(log, first + next, base, word, held, due, 8, 32, last);
     next + 1
 }
 
@@ -52,19 +52,19 @@ pub fn whole_cycles(
     let answer = answers[used];
     let next = used + 1;
     if answer / 2 % 4 == 0 {
-        put_part(log, first + used, base, word, held, due, 0, 4, 32, last);
+        put_part(log, first + used, base, word, held, due, 15, 32, last);
         return next;
     }
     if answer / 2 % 2 == 0 {
-        put_part(log, first + used, base, word, held, due, 0, 2, 32, false);
+        put_part(log, first + used, base, word, held, due, 3, 32, false);
         return upper_half(&answers[..], log, base, word, held, due, next, first, last);
     }
-    put_part(log, first + used, base, word, held, due, 0, 1, 32, false);
+    put_part(log, first + used, base, word, held, due, 1, 32, false);
     let then = next + 1;
     if answers[next] / 2 % 4 == 0 {
-        put_part(log, first + next, base, word, held, due, 1, 3, 32, last);
+        put_part(log, first + next, base, word, held, due, 14, 32, last);
         return then;
     }
-    put_part(log, first + next, base, word, held, due, 1, 1, 32, false);
+    put_part(log, first + next, base, word, held, due, 2, 32, false);
     upper_half(&answers[..], log, base, word, held, due, then, first, last)
 }

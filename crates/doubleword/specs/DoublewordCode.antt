@@ -32,3 +32,9 @@ abbrev pub BelowFour : Change → Type 0
 BelowFour Unchanged = Unit {0}
 BelowFour (Use way) = way < 4
 BelowFour (Fill way) = way < 4
+
+-- A change that is no fill.
+abbrev pub NoFill : Change → Type 0
+NoFill Unchanged = Unit {0}
+NoFill (Use way) = Unit {0}
+NoFill (Fill way) = ⊥

@@ -1,10 +1,11 @@
 // What a doubleword wants, and what it does to the directory.
 ghost use mathlib.Core.Path.{_≡_};
 ghost use mathlib.Core.Bool.{Bool};
-ghost use Prim.Native.Nat.{_+_, _≤_, _<_};
+ghost use mathlib.Core.List.{List};
+ghost use Prim.Native.Nat.{ℕ, _+_, _≤_, _<_};
 ghost use Rattle.directory.specs.Steps.{directoryOf};
 ghost use Rattle.doubleword.specs.Doubleword.{changed, dataOffset};
-ghost use Rattle.doubleword.specs.DoublewordCode.{BelowFour};
+ghost use Rattle.doubleword.specs.DoublewordCode.{BelowFour, NoFill};
 use directory::Directory;
 
 // What a doubleword does to the directory: nothing, a use of a way, or a kept fill of a way.
@@ -67,5 +68,18 @@ pub fn change_in_place(
                 ways::tag_of(line),
             )
         }
+    }
+}
+
+// The same of lent LRU numbers alone, for a change that is no fill.
+pub fn change_lru_in_place(lru: &mut [u8; 128], line: u32, change: Change)
+    requires { ⌜ BelowFour change × NoFill change ⌝ }
+    ensures { λ _. ⌜ ((tags : List ℕ) (valid : List Bool) (cd nw : Bool) → directoryOf tags valid (now (lru .exit)) cd nw
+        ≡ changed (directoryOf tags valid (now (lru .entry)) cd nw) line change) ⌝ }
+{
+    match change {
+        Change::Unchanged => {}
+        Change::Use(way) => steps_in_place::use_in_place(lru, ways::set_of(line), way),
+        Change::Fill(way) => {}
     }
 }

@@ -13,15 +13,12 @@ ghost use Rattle.fields.specs.Fields.{pairBytes};
 ghost use Rattle.events.specs.Perform.{accessEvent, lineDone, performed, zeroLog};
 use access::CallResult;
 use access::number_only;
-use access::read_accepted;
-use access::write_accepted;
+use access::read_in_place;
+use access::write_in_place;
 use fields::pair_bytes;
 use lines::Event;
 use lines::scan;
 use masters::external_write_in_place;
-use refusal::input_number;
-use refusal::states_number;
-use refusal::value_number;
 use steps_in_place::control_in_place;
 use steps_in_place::flush_in_place;
 use steps_in_place::reset_in_place;
@@ -136,15 +133,7 @@ fn perform_read<'a>(
 {
     let answers = board::board_answers(address, width);
     let mut log = [0u32; 96];
-    let number = input_number(ram, parity, data, &answers, &log, address, width);
-    if number != 0 {
-        return number_only(number);
-    }
-    let bad = states_number(tags, valid, lru, address, width);
-    if bad != 0 {
-        return number_only(bad);
-    }
-    read_accepted(
+    read_in_place(
         tags,
         valid,
         lru,
@@ -180,19 +169,7 @@ fn perform_write<'a>(
 {
     let answers = board::board_answers(address, width);
     let mut log = [0u32; 96];
-    let number = input_number(ram, parity, data, &answers, &log, address, width);
-    if number != 0 {
-        return number_only(number);
-    }
-    let large = value_number(width, value);
-    if large != 0 {
-        return number_only(large);
-    }
-    let bad = states_number(tags, valid, lru, address, width);
-    if bad != 0 {
-        return number_only(bad);
-    }
-    write_accepted(
+    write_in_place(
         tags,
         valid,
         lru,

@@ -1,12 +1,13 @@
 // The unit as a host calls it: what a C program links (host/include/unit486.h). Each runs a call of a crate below under an
 // exported name, and its contract cites the same definition.
+mod answers;
 mod by_value;
 mod in_place;
-mod program;
 mod thin;
 mod version;
 mod view;
 
+pub use answers::unit486_board_answers;
 pub use by_value::unit486_control_by_value;
 pub use by_value::unit486_reset_by_value;
 pub use in_place::unit486_control_in_place;
@@ -16,8 +17,6 @@ pub use in_place::unit486_read_in_place;
 pub use in_place::unit486_reset_in_place;
 pub use in_place::unit486_snoop_in_place;
 pub use in_place::unit486_write_in_place;
-pub use program::unit486_board_answers;
-pub use program::unit486_run;
 pub use thin::unit486_drop_line;
 pub use version::unit486_version;
 pub use view::unit486_view_in_place;

@@ -3,14 +3,15 @@ use Prim.Native.Nat.{ℕ, zero, suc, _+_, _*_, _-_, _/_, _%_, _^_, _≤_, _<_}
 use mathlib.Core.Path.{_≡_, refl, sym, _∙_, ap}
 use mathlib.Core.List.{List, [], _∷_}
 use native.Mathlib.Omega.{arith}
-use native.Mathlib.Nat.{add-zero, add-comm, one-mul, lt-of-le-of-lt, div-mul-le-self, add-mul, mul-assoc, mul-comm, pow-suc, mod-lt, mod-eq-of-lt, div-lt-iff-lt-mul}
+use native.Mathlib.Nat.{add-zero, add-comm, add-mul, mul-assoc, mul-comm, pow-suc, mod-lt, mod-eq-of-lt, div-lt-iff-lt-mul}
 use lib.Arith.{digits-lt, digits-div, digits-mod}
+use lib.Bits.{bitAnd, and-high}
 use lib.ListN.{length, getD, set, length-set}
-use lib.Pow.{pow-pos, pow-mono, pow-add, shl-exact, shr-shr}
+use lib.Pow.{pow-pos, pow-add, mod-mod-pow, mod-pow-add, split, shr-shr}
 use lib.Seq.{sets, set-set, set-getD, getD-set-same}
-use Rattle.words.specs.Bytes.{bytesOf}
+use Rattle.words.specs.Bytes.{bytesOf, lanesMask, lanesValue, lanesWord}
 use Rattle.words.proofs.Numbers.{of-length}
-use Rattle.words.proofs.Parts.{bytes-shifted}
+use Rattle.words.proofs.Parts.{powers-some}
 use Rattle.memory.specs.Parity.{Memory, memory, onesOf, dpOf, dpsOf, withDp, put, stored}
 use Rattle.memory.proofs.Bits.{dp-below}
 
@@ -77,25 +78,29 @@ bits-placed lane count v h k =
 abbrev pub withPart : ℕ → ℕ → ℕ → ℕ → ℕ
 withPart p lane n bits = p % 2 ^ lane + bits + p % 16 / 2 ^ (lane + n) * 2 ^ (lane + n)
 
--- what shifts make of it
-module _ (p lane count bits : ℕ) (h : lane + count ≤ 4) (k : bits < 16) where
-  abbrev pub shiftedPart : ℕ
-  shiftedPart = p % (1 * 2 ^ lane % 2 ^ 8) + bits + p % 16 / 2 ^ (lane + count) * 2 ^ (lane + count) % 2 ^ 8
+-- what a mask makes of it
+module _ (p lane count bits mask : ℕ) (h : lane + count ≤ 4) (is : mask ≡ lanesMask lane count) where
+  -- the lanes that the mask takes
+  taken : bitAnd p mask ≡ p / 2 ^ lane % 2 ^ count * 2 ^ lane
+  unfolding lanesMask
+  taken = rw is (and-high p count lane)
 
-  pub one-up : 1 * 2 ^ lane % 2 ^ 8 ≡ 2 ^ lane
-  one-up = shl-exact {a = 1} 1 lane 8 (omega arith) (omega arith) ∙ one-mul (2 ^ lane)
+  -- the lanes above these, these, and those below
+  in-three : p % 16 ≡ p % 16 / 2 ^ (lane + count) * 2 ^ (lane + count) + (bitAnd p mask + p % 2 ^ lane)
+  in-three =
+      let k = count + lane in
+      let e : 16 ≡ 2 ^ (4 - k + k) = ap (λ (n : ℕ). 2 ^ n) (whole lane count h) in
+      let f : p % 16 % 2 ^ k ≡ p % 2 ^ k = ap (λ (n : ℕ). p % n % 2 ^ k) e ∙ mod-mod-pow p (4 - k) k in
+      rw (taken, add-comm lane count, ← mod-pow-add p count lane, ← f) (sym (split (p % 16) k))
+    where
+      whole : (lane count : ℕ) → lane + count ≤ 4 → 4 ≡ 4 - (count + lane) + (count + lane)
+      whole lane count h = omega arith
 
-  pub shifted-part : shiftedPart ≡ withPart p lane count bits
-  shifted-part =
-      let q = 2 ^ (lane + count) in
-      let e : p % 16 / q * q % 2 ^ 8 ≡ p % 16 / q * q = mod-eq-of-lt (lt-of-le-of-lt (div-mul-le-self (p % 16) q) (omega arith)) in
-      rw (one-up, e)
+  pub masked-below : bitAnd p mask ≤ p % 16
+  masked-below = omega (arith, in-three)
 
-  pub shifted-below : shiftedPart < 256
-  shifted-below =
-      let q = 2 ^ (lane + count) in
-      let l : 2 ^ lane ≤ 2 ^ 4 = pow-mono {i = lane} {j = 4} (omega arith) in
-      rw shifted-part (omega (arith, div-mul-le-self (p % 16) q, mod-lt p (pow-pos lane)))
+  pub masked-part : p % 16 - bitAnd p mask + bits ≡ withPart p lane count bits
+  masked-part = omega (arith, in-three)
 
 -- one lane replaced, then those above it
 module _ (p lane d : ℕ) (h : lane < 4) (k : d < 2) where
@@ -168,23 +173,19 @@ in-one m i lane (b ∷ bytes) h k =
     let next = in-one (memory (set (m .ram) a b) (set (m .parity) i q)) i (suc lane) bytes (omega arith) (rw length-set k) in
     rw (e, f, g) (rw (getD-set-same (m .parity) i q 0 k, set-set) at next)
 
--- A NUMBER STORED
+-- LANES STORED
 
-module _ (m : Memory) (a count v bits : ℕ) (some : 0 < count) (h : a % 4 + count ≤ 4) (k : v < 256 ^ count) (room : a / 4 < length (m .parity)) (is : bits ≡ dpsOf (bytesOf 4 (v * 2 ^ (8 * (a % 4)) % 2 ^ 32))) where
-  in-place : bits ≡ dpsOf (bytesOf count v) * 2 ^ (a % 4)
-  in-place = is ∙ rw (bytes-shifted 32 v count (a % 4) k (omega arith)) (bits-placed (a % 4) count v h k)
+-- the parity byte with the bits of the lanes of a doubleword replaced, whose other lanes are 0
+module _ (m : Memory) (base lane count word bits : ℕ) (some : 0 < count) (h : lane + count ≤ 4) (al : base % 4 ≡ 0) (room : base / 4 < length (m .parity))
+    (is : word ≡ lanesWord word lane count) (own : bits ≡ dpsOf (bytesOf 4 word)) where
+  in-place : bits ≡ dpsOf (bytesOf count (lanesValue word lane count)) * 2 ^ lane
+  unfolding lanesWord lanesValue
+  in-place = own ∙ ap (λ (w : ℕ). dpsOf (bytesOf 4 w)) is ∙ bits-placed lane count (lanesValue word lane count) h (mod-lt _ (powers-some count))
 
-  -- the parity byte with the bits of the number's lanes replaced
-  pub value-stored : memory (sets (m .ram) a (bytesOf count v)) (set (m .parity) (a / 4) (withPart (getD (m .parity) (a / 4) 0) (a % 4) count bits)) ≡ stored m a (bytesOf count v)
-  value-stored =
-      let e : 4 * (a / 4) + a % 4 ≡ a = omega arith in
-      rw (in-place, ← number-at-once (getD (m .parity) (a / 4) 0) (a % 4) count v some h)
-      (rw e at (in-one m (a / 4) (a % 4) (bytesOf count v) (rw (of-length count v) h) room))
-
-  -- a whole doubleword: nothing of the old parity byte is left
-  pub whole-stored : count ≡ 4 → memory (sets (m .ram) a (bytesOf count v)) (set (m .parity) (a / 4) bits) ≡ stored m a (bytesOf count v)
-  whole-stored e =
-      let z : a % 4 ≡ 0 = omega arith in
-      let p = getD (m .parity) (a / 4) 0 in
-      let f : withPart p (a % 4) count bits ≡ bits = rw (z, e) (omega arith) in
-      rw f at value-stored
+  pub lanes-stored : memory (sets (m .ram) (base + lane) (bytesOf count (lanesValue word lane count))) (set (m .parity) (base / 4) (withPart (getD (m .parity) (base / 4) 0) lane count bits))
+      ≡ stored m (base + lane) (bytesOf count (lanesValue word lane count))
+  lanes-stored =
+      let e : 4 * (base / 4) ≡ base = omega arith in
+      let v = lanesValue word lane count in
+      rw (in-place, ← number-at-once (getD (m .parity) (base / 4) 0) lane count v some h)
+      (rw e at (in-one m (base / 4) lane (bytesOf count v) (rw (of-length count v) h) room))

@@ -3,4 +3,4 @@ mod parity;
 
 pub use parity::dp_bits;
 pub use parity::store_bytes;
-pub use parity::store_value;
+pub use parity::store_lanes;

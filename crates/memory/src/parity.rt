@@ -2,11 +2,12 @@
 ghost use mathlib.Core.Path.{_≡_};
 ghost use Prim.Native.Nat.{_+_, _*_, _/_, _%_, _^_, _≤_, _<_};
 ghost use lib.ListN.{length};
-ghost use Rattle.words.specs.Bytes.{bytesAt, bytesOf};
+ghost use Rattle.words.specs.Bytes.{bytesAt, bytesOf, lanesValue, lanesWord};
 ghost use Rattle.memory.specs.Parity.{dpOf, dpsOf, memory, put, stored, withDp};
 use words::bytes_of;
 use words::copy_bytes;
-use words::put_value;
+use words::lanes_mask;
+use words::put_lanes;
 
 // The DP bit of a byte.
 fn dp_bit(b: u8) -> u8
@@ -125,26 +126,26 @@ fn with_bits(p: u8, lane: usize, count: usize, bits: u8) -> u8
     requires { ⌜ (0 < count) × (lane + count ≤ 4) × (bits < 16) ⌝ }
     ensures { λ r. ⌜ r ≡ p % 2 ^ lane + bits + p % 16 / 2 ^ (lane + count) * 2 ^ (lane + count) ⌝ }
 {
-    let top = lane + count;
-    let end: u8 = 1 << lane;
-    let above = p % 16 >> top << top;
-    p % end + bits + above
+    let mask = lanes_mask(lane, count) as u8;
+    p % 16 - (p & mask) + bits
 }
 
-// So many bytes of a number put into one aligned doubleword of RAM with their parity, in registers. The bytes of the number below
-// and above those moved are 0, and so are their bits.
-pub fn store_value(ram: &mut [u8], parity: &mut [u8], a: usize, count: usize, value: u32)
-    requires { ⌜ (0 < count) × (a % 4 + count ≤ 4) × (value < 256 ^ count) × (a / 4 * 4 + 4 ≤ length (now ram)) × (a / 4 * 4 + 4 ≤ 4 * length (now parity)) ⌝ }
-    ensures { λ _. ⌜ memory (now (ram .exit)) (now (parity .exit)) ≡ stored (memory (now (ram .entry)) (now (parity .entry))) a (bytesOf count value) ⌝ }
+// So many lanes of a doubleword, from a lane on, put into RAM at an address of four bytes, with their parity. The other lanes of the
+// doubleword are 0, and so are their bits.
+pub fn store_lanes(
+    ram: &mut [u8],
+    parity: &mut [u8],
+    base: usize,
+    lane: usize,
+    count: usize,
+    word: u32,
+)
+    requires { ⌜ (0 < count) × (lane + count ≤ 4) × (base % 4 ≡ 0) × (base + 4 ≤ length (now ram)) × (base + 4 ≤ 4 * length (now parity)) × (word ≡ lanesWord word lane count) ⌝ }
+    ensures { λ _. ⌜ memory (now (ram .exit)) (now (parity .exit)) ≡ stored (memory (now (ram .entry)) (now (parity .entry))) (base + lane) (bytesOf count (lanesValue word lane count)) ⌝ }
 {
-    let lane = a % 4;
-    let bits = value_bits(value << (8 * lane));
-    put_value(ram, a, count, value);
-    let i = a / 4;
-    if count == 4 {
-        parity[i] = bits;
-    } else {
-        let old = parity[i];
-        parity[i] = with_bits(old, lane, count, bits);
-    }
+    let bits = value_bits(word);
+    put_lanes(ram, base, lane, count, word);
+    let i = base / 4;
+    let old = parity[i];
+    parity[i] = with_bits(old, lane, count, bits);
 }

@@ -1,6 +1,6 @@
 -- What the accepted case of a call knows: number 0 turned into facts.
 use Prim.Native.Nat.{ℕ, _+_, _*_, _/_, _%_, _≤_, _<_}
-use mathlib.Core.Path.{_≡_, refl, sym, _∙_}
+use mathlib.Core.Path.{_≡_, refl, sym, _∙_, ap}
 use mathlib.Core.Bool.{Bool, true, false, not, _&&_, _||_}
 use mathlib.Core.List.{List}
 use native.Mathlib.Omega.{arith}
@@ -9,7 +9,7 @@ use lib.ListN.{length}
 use borrow.Author.Tests.{eq-eqb, ne-eqb, eqb-true, eqb-false, ltb-true, ltb-false, not-false}
 use Rattle.laws.proofs.Tests.{neither, cond-true, cond-false, same-or, by-test}
 use Rattle.bus.specs.Groups.{groupSize, groupCount}
-use Rattle.refusal.specs.Refusal.{when, orElse, badRam, memoryNumber, lentNumber, badWidth, badAnswers, argumentNumber, ramNumber, arrayNumber, viewInputNumber, externalNumber}
+use Rattle.refusal.specs.Refusal.{when, orElse, anyAbove, badRam, memoryNumber, lentNumber, badWidth, badAnswers, argumentNumber, ramNumber, arrayNumber, viewInputNumber, externalNumber}
 
 -- neither of two numbers is met
 pub or-zero : (a b : ℕ) → orElse a b ≡ 0 → (a ≡ 0) × (b ≡ 0)
@@ -41,6 +41,47 @@ number-same n a e = e ∙ same-or _ a 0 (λ z. sym (zero-or a a z)) (λ k. sym (
 
 pub number-later : (n k a b : ℕ) → n ≡ a → n ≡ 0 → k ≡ b → k ≡ orElse a b
 number-later n k a b e z f = f ∙ sym (zero-or a b (sym e ∙ z))
+
+-- numbers 4 to 7 as the code asks for them: the count of answers with the first three, then the answers themselves
+in-two : (a b c d : Bool) (e : ℕ) →
+    orElse (when a 4) (orElse (when b 5) (orElse (when (c || d) 6) e)) ≡ orElse (orElse (when a 4) (orElse (when b 5) (when c 6))) (orElse (when d 6) e)
+in-two true b c d e = refl
+in-two false true c d e = refl
+in-two false false true d e = refl
+in-two false false false d e = refl
+
+-- the number of a call, by what it asks for first, second and later
+module _ (ram parity array address width : ℕ) (answers : List ℕ) (log later : ℕ) where
+  abbrev lent : ℕ
+  lent = lentNumber ram parity array
+
+  abbrev first : ℕ
+  first = orElse (when (badWidth width) 4) (orElse (when (ltb ram (address + width)) 5) (when (not (eqb (length answers) 32)) 6))
+
+  abbrev second : ℕ
+  second = orElse (when (anyAbove 7 answers) 6) (when (ltb log 96) 7)
+
+  abbrev whole : ℕ
+  whole = orElse lent (orElse (argumentNumber ram address width answers log) later)
+
+  asked : orElse (orElse lent first) (orElse second later) ≡ whole
+  unfolding argumentNumber
+  asked =
+      or-grouped lent first (orElse second later)
+      ∙ ap (orElse lent) (sym (or-grouped first second later))
+      ∙ ap (λ (x : ℕ). orElse lent (orElse x later))
+      (sym (in-two (badWidth width) (ltb ram (address + width)) (not (eqb (length answers) 32)) (anyAbove 7 answers) (when (ltb log 96) 7)))
+
+  module _ (n : ℕ) (e : n ≡ orElse lent first) where
+    pub asked-first : (n ≡ 0 → ⊥) → n ≡ whole
+    asked-first h = number-first n (orElse lent first) (orElse second later) e h ∙ asked
+
+    module _ (z : n ≡ 0) (k : ℕ) (f : k ≡ second) where
+      pub asked-second : (k ≡ 0 → ⊥) → k ≡ whole
+      asked-second h = number-later n k (orElse lent first) (orElse second later) e z (number-first k second later f h) ∙ asked
+
+      pub asked-later : k ≡ 0 → (r : ℕ) → r ≡ later → r ≡ whole
+      asked-later y r g = number-later n r (orElse lent first) (orElse second later) e z (number-later k r second later f y g) ∙ asked
 
 when-zero : (b : Bool) (n : ℕ) → 0 < n → when b n ≡ 0 → b ≡ false
 when-zero true n h e = absurd (omega arith)

@@ -1,10 +1,10 @@
 // The numbers that turn a call away because of the input, 0 where none is met.
 ghost use mathlib.Core.Path.{_≡_};
 ghost use mathlib.Core.Bool.{not};
-ghost use Prim.Native.Nat.{_^_};
-ghost use lib.Dec.{ltb};
+ghost use Prim.Native.Nat.{_+_, _^_};
+ghost use lib.Dec.{eqb, ltb};
 ghost use lib.ListN.{length};
-ghost use Rattle.refusal.specs.Refusal.{anyAbove, argumentNumber, badAnswers, badRam, badWidth, externalNumber, lentNumber, memoryNumber, orElse, valueNumber, viewInputNumber};
+ghost use Rattle.refusal.specs.Refusal.{anyAbove, badRam, badWidth, externalNumber, lentNumber, memoryNumber, orElse, valueNumber, viewInputNumber, when};
 
 // The first of two numbers that is met.
 pub fn or_else(number: u32, next: u32) -> u32
@@ -50,24 +50,18 @@ fn any_above(limit: u8, answers: &[u8]) -> bool
     above
 }
 
-fn bad_answers(answers: &[u8]) -> bool
-    ensures { λ r. ⌜ r ≡ badAnswers (now (answers .entry)) ⌝ }
-{
-    (answers.len() != 32) | any_above(7, answers)
-}
-
-// Numbers 1 to 7 of a read or a write.
+// Numbers 1 to 5 of a read or a write, then 6 where there are not 32 answers. What the answers are is asked by answers_number, in the
+// caller, where their count is known then.
 pub fn input_number(
     ram: &[u8],
     parity: &[u8],
     data: &[u8],
     answers: &[u8],
-    log: &[u32],
     address: u32,
     width: u32,
 ) -> u32
     ensures { λ r. ⌜ r ≡ orElse (lentNumber (length (now (ram .entry))) (length (now (parity .entry))) (length (now («data» .entry))))
-        (argumentNumber (length (now (ram .entry))) address width (now (answers .entry)) (length (now (log .entry)))) ⌝ }
+        (orElse (when (badWidth width) 4) (orElse (when (ltb (length (now (ram .entry))) (address + width)) 5) (when (not (eqb (length (now (answers .entry))) 32)) 6))) ⌝ }
 {
     let n = ram.len();
     if bad_ram(n) {
@@ -85,7 +79,17 @@ pub fn input_number(
     if n < address as usize + width as usize {
         return 5;
     }
-    if bad_answers(answers) {
+    if answers.len() != 32 {
+        return 6;
+    }
+    0
+}
+
+// Number 6 of the answers themselves, then 7.
+pub fn answers_number(answers: &[u8], log: &[u32]) -> u32
+    ensures { λ r. ⌜ r ≡ orElse (when (anyAbove 7 (now (answers .entry))) 6) (when (ltb (length (now (log .entry))) 96) 7) ⌝ }
+{
+    if any_above(7, answers) {
         return 6;
     }
     if log.len() < 96 {

@@ -1,15 +1,16 @@
 // What a call answers, and the numbers that turn it away: of the input, then of the state in every touched set. 0 where none
 // is met.
+mod call;
 mod input;
 mod outcome;
 mod state;
 
+pub use call::read_number;
+pub use call::write_number;
 pub use input::bad_width;
 pub use input::external_number;
-pub use input::input_number;
 pub use input::memory_number;
 pub use input::or_else;
-pub use input::value_number;
 pub use input::view_input_number;
 pub use outcome::Outcome;
 pub use outcome::refused;

@@ -3,6 +3,7 @@ pub mod Places
 pub mod Moves
 pub mod Spans
 pub mod Numbers
+pub mod Masks
 pub mod Parts
 mod Words
-pub mod Few
+pub mod Replaced

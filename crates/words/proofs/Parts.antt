@@ -70,7 +70,7 @@ unfolding bytesAt
 word-of-all l b = refl
 
 -- a span of bytes in three
-in-three : (l : List ℕ) (b lane count rest : ℕ) → lane + (count + rest) ≡ 4 →
+pub in-three : (l : List ℕ) (b lane count rest : ℕ) → lane + (count + rest) ≡ 4 →
     valueOf (bytesAt l b 4) ≡ valueOf (bytesAt l b lane) + (valueOf (bytesAt l (b + lane) count) + valueOf (bytesAt l (b + lane + count) rest) * 256 ^ count) * 256 ^ lane
 in-three l b lane count rest e =
     ap (λ (n : ℕ). valueOf (bytesAt l b n)) (sym e)

@@ -1,5 +1,5 @@
 -- Bytes in lists and as numbers. Bytes are put into a list from a place on by the library's `sets`.
-use Prim.Native.Nat.{ℕ, zero, suc, _+_, _*_, _/_, _%_, _^_}
+use Prim.Native.Nat.{ℕ, zero, suc, _+_, _-_, _*_, _/_, _%_, _^_}
 use mathlib.Core.List.{List, [], _∷_}
 use lib.ListN.{getD, replicate}
 use lib.Seq.{sets}
@@ -30,3 +30,7 @@ lanesValue word lane count = word / 256 ^ lane % 256 ^ count
 -- The same bytes in their own lanes, the other lanes 0.
 unfoldable pub lanesWord : ℕ → ℕ → ℕ → ℕ
 lanesWord word lane count = lanesValue word lane count * 256 ^ lane
+
+-- A mask of lanes, bit k for lane k: of so many from a lane on.
+unfoldable pub lanesMask : ℕ → ℕ → ℕ
+lanesMask lane count = 2 ^ (count + lane) - 2 ^ lane

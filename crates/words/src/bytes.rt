@@ -3,8 +3,10 @@ ghost use mathlib.Core.Path.{_≡_};
 ghost use Prim.Native.Nat.{_+_, _*_, _/_, _%_, _^_, _≤_, _<_};
 ghost use lib.ListN.{length};
 ghost use lib.Seq.{sets};
-ghost use Rattle.words.specs.Bytes.{bytesAt, bytesOf, valueOf, wordIn};
+ghost use Rattle.words.specs.Bytes.{bytesAt, bytesOf, lanesValue, lanesWord, valueOf, wordIn};
+use crate::lanes::lanes_mask;
 use crate::lanes::lanes_value;
+use crate::lanes::lanes_word;
 
 // So many bytes of src from a place on, put into dst. A whole doubleword is moved at once.
 pub fn copy_bytes(src: &[u8], s: usize, dst: &mut [u8], d: usize, count: usize)
@@ -107,27 +109,16 @@ fn put_word(dst: &mut [u8], at: usize, value: u32)
     dst[at + 3] = (fourth % 256) as u8;
 }
 
-// Fewer than four bytes of a number put into dst: the lowest, a middle one and the highest, which may be the same. No branch
-// depends on how many they are, and nothing is loaded.
-fn put_few(dst: &mut [u8], at: usize, count: usize, value: u32)
-    requires { ⌜ (0 < count) × (count < 4) × (at + count ≤ length (now dst)) ⌝ }
-    ensures { λ _. ⌜ now (dst .exit) ≡ sets (now (dst .entry)) at (bytesOf count value) ⌝ }
+// So many lanes of a doubleword put over those of four bytes of dst, from a lane on. The other lanes of the doubleword are 0.
+pub fn put_lanes(dst: &mut [u8], base: usize, lane: usize, count: usize, word: u32)
+    requires { ⌜ (0 < count) × (lane + count ≤ 4) × (base + 4 ≤ length (now dst)) × (word ≡ lanesWord word lane count) ⌝ }
+    ensures { λ _. ⌜ now (dst .exit) ≡ sets (now (dst .entry)) (base + lane) (bytesOf count (lanesValue word lane count)) ⌝ }
 {
-    let middle = count / 2;
-    let highest = count - 1;
-    dst[at] = (value % 256) as u8;
-    dst[at + middle] = ((value >> (8 * middle)) % 256) as u8;
-    dst[at + highest] = ((value >> (8 * highest)) % 256) as u8;
-}
-
-// So many bytes of a number put into one aligned doubleword of dst.
-pub fn put_value(dst: &mut [u8], at: usize, count: usize, value: u32)
-    requires { ⌜ (0 < count) × (at % 4 + count ≤ 4) × (at / 4 * 4 + 4 ≤ length (now dst)) × (value < 256 ^ count) ⌝ }
-    ensures { λ _. ⌜ now (dst .exit) ≡ sets (now (dst .entry)) at (bytesOf count value) ⌝ }
-{
-    if count == 4 {
-        put_word(dst, at, value);
+    let mask = lanes_mask(lane, count);
+    if mask == 15 {
+        put_word(dst, base, word);
     } else {
-        put_few(dst, at, count, value);
+        let old = word_at(dst, base);
+        put_word(dst, base, old - lanes_word(old, mask) + word);
     }
 }

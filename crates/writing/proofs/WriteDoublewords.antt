@@ -1,15 +1,15 @@
 -- Laws of one doubleword of a write: what the code leaves in each case.
-use Prim.Native.Nat.{ℕ, _+_, _/_, _^_, _≤_, _<_, min}
+use Prim.Native.Nat.{ℕ, _+_, _*_, _/_, _%_, _^_, _≤_, _<_, min}
 use mathlib.Core.Path.{_≡_, refl, sym, _∙_, ap}
 use mathlib.Core.Bool.{Bool, true, false}
 use mathlib.Core.List.{List}
 use native.Mathlib.Omega.{arith}
-use native.Mathlib.Nat.{add-zero, zero-add, mod-lt}
+use native.Mathlib.Nat.{add-zero, zero-add, mod-mod, mul-div-cancel}
 use lib.ListN.{length, length-map}
 use lib.Seq.{sets}
 use Rattle.ways.specs.declared.ways.Found.{Found}
 use Rattle.ways.specs.declared.ways.Found.the-variants.{At, Nothing}
-use Rattle.words.specs.Bytes.{bytesAt, bytesOf, lanesValue}
+use Rattle.words.specs.Bytes.{bytesAt, bytesOf, lanesValue, lanesWord}
 use Rattle.words.proofs.Numbers.{bytes-of-lower, bytes-of-part}
 use Rattle.words.proofs.Parts.{powers-some}
 use Rattle.words.proofs.Places.{bytes-length}
@@ -25,7 +25,7 @@ use Rattle.doubleword.specs.declared.change.Wanted.{Wanted}
 use Rattle.doubleword.specs.declared.cursor.AccessCursor.{AccessCursor}
 use Rattle.doubleword.specs.Doubleword.{Doubleword, Done, dataOffset, plainCycles}
 use Rattle.doubleword.specs.Cursor.{wantedOf, groupAt, AccessNeeds}
-use Rattle.doubleword.specs.DoublewordCode.{BelowFour}
+use Rattle.doubleword.specs.DoublewordCode.{BelowFour, NoFill}
 use Rattle.writing.specs.Writing.{writeBuffer, writeThrough, hitArray, writeDone}
 use Rattle.writing.specs.declared.next.NextWritten.{NextWritten}
 use Rattle.writing.specs.declared.writing.DoublewordWritten.{DoublewordWritten}
@@ -88,11 +88,28 @@ module _ (f : Found) (stays : Bool) (m₀ : Memory) (array operand : List ℕ) (
     unfolding writeDone
     miss-writes e = rw e (through-writes Unchanged tt array)
 
--- a part of a value: it fits its bytes, which are those of the operand
-pub part-fits : (value place count : ℕ) → lanesValue value place count < 256 ^ count
-unfolding lanesValue
-part-fits value place count = mod-lt (value / 256 ^ place) (powers-some count)
+-- a write fills no line
+pub write-no-fill : (f : Found) (stays : Bool) (m : Memory) (array operand : List ℕ) (w : Doubleword) → NoFill (writeDone f stays m array operand w .change)
+unfolding writeDone writeThrough
+write-no-fill (At way) true m array operand w = tt
+write-no-fill (At way) false m array operand w = tt
+write-no-fill Nothing stays m array operand w = tt
 
+-- the place of some lanes of a doubleword
+pub lane-place : (at from : ℕ) → at + from / 4 * 4 + from % 4 ≡ at + from
+lane-place at from = omega arith
+
+-- a part of a value in its lanes: the number of these lanes is the part's, and no other lane is set
+pub placed-value : (value place lane count : ℕ) → lanesValue (lanesValue value place count * 256 ^ lane) lane count ≡ lanesValue value place count
+unfolding lanesValue
+placed-value value place lane count =
+    rw (mul-div-cancel (value / 256 ^ place % 256 ^ count) (powers-some lane), mod-mod (value / 256 ^ place) (256 ^ count))
+
+pub placed-fits : (value place lane count : ℕ) → lanesValue value place count * 256 ^ lane ≡ lanesWord (lanesValue value place count * 256 ^ lane) lane count
+unfolding lanesWord
+placed-fits value place lane count = rw (placed-value value place lane count)
+
+-- the bytes of a part of a value are those of the operand
 pub part-bytes : (value place count : ℕ) → place + count ≤ 4 → bytesAt (bytesOf 4 value) place count ≡ bytesOf count (lanesValue value place count)
 unfolding lanesValue
 part-bytes value place count h = bytes-of-part value place count h ∙ sym (bytes-of-lower count (value / 256 ^ place))

@@ -10,7 +10,7 @@ ghost use Rattle.writing.specs.WritingCode.{WriteNext};
 use crate::writing::write_doubleword;
 use doubleword::AccessCursor;
 use doubleword::Change;
-use words::lanes_value;
+use words::placed_lanes;
 
 // What the next doubleword did: the directory's change with its line, how many bytes it wrote, the count of cycles. What is left
 // after it is worked out by the caller, in registers.
@@ -41,7 +41,7 @@ pub fn write_next<'a>(
 {
     let w = cursor.wanted();
     let group = cursor.group_of(answers);
-    let part = lanes_value(value, w.place, w.count);
+    let word = placed_lanes(value, w.place, w.from % 4, w.count);
     let written = write_doubleword(
         tags,
         valid,
@@ -52,7 +52,7 @@ pub fn write_next<'a>(
         group,
         log,
         w,
-        part,
+        word,
         cursor.cycles,
     );
     let change = written.change;

@@ -1,10 +1,10 @@
 // One doubleword of a write.
 ghost use mathlib.Core.Path.{_≡_};
 ghost use mathlib.Core.List.{List, [], _∷_};
-ghost use Prim.Native.Nat.{ℕ, _+_, _^_, _≤_, _<_};
+ghost use Prim.Native.Nat.{ℕ, _+_, _%_, _≤_};
 ghost use lib.ListN.{length};
 ghost use Rattle.ways.specs.Ways.{lookupIn};
-ghost use Rattle.words.specs.Bytes.{bytesAt, bytesOf};
+ghost use Rattle.words.specs.Bytes.{bytesAt, bytesOf, lanesValue, lanesWord};
 ghost use Rattle.memory.specs.Parity.{memory, stored};
 ghost use Rattle.bus.specs.Bus.{cyclesOf, run};
 ghost use Rattle.bus.specs.Record.{writeRecord};
@@ -17,9 +17,9 @@ use cycles::write_cycles;
 use doubleword::Change;
 use doubleword::Wanted;
 use doubleword::data_offset;
-use memory::store_value;
+use memory::store_lanes;
 use ways::Found;
-use words::put_value;
+use words::put_lanes;
 
 // What a doubleword of a write did: the directory's change, the count of cycles.
 pub struct DoublewordWritten {
@@ -34,19 +34,20 @@ fn write_through(
     answers: &[u8],
     log: &mut [u32],
     w: Wanted,
-    value: u32,
+    word: u32,
     first: usize,
 ) -> usize
-    requires { ⌜ DoublewordNeeds w first (length (now ram)) (length (now parity)) (length (now answers)) (length (now log)) × (value < 256 ^ w .count) ⌝ }
-    ensures { λ r. ⌜ (memory (now (ram .exit)) (now (parity .exit)) ≡ stored (memory (now (ram .entry)) (now (parity .entry))) (w .line + w .from) (bytesOf (w .count) value))
-        × CyclesMade (writeRecord (sentLine (w .from) (bytesOf (w .count) value)) (w .line)) (cyclesOf (now (answers .entry)) (run (w .from) (w .count) ∷ [])) first 0 (now (log .entry)) r (now (log .exit)) × (r ≤ 4) ⌝ }
+    requires { ⌜ DoublewordNeeds w first (length (now ram)) (length (now parity)) (length (now answers)) (length (now log)) × (word ≡ lanesWord word (w .from % 4) (w .count)) ⌝ }
+    ensures { λ r. ⌜ (memory (now (ram .exit)) (now (parity .exit)) ≡ stored (memory (now (ram .entry)) (now (parity .entry))) (w .line + w .from) (bytesOf (w .count) (lanesValue word (w .from % 4) (w .count))))
+        × CyclesMade (writeRecord (sentLine (w .from) (bytesOf (w .count) (lanesValue word (w .from % 4) (w .count)))) (w .line)) (cyclesOf (now (answers .entry)) (run (w .from) (w .count) ∷ [])) first 0 (now (log .entry)) r (now (log .exit)) × (r ≤ 4) ⌝ }
 {
     let line = w.line as usize;
-    store_value(ram, parity, line + w.from, w.count, value);
-    write_cycles(&answers[..], log, line, w.from, w.count, value, first)
+    let base = line + w.from / 4 * 4;
+    store_lanes(ram, parity, base, w.from % 4, w.count, word);
+    write_cycles(&answers[..], log, line, w.from, w.count, word, first)
 }
 
-// One doubleword of a write, whose bytes are given as a number. stays: CD = NW = 1, where a hit makes no cycle. first: the
+// One doubleword of a write, whose bytes are given in their lanes, the other lanes 0. stays: CD = NW = 1, where a hit makes no cycle. first: the
 // records already in the log.
 pub fn write_doubleword<'a>(
     tags: &'a [u32; 512],
@@ -58,29 +59,30 @@ pub fn write_doubleword<'a>(
     answers: &[u8],
     log: &mut [u32],
     w: Wanted,
-    value: u32,
+    word: u32,
     first: usize,
 ) -> DoublewordWritten
-    requires { ⌜ DoublewordNeeds w first (length (now ram)) (length (now parity)) (length (now answers)) (length (now log)) × (length (now «data») ≡ 8192) × (value < 256 ^ w .count) ⌝ }
-    ensures { λ r. ⌜ ((operand : List ℕ) → bytesAt operand (w .place) (w .count) ≡ bytesOf (w .count) value →
+    requires { ⌜ DoublewordNeeds w first (length (now ram)) (length (now parity)) (length (now answers)) (length (now log)) × (length (now «data») ≡ 8192) × (word ≡ lanesWord word (w .from % 4) (w .count)) ⌝ }
+    ensures { λ r. ⌜ ((operand : List ℕ) → bytesAt operand (w .place) (w .count) ≡ bytesOf (w .count) (lanesValue word (w .from % 4) (w .count)) →
         Writes (writeDone (lookupIn (now (tags .entry)) (now (valid .entry)) (w .line)) stays (memory (now (ram .entry)) (now (parity .entry))) (now («data» .entry)) operand (doublewordOf w (now (answers .entry))))
         first (now (log .entry)) (r .change) (r .cycles) (memory (now (ram .exit)) (now (parity .exit))) (now («data» .exit)) (now (log .exit))) ⌝ }
 {
     if let Found::At(way) = ways::lookup(tags, valid, w.line) {
-        put_value(data, data_offset(w.line, way) + w.from, w.count, value);
+        let held = data_offset(w.line, way) + w.from / 4 * 4;
+        put_lanes(data, held, w.from % 4, w.count, word);
         if stays {
             return DoublewordWritten {
                 change: Change::Use(way),
                 cycles: 0,
             };
         }
-        let cycles = write_through(ram, parity, &answers[..], log, w, value, first);
+        let cycles = write_through(ram, parity, &answers[..], log, w, word, first);
         return DoublewordWritten {
             change: Change::Use(way),
             cycles,
         };
     }
-    let cycles = write_through(ram, parity, &answers[..], log, w, value, first);
+    let cycles = write_through(ram, parity, &answers[..], log, w, word, first);
     DoublewordWritten {
         change: Change::Unchanged,
         cycles,

@@ -1,10 +1,8 @@
 use Rattle.bus.specs.Record.{flagsOf}
+use Rattle.bus.proofs.Flags.{lanes-mask}
 use borrow.Author.Needs.{needs}
 use Rattle.bus.proofs.record.flags_of.Statement.{statement}
 use Rattle.bus.proofs.record.flags_of.Tie as tie
-
-lanes-of-requires : tie.Need-lanes-of-requires
-lanes-of-requires c κs = search needs
 
 add-result : tie.Need-add-result
 add-result c = search needs
@@ -23,16 +21,9 @@ add-result-3 c = search needs
 
 returns : tie.Need-returns
 unfolding flagsOf
-returns c = rw (c .flag-if2 .ensures .0, c .before .flag-if .ensures .0, c .before .before .lanes-of .ensures .0)
+returns c lane count l e = rw (lanes-mask lane count, ← e, c .flag-if2 .ensures .0, c .before .flag-if .ensures .0)
 
 pub flags-of-spec : {M : Type 1} → statement M
 flags-of-spec =
     tie.close
-    (tie.spec
-    lanes-of-requires
-    add-result
-    flag-if-requires
-    add-result-2
-    flag-if-requires-2
-    add-result-3
-    returns)
+    (tie.spec add-result flag-if-requires add-result-2 flag-if-requires-2 add-result-3 returns)

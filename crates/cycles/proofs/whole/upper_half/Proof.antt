@@ -1,4 +1,6 @@
+use mathlib.Core.Path.{refl}
 use native.Mathlib.Omega.{arith}
+use Rattle.words.specs.Bytes.{lanesMask}
 use Rattle.bus.proofs.Sizing.{size-upper, size-byte, size-one}
 use Rattle.cycles.proofs.Made.{made-one, made-then}
 use Rattle.cycles.proofs.Records.{part-blind}
@@ -22,12 +24,13 @@ same-length : tie.Need-same-length
 same-length c = search needs
 
 returns : tie.Need-returns
+unfolding lanesMask
 returns c =
     let at-put-part = c .before .before in
     let at-if1 = at-put-part .before .before in
     let start = at-if1 .before .before .before .before in
     let p = start .pre in
-    made-one _ (part-blind _ _ _ _ _) _ _ _ 2 2 _ _ _ (omega arith) (size-upper _ 2 (at-if1 .if1 .taken) (omega arith)) (at-put-part .put-part .ensures)
+    made-one _ (part-blind _ _ _ _ _) _ _ _ 2 2 _ _ _ (omega arith) (size-upper _ 2 (at-if1 .if1 .taken) (omega arith)) (at-put-part .put-part .ensures 2 2 (omega arith) refl)
 
 add-put-part-2 : tie.Need-add-put-part-2
 add-put-part-2 c = search needs
@@ -48,6 +51,7 @@ same-length-2 : tie.Need-same-length-2
 same-length-2 c = search needs
 
 returns-2 : tie.Need-returns-2
+unfolding lanesMask
 returns-2 c =
     let at-put-part3 = c .before .before in
     let at-put-part2 = at-put-part3 .before .before .before .before in
@@ -55,8 +59,8 @@ returns-2 c =
     let start = at-if1 .before .before .before .before in
     let p = start .pre in
     made-then _ (part-blind _ _ _ _ _) _ _ _ 2 2 1 3 1 _ _ _ _ _ (omega arith) (size-byte _ _ _ (at-if1 .if1 .left) (omega arith)) (omega arith)
-    (omega arith) (omega arith) (at-put-part2 .put-part2 .ensures)
-    (made-one _ (part-blind _ _ _ _ _) _ _ _ 3 1 _ _ _ (omega arith) (size-one _ _) (at-put-part3 .put-part3 .ensures))
+    (omega arith) (omega arith) (at-put-part2 .put-part2 .ensures 2 1 (omega arith) refl)
+    (made-one _ (part-blind _ _ _ _ _) _ _ _ 3 1 _ _ _ (omega arith) (size-one _ _) (at-put-part3 .put-part3 .ensures 3 1 (omega arith) refl))
 
 pub upper-half-spec : {M : Type 1} → statement M
 upper-half-spec =

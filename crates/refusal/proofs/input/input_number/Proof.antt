@@ -2,7 +2,7 @@ use mathlib.Core.Path.{_≡_}
 use lib.ListN.{length}
 use denote.Ref.{now}
 use borrow.Author.Tests.{eq-eqb, ne-eqb, lt-ltb, le-ltb}
-use Rattle.refusal.specs.Refusal.{memoryNumber, lentNumber, argumentNumber}
+use Rattle.refusal.specs.Refusal.{memoryNumber, lentNumber}
 use borrow.Author.Needs.{needs}
 use Rattle.refusal.proofs.input.input_number.Statement.{statement}
 use Rattle.refusal.proofs.input.input_number.Tie as tie
@@ -23,7 +23,7 @@ unfolding lentNumber memoryNumber
 returns-3 c = rw (← c .before .before .before .bad-ram .ensures, c .before .before .if1 .left, eq-eqb _ _ (c .before .if2 .left), ne-eqb _ _ (c .if3 .taken))
 
 -- what is lent is right
-lent : (c : tie.Else3) → let a = c .before .before .before .before .before .before .before .before .before .args in
+lent : (c : tie.Else3) → let a = c .before .before .before .before .before .before .before .before .args in
     lentNumber (length (now (a .ram))) (length (now (a .parity))) (length (now (a .«data»))) ≡ 0
 unfolding lentNumber memoryNumber
 lent c = rw (← c .before .before .before .bad-ram .ensures, c .before .before .if1 .left, eq-eqb _ _ (c .before .if2 .left), eq-eqb _ _ (c .if3 .left))
@@ -32,38 +32,23 @@ bad-width-requires : tie.Need-bad-width-requires
 bad-width-requires c κs = search needs
 
 returns-4 : tie.Need-returns-4
-unfolding argumentNumber
 returns-4 c = rw (lent (c .before .before), ← c .before .bad-width .ensures, c .if4 .taken)
 
 add-if5 : tie.Need-add-if5
 add-if5 c = search needs
 
 returns-5 : tie.Need-returns-5
-unfolding argumentNumber
 returns-5 c = rw (lent (c .before .before .before), ← c .before .before .bad-width .ensures, c .before .if4 .left, lt-ltb _ _ (c .if5 .taken))
 
-bad-answers-requires : tie.Need-bad-answers-requires
-bad-answers-requires c κs = search needs
-
 returns-6 : tie.Need-returns-6
-unfolding argumentNumber
 returns-6 c =
-    let inside = c .before .before in
-    rw (lent (inside .before .before .before), ← inside .before .before .bad-width .ensures, inside .before .if4 .left, le-ltb _ _ (inside .if5 .left), ← c .before .bad-answers .ensures, c .if6 .taken)
+    let inside = c .before in
+    rw (lent (inside .before .before .before), ← inside .before .before .bad-width .ensures, inside .before .if4 .left, le-ltb _ _ (inside .if5 .left), ne-eqb _ _ (c .if6 .taken))
 
 returns-7 : tie.Need-returns-7
-unfolding argumentNumber
 returns-7 c =
-    let served = c .before in
-    let inside = served .before .before in
-    rw (lent (inside .before .before .before), ← inside .before .before .bad-width .ensures, inside .before .if4 .left, le-ltb _ _ (inside .if5 .left), ← served .before .bad-answers .ensures, served .if6 .left, lt-ltb _ _ (c .if7 .taken))
-
-returns-8 : tie.Need-returns-8
-unfolding argumentNumber
-returns-8 c =
-    let served = c .before in
-    let inside = served .before .before in
-    rw (lent (inside .before .before .before), ← inside .before .before .bad-width .ensures, inside .before .if4 .left, le-ltb _ _ (inside .if5 .left), ← served .before .bad-answers .ensures, served .if6 .left, le-ltb _ _ (c .if7 .left))
+    let inside = c .before in
+    rw (lent (inside .before .before .before), ← inside .before .before .bad-width .ensures, inside .before .if4 .left, le-ltb _ _ (inside .if5 .left), eq-eqb _ _ (c .if6 .left))
 
 pub input-number-spec : {M : Type 1} → statement M
 input-number-spec =
@@ -77,7 +62,5 @@ input-number-spec =
     returns-4
     add-if5
     returns-5
-    bad-answers-requires
     returns-6
-    returns-7
-    returns-8)
+    returns-7)

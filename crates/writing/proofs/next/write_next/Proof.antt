@@ -1,4 +1,4 @@
-use Rattle.writing.proofs.WriteDoublewords.{part-fits, part-bytes, place-within, write-next-left}
+use Rattle.writing.proofs.WriteDoublewords.{part-bytes, placed-fits, placed-value, place-within, write-next-left}
 use Rattle.writing.specs.Writing.{writeDone}
 use Rattle.doubleword.proofs.Cursors.{cursor-doubleword}
 use Rattle.doubleword.specs.DoublewordCode.{doublewordOf}
@@ -20,20 +20,23 @@ wanted-requires c κs = search needs
 group-of-requires : tie.Need-group-of-requires
 group-of-requires c κs = search needs
 
-lanes-value-requires : tie.Need-lanes-value-requires
-lanes-value-requires c κs = place-within _ _ (c .before .before .before .before .before .before .before .pre .0) (c .before .wanted .ensures) (c .before .before .before .before .before .before .before .pre .1)
+placed-lanes-requires : tie.Need-placed-lanes-requires
+placed-lanes-requires c κs =
+    let start = c .before .before .before .before .before .before .before .before in
+    let p = start .pre in
+    let h = place-within _ _ (p .0) (c .before .before .wanted .ensures) (p .1) in
+    let d = cursor-doubleword _ _ _ _ _ _ _ _ _ (p .0) (c .before .before .wanted .ensures) (p .1) refl (c .before .group-of .ensures .1) in
+    (h .0, h .1, d .lanes)
 
 write-doubleword-requires : tie.Need-write-doubleword-requires
 write-doubleword-requires c κs =
-    let at-lanes-value = c .before .before .before .before in
-    let at-group-of = at-lanes-value .before in
+    let at-placed = c .before .before .before .before in
+    let at-group-of = at-placed .before .before in
     let at-wanted = at-group-of .before in
     let start = at-wanted .before .before .before .before .before .before in
-    let p = start .pre in (
-      cursor-doubleword _ _ _ _ _ _ _ _ _ (p .0) (at-wanted .wanted .ensures) (p .1) refl (at-group-of .group-of .ensures .1),
-      p .1 .arrayLength,
-      rw (at-lanes-value .lanes-value .ensures) (part-fits _ _ _),
-    )
+    let p = start .pre in
+    let d = cursor-doubleword _ _ _ _ _ _ _ _ _ (p .0) (at-wanted .wanted .ensures) (p .1) refl (at-group-of .group-of .ensures .1) in
+    (d, p .1 .arrayLength, rw (at-placed .placed-lanes .ensures) (placed-fits _ _ _ _))
 
 same-length : tie.Need-same-length
 same-length c = search needs
@@ -49,9 +52,9 @@ same-length-4 c = search needs
 
 returns : tie.Need-returns
 returns c =
-    let at-write-doubleword = c .before .before .before .before .before .before .before .before in
-    let at-lanes-value = at-write-doubleword .before .before .before .before .before in
-    let at-group-of = at-lanes-value .before in
+    let at-write = c .before .before .before .before .before .before .before .before in
+    let at-placed = at-write .before .before .before .before .before in
+    let at-group-of = at-placed .before .before in
     let at-wanted = at-group-of .before in
     let start = at-wanted .before .before .before .before .before .before in
     let a = start .args in
@@ -59,7 +62,7 @@ returns c =
     write-next-left _ _ _ _ (at-wanted .wanted .ensures) (at-group-of .group-of .ensures .0) _
     (λ (w : Wanted) (xs : List ℕ). writeDone (lookupIn (now (a .tags)) (now (a .valid)) (w .line)) (a .stays) (memory (now (a .ram)) (now (a .parity)))
     (now (a .«data»)) (bytesOf 4 (a .value)) (doublewordOf w xs))
-    _ _ _ _ (at-write-doubleword .write-doubleword .ensures _ (rw (at-lanes-value .lanes-value .ensures) (part-bytes (a .value) _ _ (h .1))))
+    _ _ _ _ (at-write .write-doubleword .ensures _ (rw (at-placed .placed-lanes .ensures, placed-value (a .value) _ _ _) (part-bytes (a .value) _ _ (h .1))))
 
 pub write-next-spec : {M : Type 1} → statement M
 write-next-spec =
@@ -67,7 +70,7 @@ write-next-spec =
     (tie.spec
     wanted-requires
     group-of-requires
-    lanes-value-requires
+    placed-lanes-requires
     write-doubleword-requires
     same-length
     same-length-2

@@ -1,0 +1,69 @@
+// The number of a read and of a write, for either form of the call.
+ghost use mathlib.Core.Path.{_≡_};
+ghost use lib.ListN.{length};
+ghost use Rattle.refusal.specs.Refusal.{argumentNumber, lentNumber, orElse, statesNumberIn, valueNumber};
+use crate::input::answers_number;
+use crate::input::input_number;
+use crate::input::value_number;
+use crate::state::states_number;
+
+// The lowest number that a read meets, or 0.
+pub fn read_number<'a>(
+    tags: &'a [u32; 512],
+    valid: &'a [bool; 512],
+    lru: &'a [u8; 128],
+    ram: &[u8],
+    parity: &[u8],
+    data: &[u8],
+    address: u32,
+    width: u32,
+    answers: &[u8],
+    log: &[u32],
+) -> u32
+    ensures { λ r. ⌜ r ≡ orElse (lentNumber (length (now (ram .entry))) (length (now (parity .entry))) (length (now («data» .entry))))
+        (orElse (argumentNumber (length (now (ram .entry))) address width (now (answers .entry)) (length (now (log .entry))))
+        (statesNumberIn (now (tags .entry)) (now (valid .entry)) (now (lru .entry)) address width)) ⌝ }
+{
+    let number = input_number(ram, parity, data, answers, address, width);
+    if number != 0 {
+        return number;
+    }
+    let next = answers_number(answers, log);
+    if next != 0 {
+        return next;
+    }
+    states_number(tags, valid, lru, address, width)
+}
+
+// The lowest number that a write meets, or 0.
+pub fn write_number<'a>(
+    tags: &'a [u32; 512],
+    valid: &'a [bool; 512],
+    lru: &'a [u8; 128],
+    ram: &[u8],
+    parity: &[u8],
+    data: &[u8],
+    address: u32,
+    width: u32,
+    value: u32,
+    answers: &[u8],
+    log: &[u32],
+) -> u32
+    ensures { λ r. ⌜ r ≡ orElse (lentNumber (length (now (ram .entry))) (length (now (parity .entry))) (length (now («data» .entry))))
+        (orElse (argumentNumber (length (now (ram .entry))) address width (now (answers .entry)) (length (now (log .entry))))
+        (orElse (valueNumber width value) (statesNumberIn (now (tags .entry)) (now (valid .entry)) (now (lru .entry)) address width))) ⌝ }
+{
+    let number = input_number(ram, parity, data, answers, address, width);
+    if number != 0 {
+        return number;
+    }
+    let next = answers_number(answers, log);
+    if next != 0 {
+        return next;
+    }
+    let large = value_number(width, value);
+    if large != 0 {
+        return large;
+    }
+    states_number(tags, valid, lru, address, width)
+}
