@@ -2,22 +2,18 @@
 use Prim.Native.Nat.{ℕ, zero, suc, _+_, _*_, _-_, _/_, _%_, _^_, _≤_, _<_}
 use mathlib.Core.Path.{_≡_, refl, sym, _∙_, ap}
 use mathlib.Core.Logic.{⊎-elim}
-use mathlib.Core.List.{List, [], _∷_, _++_}
+use mathlib.Core.List.{List, _++_}
 use native.Mathlib.Omega.{arith}
 use native.Mathlib.Nat.{add-zero, div-one, eq-or-lt-of-le, pow-suc, add-mul, mod-le, mod-lt, mod-eq-of-lt, mul-le-mul-right, div-mul-le-self}
-use lib.ListN.{length, getD, set, length-append}
+use lib.ListN.{length, getD, length-append}
 use lib.Pow.{pow-mono}
 use lib.Seq.{sets, set-getD}
+use Rattle.laws.proofs.Lists.{sets-append}
 use Rattle.words.specs.Bytes.{bytesAt, bytesOf, valueOf, wordIn, lanesMask, lanesValue, lanesWord}
 use Rattle.words.proofs.Places.{bytes-length, sets-above}
 use Rattle.words.proofs.Spans.{bytes-same}
 use Rattle.words.proofs.Numbers.{Small, value-append, append-small, bytes-small, of-small, of-length, value-below, bytes-of-value, value-of-bytes, bytes-of-lower}
 use Rattle.words.proofs.Parts.{powers-some, in-three, value-in-lanes, word-of-all}
-
--- some bytes put in and others after them are put in one after the other
-sets-append : (l : List ℕ) (i : ℕ) (a b : List ℕ) → sets l i (a ++ b) ≡ sets (sets l i a) (i + length a) b
-sets-append l i [] b = rw (add-zero i)
-sets-append l i (x ∷ a) b = let e : i + suc (length a) ≡ suc i + length a = omega arith in rw e (sets-append (set l i x) (suc i) a b)
 
 -- the bytes of a list put back change nothing
 sets-back : (l : List ℕ) (i n : ℕ) → sets l i (bytesAt l i n) ≡ l

@@ -6,7 +6,6 @@ use Rattle.doubleword.proofs.Cursors.{cursor-less, cursor-next}
 use Rattle.doubleword.specs.Cursor.{accessBegin}
 use Rattle.memory.specs.Parity.{memory}
 use Rattle.directory.specs.Steps.{directoryOf}
-use mathlib.Core.Path.{refl, sym, _∙_}
 use mathlib.Core.Bool.{Bool, true}
 use denote.Ref.{now}
 use native.Mathlib.Omega.{arith}

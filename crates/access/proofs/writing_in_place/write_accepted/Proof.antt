@@ -7,7 +7,6 @@ use Rattle.writing.proofs.WriteDoublewords.{write-no-fill}
 use Rattle.doubleword.specs.Cursor.{accessBegin}
 use Rattle.memory.specs.Parity.{memory}
 use Rattle.directory.specs.Steps.{directoryOf}
-use mathlib.Core.Path.{refl, sym, _∙_}
 use denote.Ref.{now}
 use native.Mathlib.Omega.{arith}
 use borrow.Author.Needs.{needs}

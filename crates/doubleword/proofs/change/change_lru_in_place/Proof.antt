@@ -1,6 +1,5 @@
 use native.Mathlib.Omega.{arith}
 use Rattle.doubleword.specs.Doubleword.{changed}
-use Rattle.doubleword.specs.DoublewordCode.{NoFill}
 use borrow.Author.Needs.{needs}
 use Rattle.doubleword.proofs.change.change_lru_in_place.Statement.{statement}
 use Rattle.doubleword.proofs.change.change_lru_in_place.Tie as tie

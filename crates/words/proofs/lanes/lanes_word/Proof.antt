@@ -1,4 +1,3 @@
-use mathlib.Core.Path.{_∙_}
 use Rattle.words.proofs.Masks.{masked-word}
 use borrow.Author.Needs.{needs}
 use Rattle.words.proofs.lanes.lanes_word.Statement.{statement}

@@ -1,5 +1,4 @@
 use mathlib.Core.Path.{_∙_}
-use native.Mathlib.Omega.{arith}
 use Rattle.words.proofs.Masks.{placed-masked}
 use borrow.Author.Needs.{needs}
 use Rattle.words.proofs.lanes.placed_lanes.Statement.{statement}
