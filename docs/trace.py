@@ -1,5 +1,6 @@
 """Checks docs/TRACE.md: what it names is there, definitions are reached, every edit is named; and
-that no proof above the directory's layer unfolds a definition of it, but the bench theorem.
+that no proof above the directory's layer unfolds a definition of it, but the bench theorem; and that
+no line of a proof is too long to read.
 
     python3 docs/trace.py
 
@@ -15,6 +16,7 @@ ROOT = Path(__file__).resolve().parent.parent
 CRATES = ROOT / "crates"
 # The directory's layer, and the one file above it that computes with its definitions.
 LAYER, BENCH = ("ways", "directory", "steps_in_place"), CRATES / "access/proofs/Bench.antt"
+LONGEST = 400
 COLUMNS = ("definition", "calls", "law", "test", "edit")
 # The form of a reference, by column; a definition may also be a type or a function of the code.
 LOGIC, CODE = r"\w+/[A-Z]\w*\.[\w-]+", r"\w+(::\w+)+"
@@ -197,12 +199,22 @@ def layer_faults() -> list[str]:
     return faults
 
 
+def line_faults() -> list[str]:
+    """Lines of proofs that are too long to read."""
+    return [
+        f"{path.relative_to(ROOT)}:{number}: more than {LONGEST} characters"
+        for path in sorted(CRATES.glob("*/proofs/**/*.antt"))
+        for number, line in enumerate(path.read_text().splitlines(), 1)
+        if len(line) > LONGEST
+    ]
+
+
 def main(words: list[str]) -> int:
     if words:
         print("usage: trace.py", file=sys.stderr)
         return 2
     faults, size = table_faults(read_crates())
-    faults += layer_faults()
+    faults += layer_faults() + line_faults()
     for fault in faults:
         print(fault, file=sys.stderr)
     if not faults:

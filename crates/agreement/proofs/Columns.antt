@@ -1,5 +1,5 @@
 -- Demand 3 carried to the program: the answer and value columns are the plain memory's.
-use Prim.Native.Nat.{ℕ, suc, _/_, _%_, _<_}
+use Prim.Native.Nat.{ℕ, suc, _/_, _%_, _<_, _≤_}
 use mathlib.Core.Path.{_≡_, refl}
 use mathlib.Core.Bool.{false}
 use mathlib.Core.List.{List, [], _∷_}
@@ -77,20 +77,22 @@ unfolding dpAt
 zeros-agree ram parity =
     record { agree = λ a l. rw (zeros-at parity (a / 4), zeros-at ram a) (no-bit (a % 4) (omega arith)) }
 
-pub zeros-legal : (ram parity array : ℕ) → lentNumber ram parity array ≡ 0 → Legal (memory (replicate ram 0) (replicate parity 0)) (replicate array 0)
-zeros-legal ram parity array e =
+-- document 01's lengths, all zeros
+zeros-legal : (ram parity array : ℕ) → 16 ≤ ram → ram ≤ 16777216 → ram % 16 ≡ 0 → parity ≡ ram / 4 → array ≡ 8192 →
+    Legal (memory (replicate ram 0) (replicate parity 0)) (replicate array 0)
+zeros-legal ram parity array least most whole bits e =
+    let n = length-replicate {A = ℕ} ram 0 in
     record {
-      lengths = rw (length-replicate {A = ℕ} ram 0, length-replicate {A = ℕ} parity 0, length-replicate {A = ℕ} array 0) e;
+      least = rw n least;
+      most = rw n most;
+      whole = rw n whole;
+      parityLength = rw (n, length-replicate {A = ℕ} parity 0) bits;
+      arrayLength = rw (length-replicate {A = ℕ} array 0) e;
       agrees = zeros-agree ram parity;
     }
-
--- the program's start has document 01's lengths
-start-lengths : lentNumber 65536 16384 8192 ≡ 0
-unfolding lentNumber memoryNumber
-start-lengths = refl
 
 pub columns : Columns
 unfolding outputOf plainOutput start
 columns input n =
-    let c = start-coherent (memory (replicate 65536 0) (replicate 16384 0)) (replicate 8192 0) (zeros-legal 65536 16384 8192 start-lengths) in
+    let c = start-coherent (memory (replicate 65536 0) (replicate 16384 0)) (replicate 8192 0) (zeros-legal 65536 16384 8192 (omega arith) (omega arith) refl refl refl) in
     rw (rows-agree (linesOf input) start (replicate 65536 0) 1 c n)

@@ -10,7 +10,6 @@ use Rattle.directory.specs.Steps.{afterReset}
 use Rattle.directory.proofs.Laws.{reset-none, reset-control, reset-well-formed}
 use Rattle.memory.specs.Parity.{Memory}
 use Rattle.access.specs.Access.{State, state}
-use Rattle.refusal.proofs.Accepted.{lent-accepted}
 use Rattle.agreement.specs.Calls.{Call, read, write, external, snoop, flush, control, view, reset, step, nextState}
 use Rattle.agreement.specs.Plain.{plainNumber, plainDone, plainRefused, plain}
 use Rattle.agreement.specs.Agreement.{AgreesAll, NeverSetsNw, Legal, Demand3, Arises, ArisesAll, NumbersThatArise}
@@ -20,11 +19,10 @@ use Rattle.agreement.proofs.Steps.{call-matches}
 
 pub start-coherent : (m : Memory) (array : List ℕ) → Legal m array → Coherent (state afterReset m array) (m .ram)
 start-coherent m array g =
-    let l = lent-accepted _ _ _ (g .lengths) in
     record {
       formed = reset-well-formed;
-      lent = l .0;
-      arrayLength = l .1;
+      lent = record { least = g .least; most = g .most; whole = g .whole; bits = g .parityLength };
+      arrayLength = g .arrayLength;
       agrees = g .agrees;
       rams = refl;
       lines = no-lines afterReset (m .ram) array reset-none;

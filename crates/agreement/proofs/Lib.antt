@@ -3,6 +3,7 @@
 mod Bytes
 mod Memories
 mod Cycles
+mod Counts
 mod Coherence
 mod Doublewords
 mod Reading

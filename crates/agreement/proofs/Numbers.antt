@@ -1,8 +1,8 @@
 -- Numbers under the invariant: 1 to 3 and 21 to 23 are not met, so each call's number is the plain memory's.
 use Prim.Native.Nat.{ℕ, _+_, _-_, _/_, _%_, _^_, _≤_}
 use mathlib.Core.Path.{_≡_, refl, sym, _∙_, ap}
-use mathlib.Core.Bool.{Bool, true, false, not, _||_}
-use mathlib.Core.List.{List}
+use mathlib.Core.Bool.{Bool, true, false, cond, not, _&&_, _||_}
+use mathlib.Core.List.{List, [], _∷_}
 use mathlib.Core.Logic.{inl, inr}
 use native.Mathlib.Omega.{arith}
 use lib.Dec.{eqb, ltb}
@@ -14,11 +14,11 @@ use Rattle.directory.specs.Steps.{stateNumberOf, controlRefused}
 use Rattle.directory.proofs.SetState.{good-state-zero}
 use Rattle.access.specs.Access.{State, readNumber, writeNumber}
 use Rattle.masters.specs.Masters.{externalWriteNumber}
-use Rattle.refusal.specs.Refusal.{when, orElse, ramNumber, memoryNumber, arrayNumber, lentNumber, badWidth, badAnswers, argumentNumber, valueNumber, externalNumber, viewAddressNumber, viewInputNumber, statesNumberIn, statesNumberOf}
+use Rattle.refusal.specs.Refusal.{when, orElse, anyAbove, ramNumber, memoryNumber, arrayNumber, lentNumber, badWidth, badAnswers, argumentNumber, valueNumber, externalNumber, viewAddressNumber, viewInputNumber, statesNumberIn, statesNumberOf}
 use Rattle.refusal.proofs.Accepted.{zero-or, first-or, GoodMemory}
 use Rattle.views.specs.View.{viewNumberIn}
 use Rattle.agreement.specs.Calls.{Call, read, write, external, snoop, flush, control, view, reset, viewNumberOf}
-use Rattle.agreement.specs.Plain.{plainNumber}
+use Rattle.agreement.specs.Plain.{someAbove, plainNumber}
 use Rattle.agreement.specs.Agreement.{Arises}
 use Rattle.agreement.proofs.Coherence.{Coherent}
 
@@ -80,6 +80,57 @@ module _ (s : State) (m : List ℕ) (c : Coherent s m) where
       ∙ zero-or (arrayNumber (length (s .array))) _ (rw (eq-eqb (length (s .array)) 8192 (c .arrayLength)))
       ∙ ap (λ (l : List ℕ). viewAddressNumber (length l) a) (c .rams)
 
+-- THE PLAIN MEMORY'S NUMBERS ARE THE UNIT'S
+
+above-same : (limit : ℕ) (xs : List ℕ) → someAbove limit xs ≡ anyAbove limit xs
+unfolding someAbove anyAbove
+above-same limit [] = refl
+above-same limit (x ∷ xs) = rw (above-same limit xs)
+
+neither-same : (a b c : Bool) → not (a || b || c) ≡ (not a && not b && not c)
+neither-same true b c = refl
+neither-same false true c = refl
+neither-same false false c = refl
+
+-- the number of the first test that holds is the first number that is met
+first-of-four : (a b c d : Bool) → cond a 4 (cond b 5 (cond c 6 (cond d 7 0))) ≡ orElse (when a 4) (orElse (when b 5) (orElse (when c 6) (when d 7)))
+first-of-four true b c d = refl
+first-of-four false true c d = refl
+first-of-four false false true d = refl
+first-of-four false false false d = refl
+
+first-of-five : (a b c d e : Bool) →
+    cond a 4 (cond b 5 (cond c 6 (cond d 7 (cond e 8 0)))) ≡ orElse (orElse (when a 4) (orElse (when b 5) (orElse (when c 6) (when d 7)))) (when e 8)
+first-of-five true b c d e = refl
+first-of-five false true c d e = refl
+first-of-five false false true d e = refl
+first-of-five false false false true e = refl
+first-of-five false false false false e = refl
+
+module _ (m : List ℕ) where
+  pub plain-read : (a w : ℕ) (pcd : Bool) (xs log : List ℕ) → plainNumber m (read a w pcd xs log) ≡ argumentNumber (length m) a w xs (length log)
+  unfolding plainNumber argumentNumber
+  plain-read a w pcd xs log =
+      rw (above-same 7 xs, neither-same (eqb w 1) (eqb w 2) (eqb w 4)) (first-of-four (badWidth w) (ltb (length m) (a + w)) (badAnswers xs) (ltb (length log) 96))
+
+  pub plain-write : (a w v : ℕ) (xs log : List ℕ) → plainNumber m (write a w v xs log) ≡ orElse (argumentNumber (length m) a w xs (length log)) (valueNumber w v)
+  unfolding plainNumber argumentNumber valueNumber
+  plain-write a w v xs log =
+      rw (above-same 7 xs, neither-same (eqb w 1) (eqb w 2) (eqb w 4))
+      (first-of-five (badWidth w) (ltb (length m) (a + w)) (badAnswers xs) (ltb (length log) 96) (not (ltb v (256 ^ w))))
+
+  pub plain-external : (a : ℕ) (x : List ℕ) → plainNumber m (external a x) ≡ externalNumber (length m) a (length x)
+  unfolding plainNumber externalNumber
+  plain-external a x = refl
+
+  pub plain-control : (cd nw : Bool) → plainNumber m (control cd nw) ≡ when (controlRefused cd nw) 9
+  unfolding plainNumber
+  plain-control cd nw = refl
+
+  pub plain-view : (a : ℕ) → plainNumber m (view a) ≡ viewAddressNumber (length m) a
+  unfolding plainNumber
+  plain-view a = refl
+
 -- the plain memory's numbers are 0 and 4 to 10
 when-arises : (b : Bool) (n : ℕ) → 4 ≤ n → n ≤ 10 → Arises (when b n)
 when-arises true n l h = inr (l, h)
@@ -96,11 +147,12 @@ argument-arises ram a w xs log =
     (or-arises (when (badAnswers xs) 6) _ (when-arises (badAnswers xs) 6 (omega arith) (omega arith)) (when-arises (ltb log 96) 7 (omega arith) (omega arith))))
 
 pub plain-arises : (m : List ℕ) (c : Call) → Arises (plainNumber m c)
-unfolding plainNumber valueNumber externalNumber
-plain-arises m (read a w pcd xs log) = argument-arises (length m) a w xs (length log)
+unfolding plainNumber valueNumber
+plain-arises m (read a w pcd xs log) = rw (plain-read m a w pcd xs log) (argument-arises (length m) a w xs (length log))
 plain-arises m (write a w v xs log) =
-    or-arises (argumentNumber (length m) a w xs (length log)) (valueNumber w v) (argument-arises (length m) a w xs (length log))
-    (when-arises (not (ltb v (256 ^ w))) 8 (omega arith) (omega arith))
+    rw (plain-write m a w v xs log)
+    (or-arises (argumentNumber (length m) a w xs (length log)) (valueNumber w v) (argument-arises (length m) a w xs (length log))
+    (when-arises (not (ltb v (256 ^ w))) 8 (omega arith) (omega arith)))
 plain-arises m (external a x) =
     let n = length x in
     when-arises (eqb n 0 || ltb 16 n || ltb 16 (a % 16 + n) || ltb (length m) (a + n)) 10 (omega arith) (omega arith)

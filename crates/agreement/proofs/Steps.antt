@@ -18,7 +18,7 @@ use Rattle.words.specs.Bytes.{bytesAt, valueOf}
 use Rattle.bus.specs.Groups.{groupCount}
 use Rattle.doubleword.specs.Doubleword.{dataOffset, doublewordsOf}
 use Rattle.refusal.specs.Outcome.{outcome}
-use Rattle.access.specs.Access.{State, after, refused, accepted, operandOf, readNumber, writeNumber, readAll, writeAll, readCall, writeCall}
+use Rattle.access.specs.Access.{State, after, refused, accepted, operandOf, readNumber, writeNumber, readOne, writeOne, readAll, writeAll, readCall, writeCall}
 use Rattle.masters.specs.Masters.{externalWriteNumber}
 use Rattle.refusal.specs.Refusal.{argumentNumber, valueNumber}
 use Rattle.refusal.proofs.Accepted.{or-zero, arguments-accepted, external-accepted}
@@ -32,12 +32,13 @@ use Rattle.agreement.specs.Agreement.{NoParityError, setsNw}
 use Rattle.words.proofs.Spans.{bytes-same}
 use Rattle.agreement.proofs.Bytes.{operand-bytes}
 use Rattle.agreement.proofs.Cycles.{logged-no-error}
+use Rattle.agreement.proofs.Counts.{read-most, write-most, all-most, records-there, none-counted}
 use Rattle.agreement.proofs.Coherence.{Lines, Empty, NwInvariant, Coherent, fewer-lines, no-lines, line-around}
 use Rattle.agreement.proofs.Doublewords.{doublewords-proper, doublewords-wanted, doublewords-written}
 use Rattle.agreement.proofs.Reading.{coherent-with, read-all}
 use Rattle.agreement.proofs.Writing.{write-all}
 use Rattle.agreement.proofs.Snooping.{snooped-nw, snooped-lines, external-coherent}
-use Rattle.agreement.proofs.Numbers.{state-zero, read-number, write-number, external-write-number, view-number}
+use Rattle.agreement.proofs.Numbers.{state-zero, read-number, write-number, external-write-number, view-number, plain-read, plain-write, plain-external, plain-view}
 
 -- what a step leaves beside what the plain memory answers
 pub record StepMatches (x : Step) (p : Plain) : Type 0 where
@@ -66,7 +67,7 @@ module _ (s : State) (m : List ℕ) (c : Coherent s m) (x : Call) where
         numbers = e;
         values = refl;
         views = refl;
-        no-error = λ i l. absurd (omega arith);
+        no-error = none-counted _ refl;
       }))
 
 module _ (s : State) (m : List ℕ) (c : Coherent s m) where
@@ -76,9 +77,9 @@ module _ (s : State) (m : List ℕ) (c : Coherent s m) where
   -- READ AND WRITE
 
   read-matches : (a w : ℕ) (pcd : Bool) (xs log : List ℕ) → StepMatches (step s (read a w pcd xs log)) (plain m (read a w pcd xs log))
-  unfolding step plainNumber plainDone readAll
+  unfolding step plainDone readAll
   read-matches a w pcd xs log =
-      by-number s m c (read a w pcd xs log) (readNumber s a w xs log) (read-number s m c a w xs log)
+      by-number s m c (read a w pcd xs log) (readNumber s a w xs log) (read-number s m c a w xs log ∙ sym (plain-read m a w pcd xs log))
       (λ z.
       let k = arguments-accepted (length m) a w xs (length log) (sym (read-number s m c a w xs log) ∙ z) in
       let b : w ≤ 4 * groupCount - a % 4 = omega (arith, k .four) in
@@ -89,15 +90,19 @@ module _ (s : State) (m : List ℕ) (c : Coherent s m) where
         numbers = refl;
         values = ap valueOf (r .gives ∙ doublewords-wanted groupCount m xs a w 0 b);
         views = refl;
-        no-error = logged-no-error log (readAll s a w pcd xs .records) (r .no-error);
+        no-error =
+            record {
+              there = records-there log (readAll s a w pcd xs .records) 32 (all-most (readOne pcd) (read-most pcd) groupCount xs a w 0 s) (k .records);
+              clear = logged-no-error log (readAll s a w pcd xs .records) (r .no-error);
+            };
       }))
       log
       (λ h. rw (read-refused s a w pcd xs log h))
 
   write-matches : (a w v : ℕ) (xs log : List ℕ) → StepMatches (step s (write a w v xs log)) (plain m (write a w v xs log))
-  unfolding step plainNumber plainDone writeAll
+  unfolding step plainDone writeAll
   write-matches a w v xs log =
-      by-number s m c (write a w v xs log) (writeNumber s a w v xs log) (write-number s m c a w v xs log)
+      by-number s m c (write a w v xs log) (writeNumber s a w v xs log) (write-number s m c a w v xs log ∙ sym (plain-write m a w v xs log))
       (λ z.
       let q = or-zero (argumentNumber (length m) a w xs (length log)) (valueNumber w v) (sym (write-number s m c a w v xs log) ∙ z) in
       let k = arguments-accepted (length m) a w xs (length log) (q .0) in
@@ -109,7 +114,11 @@ module _ (s : State) (m : List ℕ) (c : Coherent s m) where
         numbers = refl;
         values = refl;
         views = refl;
-        no-error = logged-no-error log (writeAll s a w v xs .records) (r .no-error);
+        no-error =
+            record {
+              there = records-there log (writeAll s a w v xs .records) 32 (all-most (writeOne (operandOf v)) (write-most (operandOf v)) groupCount xs a w 0 s) (k .records);
+              clear = logged-no-error log (writeAll s a w v xs .records) (r .no-error);
+            };
       }))
       log
       (λ h. rw (write-refused s a w v xs log h))
@@ -117,10 +126,10 @@ module _ (s : State) (m : List ℕ) (c : Coherent s m) where
   -- OTHER MASTERS
 
   external-matches : (a : ℕ) (x : List ℕ) → StepMatches (step s (external a x)) (plain m (external a x))
-  unfolding step plainNumber plainDone
+  unfolding step plainDone
   external-matches a x =
       let n = externalWriteNumber (s .directory) (s .memory) a x in
-      by-number s m c (external a x) n (external-write-number s m c a x)
+      by-number s m c (external a x) n (external-write-number s m c a x ∙ sym (plain-external m a x))
       (λ z.
       rw (external-done (s .directory) (s .memory) a x z)
       (record {
@@ -128,7 +137,7 @@ module _ (s : State) (m : List ℕ) (c : Coherent s m) where
         numbers = refl;
         values = refl;
         views = refl;
-        no-error = λ i l. absurd (omega arith);
+        no-error = none-counted _ refl;
       }))
       []
       (λ h. rw (external-refused (s .directory) (s .memory) a x n refl h))
@@ -143,7 +152,7 @@ module _ (s : State) (m : List ℕ) (c : Coherent s m) where
         numbers = refl;
         values = refl;
         views = refl;
-        no-error = λ i l. absurd (omega arith);
+        no-error = none-counted _ refl;
       }
 
   -- a directory that holds no line
@@ -178,7 +187,7 @@ module _ (s : State) (m : List ℕ) (c : Coherent s m) where
         numbers = refl;
         values = refl;
         views = refl;
-        no-error = λ i l. absurd (omega arith);
+        no-error = none-counted _ refl;
       }))
       (λ _ e.
       let k = control-set (s .directory) cd nw in
@@ -200,17 +209,17 @@ module _ (s : State) (m : List ℕ) (c : Coherent s m) where
   shown-is a Nothing e = ap (λ (l : List ℕ). bytesAt l (a / 16 * 16) 16) (c .rams)
 
   view-matches : (a : ℕ) → StepMatches (step s (view a)) (plain m (view a))
-  unfolding step plainNumber plainDone
+  unfolding step plainDone
   view-matches a =
       let n = viewNumberOf s a in
-      by-number s m c (view a) n (view-number s m c a)
+      by-number s m c (view a) n (view-number s m c a ∙ sym (plain-view m a))
       (λ z.
       record {
         coherent = coherent-with s m c (s .directory) (c .formed) (c .nw) (s .array) (c .arrayLength) (c .lines);
         numbers = z;
         values = refl;
         views = view-done (s .directory .tags) (s .directory .valid) (s .directory .lru) (s .memory .ram) (s .array) a n refl z ∙ shown-is a (lookupOf (s .directory) a) refl;
-        no-error = λ i l. absurd (omega arith);
+        no-error = none-counted _ refl;
       })
       []
       (λ h. rw (← view-refused (s .directory .tags) (s .directory .valid) (s .directory .lru) (s .memory .ram) (s .array) a n refl h))

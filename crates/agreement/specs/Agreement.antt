@@ -7,16 +7,15 @@ use mathlib.Core.Logic.{_⊎_}
 use lib.ListN.{length, getD}
 use Rattle.directory.specs.Steps.{afterReset, controlRefused}
 use Rattle.memory.specs.Parity.{Memory, Agrees}
-use Rattle.refusal.specs.Refusal.{lentNumber}
 use Rattle.access.specs.Access.{State, state, After}
 use Rattle.agreement.specs.Calls.{Call, read, write, external, snoop, flush, control, view, reset, Step, step, nextState}
 use Rattle.agreement.specs.Plain.{Plain, plain}
 
--- "No record that a call of the list leaves carries 128.": of the records that a call counts, whose flags are the second of three words each. That the
--- count is the number of records is demand 2's; an accepted call's log has at least 96 words, so that each of them is there.
-abbrev pub NoParityError : After → Type 0
-NoParityError a =
-    (k : ℕ) → k < a .outcome .cycles → getD (a .log) (3 * k + 1) 0 / 128 % 2 ≡ 0
+-- "No record that a call of the list leaves carries 128.": the records that a call counts are in its log, three words each, and 128 is not among the
+-- flags, the second of the three. That the count is the number of records is demand 2's.
+pub record NoParityError (a : After) : Type 0 where
+  pub there : 3 * a .outcome .cycles ≤ length (a .log)
+  pub clear : (k : ℕ) → k < a .outcome .cycles → getD (a .log) (3 * k + 1) 0 / 128 % 2 ≡ 0
 
 -- "Compared after each call": numbers, values, views, "and all of RAM"; and no record carries 128. For every call, refused ones too (D50).
 pub record Matches (x : Step) (p : Plain) : Type 0 where
@@ -47,9 +46,14 @@ abbrev pub NeverSetsNw : List Call → Type 0
 NeverSetsNw [] = Unit {0}
 NeverSetsNw (c ∷ cs) = (setsNw c ≡ false) × NeverSetsNw cs
 
--- Demand 3's premise on the start: the lengths meet none of 1 to 3, and parity agrees.
+-- Demand 3's premise on the start: document 01's lengths, "RAM has 16 to 16,777,216 bytes, a multiple of 16.", "The parity array has one byte for each
+-- four RAM bytes", "The data array has 8,192 bytes", and parity agrees.
 pub record Legal (m : Memory) (array : List ℕ) : Type 0 where
-  pub lengths : lentNumber (length (m .ram)) (length (m .parity)) (length array) ≡ 0
+  pub least : 16 ≤ length (m .ram)
+  pub most : length (m .ram) ≤ 16777216
+  pub whole : length (m .ram) % 16 ≡ 0
+  pub parityLength : length (m .parity) ≡ length (m .ram) / 4
+  pub arrayLength : length array ≡ 8192
   pub agrees : Agrees m
 
 -- "The list starts from the directory that a reset gives, any RAM with which parity agrees, and any bytes in the data array."
