@@ -212,8 +212,7 @@ void unit486_board_answers(uint32_t address, uint32_t width, uint8_t *answers);
 
 /* The event program on lines in memory, in libprogram.a: puts as much of the output as fits, answers its
    whole length (at most UNIT486_OUTPUT_MOST). Bytes past the output are unchanged. The program's own RAM,
-   parity and data array and copies of the directory are on the stack, some 112 KB: give a thread 128 KB
-   or more. */
+   parity, data array and directory are on the stack, some 93 KB: give a thread 128 KB or more. */
 size_t unit486_run(const uint8_t *input, size_t input_length, uint8_t *output, size_t output_length);
 
 #ifdef __cplusplus
