@@ -10,7 +10,6 @@ use Rattle.words.proofs.Places.{zeros-at}
 use Rattle.memory.specs.Parity.{memory, Agrees, dpAt, laneBit, dpOf, onesOf}
 use Rattle.access.specs.Access.{State}
 use Rattle.board.specs.Board.{boardAnswers}
-use Rattle.refusal.specs.Refusal.{lentNumber, memoryNumber}
 use Rattle.lines.specs.declared.Event.{Event}
 use Rattle.lines.specs.declared.Event.the-variants.{Malformed, Read, Write, External, Snoop, Flush, Control, Reset}
 use Rattle.fields.specs.Fields.{pairBytes, linesOf}

@@ -92,32 +92,27 @@ neither-same true b c = refl
 neither-same false true c = refl
 neither-same false false c = refl
 
--- the number of the first test that holds is the first number that is met
-first-of-four : (a b c d : Bool) → cond a 4 (cond b 5 (cond c 6 (cond d 7 0))) ≡ orElse (when a 4) (orElse (when b 5) (orElse (when c 6) (when d 7)))
-first-of-four true b c d = refl
-first-of-four false true c d = refl
-first-of-four false false true d = refl
-first-of-four false false false d = refl
-
-first-of-five : (a b c d e : Bool) →
-    cond a 4 (cond b 5 (cond c 6 (cond d 7 (cond e 8 0)))) ≡ orElse (orElse (when a 4) (orElse (when b 5) (orElse (when c 6) (when d 7)))) (when e 8)
-first-of-five true b c d e = refl
-first-of-five false true c d e = refl
-first-of-five false false true d e = refl
-first-of-five false false false true e = refl
-first-of-five false false false false e = refl
+-- the number of the first of four tests that holds, or a later one, is the first number that is met
+first-met : (a b c d : Bool) (later : ℕ) →
+    cond a 4 (cond b 5 (cond c 6 (cond d 7 later))) ≡ orElse (orElse (when a 4) (orElse (when b 5) (orElse (when c 6) (when d 7)))) later
+first-met true b c d later = refl
+first-met false true c d later = refl
+first-met false false true d later = refl
+first-met false false false true later = refl
+first-met false false false false later = refl
 
 module _ (m : List ℕ) where
   pub plain-read : (a w : ℕ) (pcd : Bool) (xs log : List ℕ) → plainNumber m (read a w pcd xs log) ≡ argumentNumber (length m) a w xs (length log)
   unfolding plainNumber argumentNumber
   plain-read a w pcd xs log =
-      rw (above-same 7 xs, neither-same (eqb w 1) (eqb w 2) (eqb w 4)) (first-of-four (badWidth w) (ltb (length m) (a + w)) (badAnswers xs) (ltb (length log) 96))
+      rw (above-same 7 xs, neither-same (eqb w 1) (eqb w 2) (eqb w 4))
+      (first-met (badWidth w) (ltb (length m) (a + w)) (badAnswers xs) (ltb (length log) 96) 0 ∙ or-nothing _ 0 refl)
 
   pub plain-write : (a w v : ℕ) (xs log : List ℕ) → plainNumber m (write a w v xs log) ≡ orElse (argumentNumber (length m) a w xs (length log)) (valueNumber w v)
   unfolding plainNumber argumentNumber valueNumber
   plain-write a w v xs log =
       rw (above-same 7 xs, neither-same (eqb w 1) (eqb w 2) (eqb w 4))
-      (first-of-five (badWidth w) (ltb (length m) (a + w)) (badAnswers xs) (ltb (length log) 96) (not (ltb v (256 ^ w))))
+      (first-met (badWidth w) (ltb (length m) (a + w)) (badAnswers xs) (ltb (length log) 96) (when (not (ltb v (256 ^ w))) 8))
 
   pub plain-external : (a : ℕ) (x : List ℕ) → plainNumber m (external a x) ≡ externalNumber (length m) a (length x)
   unfolding plainNumber externalNumber

@@ -18,7 +18,7 @@ use Rattle.words.specs.Bytes.{bytesAt, valueOf}
 use Rattle.bus.specs.Groups.{groupCount}
 use Rattle.doubleword.specs.Doubleword.{dataOffset, doublewordsOf}
 use Rattle.refusal.specs.Outcome.{outcome}
-use Rattle.access.specs.Access.{State, after, refused, accepted, operandOf, readNumber, writeNumber, readOne, writeOne, readAll, writeAll, readCall, writeCall}
+use Rattle.access.specs.Access.{State, after, refused, accepted, operandOf, readNumber, writeNumber, readOne, writeOne, readAll, writeAll}
 use Rattle.masters.specs.Masters.{externalWriteNumber}
 use Rattle.refusal.specs.Refusal.{argumentNumber, valueNumber}
 use Rattle.refusal.proofs.Accepted.{or-zero, arguments-accepted, external-accepted}

@@ -7,8 +7,3 @@ mod reading;
 pub use next::NextRead;
 pub use next::read_next;
 pub use next::with_part;
-pub use plain::PlainRead;
-pub use plain::plain_read;
-pub use reading::DoublewordRead;
-pub use reading::keep_line;
-pub use reading::read_doubleword;

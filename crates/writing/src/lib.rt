@@ -5,5 +5,3 @@ mod writing;
 
 pub use next::NextWritten;
 pub use next::write_next;
-pub use writing::DoublewordWritten;
-pub use writing::write_doubleword;
