@@ -15,7 +15,8 @@ use Rattle.doubleword.specs.declared.cursor.AccessCursor.{AccessCursor}
 use Rattle.bus.specs.Groups.{groupSize, groupCount}
 use Rattle.doubleword.specs.Doubleword.{Doubleword, Done, doublewordsOf, changed}
 use Rattle.doubleword.specs.Cursor.{countOf, accessNext, nextDoubleword}
-use Rattle.access.specs.Access.{State, Progress, allOf, next}
+use Rattle.refusal.specs.Call.{State}
+use Rattle.access.specs.Access.{Progress, allOf, next}
 
 -- the next doubleword, and those after it
 pub next-of : (g : ℕ) (xs : List ℕ) (address n place : ℕ) → 0 < n →

@@ -15,8 +15,9 @@ use Rattle.bus.specs.Groups.{groupCount}
 use Rattle.bus.specs.Record.{logged}
 use Rattle.doubleword.specs.Doubleword.{Doubleword, Done, doublewordsOf}
 use Rattle.refusal.specs.Refusal.{orElse, statesNumberOf, lentNumber, argumentNumber, valueNumber}
-use Rattle.refusal.specs.Outcome.{outcome}
-use Rattle.access.specs.Access.{State, state, Progress, allOf, readOne, writeOne, after, refused, accepted, readNumber, writeNumber, readAll, writeAll, operandOf, readCall, writeCall}
+use Rattle.directory.specs.Outcome.{outcome}
+use Rattle.refusal.specs.Call.{State, state, after, refused}
+use Rattle.access.specs.Access.{Progress, allOf, readOne, writeOne, accepted, readNumber, writeNumber, readAll, writeAll, operandOf, readCall, writeCall}
 use Rattle.doubleword.specs.Cursor.{accessBegin, AccessNeeds}
 use Rattle.refusal.proofs.Accepted.{or-zero, lent-accepted, arguments-accepted}
 use Rattle.access.proofs.AccessLoop.{restOf, AccessInvariant, access-invariant-begin, access-invariant-end}

@@ -18,7 +18,8 @@ use Rattle.doubleword.specs.Doubleword.{Doubleword, Done, changed}
 use Rattle.doubleword.specs.Cursor.{lineAddress, countOf, accessNext, nextDoubleword, AccessNeeds}
 use Rattle.doubleword.proofs.Cursors.{needs-lengths, needs-more, cursor-needs}
 use Rattle.reading.specs.ReadingCode.{Reads}
-use Rattle.access.specs.Access.{State, state, Progress, allOf, next, readOne}
+use Rattle.refusal.specs.Call.{State, state}
+use Rattle.access.specs.Access.{Progress, allOf, next, readOne}
 use Rattle.access.proofs.AccessLoop.{restOf, rest-done, AccessInvariant, access-invariant-begin, all-next, access-invariant-next}
 use Rattle.access.proofs.Values.{one-length, one-memory}
 

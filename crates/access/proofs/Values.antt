@@ -11,7 +11,8 @@ use Rattle.memory.specs.Parity.{Memory}
 use Rattle.doubleword.specs.Doubleword.{Doubleword}
 use Rattle.reading.specs.Reading.{readHit, settled, readDone}
 use Rattle.reading.proofs.ReadDoublewords.{read-memory}
-use Rattle.access.specs.Access.{State, readOne}
+use Rattle.refusal.specs.Call.{State}
+use Rattle.access.specs.Access.{readOne}
 
 -- a doubleword of a read gives its wanted bytes
 read-length : (f : Found) (victim : ℕ) (mayFill : Bool) (m : Memory) (array : List ℕ) (w : Doubleword) →

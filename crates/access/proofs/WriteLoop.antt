@@ -11,7 +11,8 @@ use Rattle.doubleword.specs.Doubleword.{Doubleword, Done, changed}
 use Rattle.doubleword.specs.Cursor.{lineAddress, countOf, accessNext, nextDoubleword, AccessNeeds}
 use Rattle.doubleword.proofs.Cursors.{needs-lengths, needs-more, cursor-needs}
 use Rattle.writing.specs.WritingCode.{Writes}
-use Rattle.access.specs.Access.{state, Progress, next, writeOne}
+use Rattle.refusal.specs.Call.{state}
+use Rattle.access.specs.Access.{Progress, next, writeOne}
 use Rattle.access.proofs.AccessLoop.{AccessInvariant, access-invariant-next}
 
 -- the loop of a write, with the lengths of its buffers

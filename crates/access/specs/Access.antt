@@ -4,28 +4,18 @@ use mathlib.Core.Bool.{Bool, cond, not, _&&_}
 use mathlib.Core.List.{List, [], _∷_, _++_}
 use lib.Dec.{eqb}
 use lib.ListN.{length}
-use Rattle.directory.specs.declared.steps.Directory.{Directory}
 use Rattle.ways.specs.Address.{setOf}
+use Rattle.directory.specs.Outcome.{outcome}
 use Rattle.directory.specs.Steps.{lookupOf, victimOf}
 use Rattle.words.specs.Bytes.{valueOf, bytesOf}
-use Rattle.memory.specs.Parity.{Memory}
 use Rattle.bus.specs.Record.{Record, logged}
 use Rattle.bus.specs.Groups.{groupCount}
 use Rattle.doubleword.specs.Doubleword.{Doubleword, doublewordsOf, changed, Done}
 use Rattle.reading.specs.Reading.{readDone}
 use Rattle.writing.specs.Writing.{writeDone}
+use Rattle.access.specs.declared.result.CallResult.{CallResult}
+use Rattle.refusal.specs.Call.{State, state, After, after, refused}
 use Rattle.refusal.specs.Refusal.{orElse, lentNumber, argumentNumber, valueNumber, statesNumberOf}
-use Rattle.refusal.specs.declared.outcome.Outcome.{Outcome}
-use Rattle.refusal.specs.Outcome.{outcome}
-
--- What a call is lent and changes: directory, RAM with its parity, data array (`array`).
-pub record State : Type 0 where
-  pub directory : Directory
-  pub memory : Memory
-  pub array : List ℕ
-
-abbrev pub state : Directory → Memory → List ℕ → State
-state d m array = record { directory = d; memory = m; array = array }
 
 -- What doublewords did so far: the state, the bytes read, the records.
 pub record Progress : Type 0 where
@@ -62,25 +52,15 @@ allOf one s (w ∷ ws) =
     let rest = allOf one (next s w here) ws in
     progress (rest .state) (here .bytes ++ rest .bytes) (here .records ++ rest .records)
 
--- What a call leaves: its answer with the directory, and every lent buffer.
-pub record After : Type 0 where
-  pub outcome : Outcome
-  pub memory : Memory
-  pub array : List ℕ
-  pub log : List ℕ
-
-abbrev pub after : Outcome → Memory → List ℕ → List ℕ → After
-after o m array log = record { outcome = o; memory = m; array = array; log = log }
-
--- "Number, value 0, count 0; nothing lent changes; the directory comes back as given."
-abbrev pub refused : ℕ → State → List ℕ → After
-refused number s log = after (outcome (s .directory) number 0 0) (s .memory) (s .array) log
-
 -- A call that was done: the records of its cycles are at the start of the log.
 abbrev pub accepted : ℕ → Progress → List ℕ → After
 accepted value p log =
     after (outcome (p .state .directory) 0 value (length (p .records))) (p .state .memory) (p .state .array)
     (logged log 0 (p .records))
+
+-- What a call in place leaves: its answer, the state that the lent references hold at exit, and the log.
+abbrev pub leaves : CallResult → State → List ℕ → After
+leaves r s log = after (outcome (s .directory) (r .number) (r .value) (r .cycles)) (s .memory) (s .array) log
 
 -- The number of a read: the input's first, then the state's.
 unfoldable pub readNumber : State → ℕ → ℕ → List ℕ → List ℕ → ℕ

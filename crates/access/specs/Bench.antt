@@ -9,7 +9,8 @@ use Rattle.ways.specs.declared.ways.Found.{Found}
 use Rattle.ways.specs.declared.ways.Found.the-variants.{At}
 use Rattle.directory.specs.Steps.{lookupOf, afterReset, afterControl}
 use Rattle.memory.specs.Parity.{memory}
-use Rattle.access.specs.Access.{State, state, After, readCall, writeCall}
+use Rattle.refusal.specs.Call.{State, state, After}
+use Rattle.access.specs.Access.{readCall, writeCall}
 
 -- A unit after a reset and a control call with CD = NW = 0, with so many zero bytes of RAM and of parity.
 abbrev pub enabled : ℕ → ℕ → State

@@ -1,18 +1,18 @@
 // The read call by value.
 ghost use mathlib.Core.Path.{_≡_};
 ghost use lib.ListN.{length};
-ghost use Rattle.memory.specs.Parity.{memory};
+ghost use Rattle.memory.specs.Parity.{lentMemory};
 ghost use Rattle.refusal.specs.Refusal.{argumentNumber, lentNumber, orElse, statesNumberOf};
-ghost use Rattle.access.specs.Access.{after, readCall, state};
+ghost use Rattle.refusal.specs.Call.{after, state};
+ghost use Rattle.access.specs.Access.{readCall};
 use directory::Directory;
+use directory::Outcome;
 use doubleword::AccessCursor;
 use doubleword::Change;
 use doubleword::changed_by;
 use reading::read_next;
 use reading::with_part;
-use refusal::Outcome;
 use refusal::read_number;
-use refusal::refused;
 
 // The doublewords of a read whose number is 0.
 fn read_all(
@@ -28,8 +28,8 @@ fn read_all(
 ) -> Outcome
     requires { ⌜ orElse (lentNumber (length (now ram)) (length (now parity)) (length (now «data»)))
         (orElse (argumentNumber (length (now ram)) address width (now answers) (length (now log))) (statesNumberOf given address width)) ≡ 0 ⌝ }
-    ensures { λ r. ⌜ after r (memory (now (ram .entry)) (now (parity .entry))) (now («data» .exit)) (now (log .exit))
-        ≡ readCall (state given (memory (now (ram .entry)) (now (parity .entry))) (now («data» .entry))) address width pcd (now (answers .entry)) (now (log .entry)) ⌝ }
+    ensures { λ r. ⌜ after r (lentMemory (ram .entry) (parity .entry)) (now («data» .exit)) (now (log .exit))
+        ≡ readCall (state given (lentMemory (ram .entry) (parity .entry)) (now («data» .entry))) address width pcd (now (answers .entry)) (now (log .entry)) ⌝ }
 {
     let mut value: u32 = 0;
     let mut cursor = AccessCursor::begin(address, width);
@@ -73,8 +73,8 @@ pub fn read(
     answers: &[u8],
     log: &mut [u32],
 ) -> Outcome
-    ensures { λ r. ⌜ after r (memory (now (ram .entry)) (now (parity .entry))) (now («data» .exit)) (now (log .exit))
-        ≡ readCall (state given (memory (now (ram .entry)) (now (parity .entry))) (now («data» .entry))) address width pcd (now (answers .entry)) (now (log .entry)) ⌝ }
+    ensures { λ r. ⌜ after r (lentMemory (ram .entry) (parity .entry)) (now («data» .exit)) (now (log .exit))
+        ≡ readCall (state given (lentMemory (ram .entry) (parity .entry)) (now («data» .entry))) address width pcd (now (answers .entry)) (now (log .entry)) ⌝ }
 {
     let number = read_number(
         &given.tags,
@@ -89,7 +89,7 @@ pub fn read(
         log,
     );
     if number != 0 {
-        return refused(given, number);
+        return given.answered(number);
     }
     read_all(given, ram, parity, data, address, width, pcd, answers, log)
 }

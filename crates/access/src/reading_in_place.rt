@@ -3,11 +3,9 @@
 ghost use mathlib.Core.Path.{_≡_};
 ghost use mathlib.Core.Bool.{Bool};
 ghost use lib.ListN.{length};
-ghost use Rattle.directory.specs.Steps.{directoryOf};
-ghost use Rattle.memory.specs.Parity.{memory};
-ghost use Rattle.refusal.specs.Outcome.{outcome};
 ghost use Rattle.refusal.specs.Refusal.{argumentNumber, lentNumber, orElse, statesNumberIn};
-ghost use Rattle.access.specs.Access.{after, readCall, state};
+ghost use Rattle.refusal.specs.Call.{lentState};
+ghost use Rattle.access.specs.Access.{leaves, readCall};
 use crate::result::CallResult;
 use crate::result::number_only;
 use doubleword::AccessCursor;
@@ -33,9 +31,8 @@ fn read_accepted<'a>(
 ) -> CallResult
     requires { ⌜ orElse (lentNumber (length (now ram)) (length (now parity)) (length (now «data»)))
         (orElse (argumentNumber (length (now ram)) address width (now answers) (length (now log))) (statesNumberIn (now tags) (now valid) (now lru) address width)) ≡ 0 ⌝ }
-    ensures { λ r. ⌜ ((nw : Bool) → after (outcome (directoryOf (now (tags .exit)) (now (valid .exit)) (now (lru .exit)) cd nw) (r .number) (r .value) (r .cycles))
-        (memory (now (ram .entry)) (now (parity .entry))) (now («data» .exit)) (now (log .exit))
-        ≡ readCall (state (directoryOf (now (tags .entry)) (now (valid .entry)) (now (lru .entry)) cd nw) (memory (now (ram .entry)) (now (parity .entry))) (now («data» .entry))) address width pcd (now (answers .entry)) (now (log .entry))) ⌝ }
+    ensures { λ r. ⌜ ((nw : Bool) → leaves r (lentState (tags .exit) (valid .exit) (lru .exit) cd nw (ram .entry) (parity .entry) («data» .exit)) (now (log .exit))
+        ≡ readCall (lentState (tags .entry) (valid .entry) (lru .entry) cd nw (ram .entry) (parity .entry) («data» .entry)) address width pcd (now (answers .entry)) (now (log .entry))) ⌝ }
 {
     let mut value: u32 = 0;
     let mut cursor = AccessCursor::begin(address, width);
@@ -78,9 +75,8 @@ pub fn read_in_place<'a>(
     answers: &[u8],
     log: &mut [u32],
 ) -> CallResult
-    ensures { λ r. ⌜ ((nw : Bool) → after (outcome (directoryOf (now (tags .exit)) (now (valid .exit)) (now (lru .exit)) cd nw) (r .number) (r .value) (r .cycles))
-        (memory (now (ram .entry)) (now (parity .entry))) (now («data» .exit)) (now (log .exit))
-        ≡ readCall (state (directoryOf (now (tags .entry)) (now (valid .entry)) (now (lru .entry)) cd nw) (memory (now (ram .entry)) (now (parity .entry))) (now («data» .entry))) address width pcd (now (answers .entry)) (now (log .entry))) ⌝ }
+    ensures { λ r. ⌜ ((nw : Bool) → leaves r (lentState (tags .exit) (valid .exit) (lru .exit) cd nw (ram .entry) (parity .entry) («data» .exit)) (now (log .exit))
+        ≡ readCall (lentState (tags .entry) (valid .entry) (lru .entry) cd nw (ram .entry) (parity .entry) («data» .entry)) address width pcd (now (answers .entry)) (now (log .entry))) ⌝ }
 {
     let number = read_number(
         tags,

@@ -1,15 +1,15 @@
 // The write call by value.
 ghost use mathlib.Core.Path.{_≡_};
 ghost use lib.ListN.{length};
-ghost use Rattle.memory.specs.Parity.{memory};
+ghost use Rattle.memory.specs.Parity.{lentMemory};
 ghost use Rattle.refusal.specs.Refusal.{argumentNumber, lentNumber, orElse, statesNumberOf, valueNumber};
-ghost use Rattle.access.specs.Access.{after, state, writeCall};
+ghost use Rattle.refusal.specs.Call.{after, state};
+ghost use Rattle.access.specs.Access.{writeCall};
 use directory::Directory;
+use directory::Outcome;
 use doubleword::AccessCursor;
 use doubleword::Change;
 use doubleword::changed_by;
-use refusal::Outcome;
-use refusal::refused;
 use refusal::write_number;
 use writing::write_next;
 
@@ -27,8 +27,8 @@ fn write_all(
 ) -> Outcome
     requires { ⌜ orElse (lentNumber (length (now ram)) (length (now parity)) (length (now «data»)))
         (orElse (argumentNumber (length (now ram)) address width (now answers) (length (now log))) (orElse (valueNumber width value) (statesNumberOf given address width))) ≡ 0 ⌝ }
-    ensures { λ r. ⌜ after r (memory (now (ram .exit)) (now (parity .exit))) (now («data» .exit)) (now (log .exit))
-        ≡ writeCall (state given (memory (now (ram .entry)) (now (parity .entry))) (now («data» .entry))) address width value (now (answers .entry)) (now (log .entry)) ⌝ }
+    ensures { λ r. ⌜ after r (lentMemory (ram .exit) (parity .exit)) (now («data» .exit)) (now (log .exit))
+        ≡ writeCall (state given (lentMemory (ram .entry) (parity .entry)) (now («data» .entry))) address width value (now (answers .entry)) (now (log .entry)) ⌝ }
 {
     let mut cursor = AccessCursor::begin(address, width);
     while 0 < cursor.left {
@@ -70,8 +70,8 @@ pub fn write(
     answers: &[u8],
     log: &mut [u32],
 ) -> Outcome
-    ensures { λ r. ⌜ after r (memory (now (ram .exit)) (now (parity .exit))) (now («data» .exit)) (now (log .exit))
-        ≡ writeCall (state given (memory (now (ram .entry)) (now (parity .entry))) (now («data» .entry))) address width value (now (answers .entry)) (now (log .entry)) ⌝ }
+    ensures { λ r. ⌜ after r (lentMemory (ram .exit) (parity .exit)) (now («data» .exit)) (now (log .exit))
+        ≡ writeCall (state given (lentMemory (ram .entry) (parity .entry)) (now («data» .entry))) address width value (now (answers .entry)) (now (log .entry)) ⌝ }
 {
     let number = write_number(
         &given.tags,
@@ -87,7 +87,7 @@ pub fn write(
         log,
     );
     if number != 0 {
-        return refused(given, number);
+        return given.answered(number);
     }
     write_all(
         given,

@@ -1,11 +1,9 @@
 // The write call on a directory whose arrays are lent, as the read call in place. It changes no tag and no valid mark.
 ghost use mathlib.Core.Path.{_≡_};
 ghost use lib.ListN.{length};
-ghost use Rattle.directory.specs.Steps.{directoryOf};
-ghost use Rattle.memory.specs.Parity.{memory};
-ghost use Rattle.refusal.specs.Outcome.{outcome};
 ghost use Rattle.refusal.specs.Refusal.{argumentNumber, lentNumber, orElse, statesNumberIn, valueNumber};
-ghost use Rattle.access.specs.Access.{after, state, writeCall};
+ghost use Rattle.refusal.specs.Call.{lentState};
+ghost use Rattle.access.specs.Access.{leaves, writeCall};
 use crate::result::CallResult;
 use crate::result::number_only;
 use doubleword::AccessCursor;
@@ -32,9 +30,8 @@ fn write_accepted<'a>(
     requires { ⌜ orElse (lentNumber (length (now ram)) (length (now parity)) (length (now «data»)))
         (orElse (argumentNumber (length (now ram)) address width (now answers) (length (now log)))
         (orElse (valueNumber width value) (statesNumberIn (now tags) (now valid) (now lru) address width))) ≡ 0 ⌝ }
-    ensures { λ r. ⌜ after (outcome (directoryOf (now (tags .entry)) (now (valid .entry)) (now (lru .exit)) cd nw) (r .number) (r .value) (r .cycles))
-        (memory (now (ram .exit)) (now (parity .exit))) (now («data» .exit)) (now (log .exit))
-        ≡ writeCall (state (directoryOf (now (tags .entry)) (now (valid .entry)) (now (lru .entry)) cd nw) (memory (now (ram .entry)) (now (parity .entry))) (now («data» .entry))) address width value (now (answers .entry)) (now (log .entry)) ⌝ }
+    ensures { λ r. ⌜ leaves r (lentState (tags .entry) (valid .entry) (lru .exit) cd nw (ram .exit) (parity .exit) («data» .exit)) (now (log .exit))
+        ≡ writeCall (lentState (tags .entry) (valid .entry) (lru .entry) cd nw (ram .entry) (parity .entry) («data» .entry)) address width value (now (answers .entry)) (now (log .entry)) ⌝ }
 {
     let mut cursor = AccessCursor::begin(address, width);
     while 0 < cursor.left {
@@ -76,9 +73,8 @@ pub fn write_in_place<'a>(
     answers: &[u8],
     log: &mut [u32],
 ) -> CallResult
-    ensures { λ r. ⌜ after (outcome (directoryOf (now (tags .entry)) (now (valid .entry)) (now (lru .exit)) cd nw) (r .number) (r .value) (r .cycles))
-        (memory (now (ram .exit)) (now (parity .exit))) (now («data» .exit)) (now (log .exit))
-        ≡ writeCall (state (directoryOf (now (tags .entry)) (now (valid .entry)) (now (lru .entry)) cd nw) (memory (now (ram .entry)) (now (parity .entry))) (now («data» .entry))) address width value (now (answers .entry)) (now (log .entry)) ⌝ }
+    ensures { λ r. ⌜ leaves r (lentState (tags .entry) (valid .entry) (lru .exit) cd nw (ram .exit) (parity .exit) («data» .exit)) (now (log .exit))
+        ≡ writeCall (lentState (tags .entry) (valid .entry) (lru .entry) cd nw (ram .entry) (parity .entry) («data» .entry)) address width value (now (answers .entry)) (now (log .entry)) ⌝ }
 {
     let number = write_number(
         tags,

@@ -17,7 +17,7 @@ use Rattle.directory.proofs.Laws.{fill-held}
 use Rattle.words.specs.Bytes.{bytesAt}
 use Rattle.memory.specs.Parity.{Agrees}
 use Rattle.doubleword.specs.Doubleword.{dataOffset}
-use Rattle.access.specs.Access.{State}
+use Rattle.refusal.specs.Call.{State}
 use Rattle.refusal.proofs.Accepted.{GoodMemory}
 use Rattle.words.proofs.Places.{sets-below, sets-above, sets-in}
 use Rattle.words.proofs.Spans.{bytes-same}

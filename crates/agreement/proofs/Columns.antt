@@ -3,68 +3,35 @@ use Prim.Native.Nat.{ℕ, suc, _/_, _%_, _<_, _≤_}
 use mathlib.Core.Path.{_≡_, refl}
 use mathlib.Core.Bool.{false}
 use mathlib.Core.List.{List, [], _∷_}
+use mathlib.Core.Option.{Option, none, some}
 use native.Mathlib.Omega.{arith}
-use lib.ListN.{drop, replicate, length-replicate}
+use lib.ListN.{replicate, length-replicate}
 use Rattle.laws.proofs.Below.{four}
 use Rattle.words.proofs.Places.{zeros-at}
 use Rattle.memory.specs.Parity.{memory, Agrees, dpAt, laneBit, dpOf, onesOf}
-use Rattle.access.specs.Access.{State}
-use Rattle.board.specs.Board.{boardAnswers}
-use Rattle.lines.specs.declared.Event.{Event}
-use Rattle.lines.specs.declared.Event.the-variants.{Malformed, Read, Write, External, Snoop, Flush, Control, Reset}
-use Rattle.fields.specs.Fields.{pairBytes, linesOf}
-use Rattle.lines.specs.Scan.{scanned}
-use Rattle.events.specs.Perform.{Performed, performed, zeroLog, eventDone, lineDone}
-use Rattle.events.specs.Output.{stateAfter, rowsOf, start, outputOf}
-use Rattle.agreement.specs.Calls.{Call, read, write, external, snoop, flush, control, reset, step}
-use Rattle.agreement.specs.Plain.{Plain, plain}
-use Rattle.agreement.specs.Agreement.{Legal, setsNw}
-use Rattle.agreement.specs.Program.{plainEvent, plainLine, plainRows, countsOf, plainOutput, eventSetsNw, NoLineSetsNw, Columns}
+use Rattle.refusal.specs.Call.{State, nextState}
+use Rattle.calls.specs.Calls.{Call}
+use Rattle.fields.specs.Fields.{linesOf}
+use Rattle.events.specs.Perform.{lineCall, callDone, lineDone}
+use Rattle.events.specs.Output.{rowsOf, start, outputOf}
+use Rattle.agreement.specs.Agreement.{Legal}
+use Rattle.agreement.specs.Program.{plainCall, plainLine, plainRows, countsOf, plainOutput, lineSetsNw, NoLineSetsNw, Columns}
 use Rattle.agreement.proofs.Coherence.{Coherent}
-use Rattle.agreement.proofs.Reading.{coherent-with}
-use Rattle.agreement.proofs.Steps.{call-matches}
+use Rattle.agreement.proofs.Steps.{StepMatches, refused-matches, call-matches}
 use Rattle.agreement.proofs.Demand.{start-coherent}
 
--- what a line leaves beside what the plain memory answers
-record LineMatches (u : Performed) (p : Plain) : Type 0 where
-  coherent : Coherent (stateAfter u) (p .memory)
-  numbers : u .outcome .number ≡ p .number
-  values : u .outcome .value ≡ p .value
-
-module _ (s : State) (m : List ℕ) (c : Coherent s m) where
-  -- an event that makes a call
-  made : (k : Call) → setsNw k ≡ false →
-      LineMatches (performed (step s k .leaves .outcome) (step s k .leaves .memory) (step s k .leaves .array)) (plain m k)
-  made k q =
-      let g = call-matches s m c k q in
-      record { coherent = g .coherent; numbers = g .numbers; values = g .values }
-
-  event-matches : (line : List ℕ) (e : Event) → eventSetsNw e ≡ false → LineMatches (eventDone s line e) (plainEvent m line e)
-  unfolding eventDone plainEvent step
-  event-matches line Malformed q =
-      record {
-        coherent = coherent-with s m c (s .directory) (c .formed) (c .nw) (s .array) (c .arrayLength) (c .lines);
-        numbers = refl;
-        values = refl;
-      }
-  event-matches line (Read a w pcd) q = made (read a w pcd (boardAnswers a w) zeroLog) refl
-  event-matches line (Write a w v) q = made (write a w v (boardAnswers a w) zeroLog) refl
-  event-matches line (External a from) q = made (external a (pairBytes (drop from line))) refl
-  event-matches line (Snoop a) q = made (snoop a) refl
-  event-matches line Flush q = made flush refl
-  event-matches line (Control cd nw) q = made (control cd nw) q
-  event-matches line Reset q = made reset refl
-
-  line-matches : (line : List ℕ) → eventSetsNw (scanned line) ≡ false → LineMatches (lineDone s line) (plainLine m line)
-  unfolding lineDone
-  line-matches line q = event-matches line (scanned line) q
+-- a malformed line, and one that makes a call
+line-matches : (s : State) (m : List ℕ) → Coherent s m → (x : Option Call) → lineSetsNw x ≡ false → StepMatches (callDone s x) (plainCall m x)
+unfolding callDone plainCall
+line-matches s m c none q = refused-matches s m c 11 []
+line-matches s m c (some x) q = call-matches s m c x q
 
 rows-agree : (lines : List (List ℕ)) (s : State) (m : List ℕ) (event : ℕ) → Coherent s m → NoLineSetsNw lines → rowsOf s event lines ≡ plainRows m event lines (countsOf s lines)
 unfolding rowsOf plainRows countsOf
 rows-agree [] s m event c n = refl
 rows-agree (line ∷ lines) s m event c n =
-    let g = line-matches s m c line (n .0) in
-    rw (g .numbers, g .values, rows-agree lines (stateAfter (lineDone s line)) (plainLine m line .memory) (suc event) (g .coherent) (n .1))
+    let g = line-matches s m c (lineCall line) (n .0) in
+    rw (g .numbers, g .values, rows-agree lines (nextState (lineDone s line)) (plainLine m line .memory) (suc event) (g .coherent) (n .1))
 
 -- zeros have parity that agrees
 no-bit : (lane : ℕ) → lane < 4 → laneBit 0 lane ≡ dpOf 0

@@ -17,7 +17,8 @@ use Rattle.bus.specs.Record.{Record, wordsOf, logged}
 use Rattle.doubleword.specs.Doubleword.{Doubleword, Done, doublewordsOf}
 use Rattle.reading.specs.Reading.{readHit, fillMiss, plainMiss, readMiss, settled, readDone}
 use Rattle.writing.specs.Writing.{writeThrough, writeDone}
-use Rattle.access.specs.Access.{State, After, next, allOf, readOne, writeOne}
+use Rattle.refusal.specs.Call.{State, After}
+use Rattle.access.specs.Access.{next, allOf, readOne, writeOne}
 use Rattle.agreement.specs.Agreement.{NoParityError}
 
 cycles-most : (xs : List ℕ) (ws : List Run) → length (cyclesOf xs ws) ≤ length xs

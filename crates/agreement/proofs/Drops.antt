@@ -10,8 +10,8 @@ use Rattle.directory.specs.Steps.{lookupOf}
 use Rattle.directory.specs.WellFormed.{WellFormed}
 use Rattle.directory.proofs.Laws.{snoop-accepted, snoop-lookup, flush-lookup, reset-lookup}
 use Rattle.directory.proofs.SetState.{good-state-zero}
-use Rattle.access.specs.Access.{State}
-use Rattle.agreement.specs.Calls.{Call, snoop, flush, reset, step, nextState}
+use Rattle.refusal.specs.Call.{State, nextState}
+use Rattle.calls.specs.Calls.{Call, snoop, flush, reset, step}
 
 -- the way in which an address is found after a call
 abbrev foundAfter : State → Call → ℕ → Found

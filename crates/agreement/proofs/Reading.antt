@@ -22,7 +22,8 @@ use Rattle.bus.specs.Record.{plainKind, fillKind}
 use Rattle.doubleword.specs.declared.change.Change.the-variants.{Unchanged, Fill}
 use Rattle.doubleword.specs.Doubleword.{Doubleword, Done, changed, dataOffset, plainCycles}
 use Rattle.reading.specs.Reading.{fillCycles, bufferOf, readHit, plainMiss, fillMiss, readMiss, settled, readDone}
-use Rattle.access.specs.Access.{State, state, Progress, readOne, next, allOf}
+use Rattle.refusal.specs.Call.{State, state}
+use Rattle.access.specs.Access.{Progress, readOne, next, allOf}
 use Rattle.words.proofs.Places.{bytes-at, bytes-length}
 use Rattle.words.proofs.Spans.{bytes-same}
 use Rattle.cycles.proofs.Brought.{burst-each, fill-buffer, wanted-bytes}

@@ -11,7 +11,7 @@ use Rattle.directory.specs.Steps.{afterSnoop}
 use Rattle.directory.specs.WellFormed.{Held}
 use Rattle.directory.proofs.Laws.{snoop-held, snoop-control, snoop-none, snoop-well-formed}
 use Rattle.memory.specs.Parity.{stored}
-use Rattle.access.specs.Access.{State, state}
+use Rattle.refusal.specs.Call.{State, state}
 use Rattle.refusal.proofs.Accepted.{GoodExternal}
 use Rattle.agreement.proofs.Coherence.{addressOf, Lines, NwInvariant, Coherent, fewer-lines, line-set, stored-miss}
 use Rattle.agreement.proofs.Writing.{coherent-stored}

@@ -17,8 +17,9 @@ use Rattle.directory.proofs.Laws.{lookup-at, reset-none, reset-control, reset-w
 use Rattle.words.specs.Bytes.{bytesAt, valueOf}
 use Rattle.bus.specs.Groups.{groupCount}
 use Rattle.doubleword.specs.Doubleword.{dataOffset, doublewordsOf}
-use Rattle.refusal.specs.Outcome.{outcome}
-use Rattle.access.specs.Access.{State, after, refused, accepted, operandOf, readNumber, writeNumber, readOne, writeOne, readAll, writeAll}
+use Rattle.directory.specs.Outcome.{outcome}
+use Rattle.refusal.specs.Call.{State, After, onDirectory, refused, nextState}
+use Rattle.access.specs.Access.{accepted, operandOf, readNumber, writeNumber, readOne, writeOne, readAll, writeAll}
 use Rattle.masters.specs.Masters.{externalWriteNumber}
 use Rattle.refusal.specs.Refusal.{argumentNumber, valueNumber}
 use Rattle.refusal.proofs.Accepted.{or-zero, arguments-accepted, external-accepted}
@@ -26,7 +27,7 @@ use Rattle.access.proofs.Calls.{read-refused, read-done, write-refused, write-d
 use Rattle.masters.proofs.External.{external-refused, external-done}
 use Rattle.views.specs.View.{shown}
 use Rattle.views.proofs.Viewing.{view-refused, view-done}
-use Rattle.agreement.specs.Calls.{Call, read, write, external, snoop, flush, control, view, reset, Step, callStep, directoryStep, step, nextState, viewNumberOf}
+use Rattle.calls.specs.Calls.{Call, read, write, external, snoop, flush, control, view, reset, step, viewNumberOf}
 use Rattle.agreement.specs.Plain.{Plain, plainAccepted, plainRefused, plainNumber, plainDone, plain}
 use Rattle.agreement.specs.Agreement.{NoParityError, setsNw}
 use Rattle.words.proofs.Spans.{bytes-same}
@@ -41,19 +42,27 @@ use Rattle.agreement.proofs.Snooping.{snooped-nw, snooped-lines, extern
 use Rattle.agreement.proofs.Numbers.{state-zero, read-number, write-number, external-write-number, view-number, plain-read, plain-write, plain-external, plain-view}
 
 -- what a step leaves beside what the plain memory answers
-pub record StepMatches (x : Step) (p : Plain) : Type 0 where
+pub record StepMatches (x : After) (p : Plain) : Type 0 where
   pub coherent : Coherent (nextState x) (p .memory)
-  pub numbers : x .leaves .outcome .number ≡ p .number
-  pub values : x .leaves .outcome .value ≡ p .value
+  pub numbers : x .outcome .number ≡ p .number
+  pub values : x .outcome .value ≡ p .value
   pub views : x .shown ≡ p .shown
-  pub no-error : NoParityError (x .leaves)
+  pub no-error : NoParityError x
+
+-- nothing changed, with a number
+pub refused-matches : (s : State) (m : List ℕ) → Coherent s m → (n : ℕ) (log : List ℕ) → StepMatches (refused n s log) (plainRefused n m)
+refused-matches s m c n log =
+    record {
+      coherent = coherent-with s m c (s .directory) (c .formed) (c .nw) (s .array) (c .arrayLength) (c .lines);
+      numbers = refl;
+      values = refl;
+      views = refl;
+      no-error = none-counted _ refl;
+    }
 
 -- a call by its number: refused and nothing changed, or done
 module _ (s : State) (m : List ℕ) (c : Coherent s m) (x : Call) where
-  abbrev unchanged : ℕ → List ℕ → Step
-  unchanged n log = callStep (after (outcome (s .directory) n 0 0) (s .memory) (s .array) log)
-
-  by-number : (n : ℕ) → n ≡ plainNumber m x → (n ≡ 0 → StepMatches (step s x) (plainDone m x)) → (log : List ℕ) → ((n ≡ 0 → ⊥) → step s x ≡ unchanged n log) →
+  by-number : (n : ℕ) → n ≡ plainNumber m x → (n ≡ 0 → StepMatches (step s x) (plainDone m x)) → (log : List ℕ) → ((n ≡ 0 → ⊥) → step s x ≡ refused n s log) →
       StepMatches (step s x) (plain m x)
   unfolding plain
   by-number n e g log f =
@@ -61,14 +70,7 @@ module _ (s : State) (m : List ℕ) (c : Coherent s m) (x : Call) where
       (λ z. let k : plainNumber m x ≡ 0 = sym e ∙ z in rw (cond-true _ (plainDone m x) (plainRefused (plainNumber m x) m) (eq-eqb _ 0 k)) (g z))
       (λ h.
       let k : plainNumber m x ≡ 0 → ⊥ = λ q. h (e ∙ q) in
-      rw (cond-false _ (plainDone m x) (plainRefused (plainNumber m x) m) (ne-eqb _ 0 k), f h)
-      (record {
-        coherent = coherent-with s m c (s .directory) (c .formed) (c .nw) (s .array) (c .arrayLength) (c .lines);
-        numbers = e;
-        values = refl;
-        views = refl;
-        no-error = none-counted _ refl;
-      }))
+      rw (cond-false _ (plainDone m x) (plainRefused (plainNumber m x) m) (ne-eqb _ 0 k), f h, e) (refused-matches s m c (plainNumber m x) log))
 
 module _ (s : State) (m : List ℕ) (c : Coherent s m) where
   whole : length m % 16 ≡ 0
@@ -131,7 +133,7 @@ module _ (s : State) (m : List ℕ) (c : Coherent s m) where
       let n = externalWriteNumber (s .directory) (s .memory) a x in
       by-number s m c (external a x) n (external-write-number s m c a x ∙ sym (plain-external m a x))
       (λ z.
-      rw (external-done (s .directory) (s .memory) a x z)
+      rw (external-done s a x z)
       (record {
         coherent = external-coherent s m c a x (external-accepted (length m) a (length x) (sym (external-write-number s m c a x) ∙ z));
         numbers = refl;
@@ -140,12 +142,12 @@ module _ (s : State) (m : List ℕ) (c : Coherent s m) where
         no-error = none-counted _ refl;
       }))
       []
-      (λ h. rw (external-refused (s .directory) (s .memory) a x n refl h))
+      (λ h. rw (external-refused s a x n refl h))
 
   -- THE DIRECTORY ALONE
 
   -- a call that changes nothing but the directory
-  changed-matches : (d : Directory) → WellFormed d → NwInvariant d → Lines d m (s .array) → StepMatches (directoryStep s (outcome d 0 0 0)) (plainAccepted 0 [] m)
+  changed-matches : (d : Directory) → WellFormed d → NwInvariant d → Lines d m (s .array) → StepMatches (onDirectory s (outcome d 0 0 0)) (plainAccepted 0 [] m)
   changed-matches d g o l =
       record {
         coherent = coherent-with s m c d g o (s .array) (c .arrayLength) l;
@@ -156,7 +158,7 @@ module _ (s : State) (m : List ℕ) (c : Coherent s m) where
       }
 
   -- a directory that holds no line
-  emptied-matches : (d : Directory) → WellFormed d → (d .nw ≡ true → d .cd ≡ true) → Empty d → StepMatches (directoryStep s (outcome d 0 0 0)) (plainAccepted 0 [] m)
+  emptied-matches : (d : Directory) → WellFormed d → (d .nw ≡ true → d .cd ≡ true) → Empty d → StepMatches (onDirectory s (outcome d 0 0 0)) (plainAccepted 0 [] m)
   emptied-matches d g e n = changed-matches d g (record { disabled = e; empty = λ _. n }) (no-lines d m (s .array) n)
 
   snoop-matches : (a : ℕ) → StepMatches (step s (snoop a)) (plain m (snoop a))
@@ -181,14 +183,7 @@ module _ (s : State) (m : List ℕ) (c : Coherent s m) where
   control-matches cd nw q =
       by-test (λ b. controlRefused cd nw ≡ b → StepMatches (step s (control cd nw)) (plain m (control cd nw))) (controlRefused cd nw)
       (λ _ e.
-      rw (control-refused (s .directory) cd nw e, e)
-      (record {
-        coherent = coherent-with s m c (s .directory) (c .formed) (c .nw) (s .array) (c .arrayLength) (c .lines);
-        numbers = refl;
-        values = refl;
-        views = refl;
-        no-error = none-counted _ refl;
-      }))
+      rw (control-refused (s .directory) cd nw e, e) (refused-matches s m c 9 []))
       (λ _ e.
       let k = control-set (s .directory) cd nw in
       let never : afterControl (s .directory) cd nw .nw ≡ true → ⊥ = λ h. differ h (k .1 ∙ rw e at q) in

@@ -20,7 +20,8 @@ use Rattle.bus.specs.Record.{writeRecord}
 use Rattle.doubleword.specs.declared.change.Change.the-variants.{Unchanged, Use}
 use Rattle.doubleword.specs.Doubleword.{Doubleword, Done, changed, dataOffset, plainCycles}
 use Rattle.writing.specs.Writing.{writeBuffer, writeThrough, hitArray, writeDone}
-use Rattle.access.specs.Access.{State, state, Progress, writeOne, next, allOf}
+use Rattle.refusal.specs.Call.{State, state}
+use Rattle.access.specs.Access.{Progress, writeOne, next, allOf}
 use Rattle.words.proofs.Places.{bytes-length}
 use Rattle.memory.proofs.Bits.{stored-lengths}
 use Rattle.agreement.proofs.Memories.{stored-ram, stored-agrees}

@@ -7,8 +7,8 @@ use mathlib.Core.Logic.{_⊎_}
 use lib.ListN.{length, getD}
 use Rattle.directory.specs.Steps.{afterReset, controlRefused}
 use Rattle.memory.specs.Parity.{Memory, Agrees}
-use Rattle.access.specs.Access.{State, state, After}
-use Rattle.agreement.specs.Calls.{Call, read, write, external, snoop, flush, control, view, reset, Step, step, nextState}
+use Rattle.refusal.specs.Call.{State, state, After, nextState}
+use Rattle.calls.specs.Calls.{Call, read, write, external, snoop, flush, control, view, reset, step}
 use Rattle.agreement.specs.Plain.{Plain, plain}
 
 -- "No record that a call of the list leaves carries 128.": the records that a call counts are in its log, three words each, and 128 is not among the
@@ -18,12 +18,12 @@ pub record NoParityError (a : After) : Type 0 where
   pub clear : (k : ℕ) → k < a .outcome .cycles → getD (a .log) (3 * k + 1) 0 / 128 % 2 ≡ 0
 
 -- "Compared after each call": numbers, values, views, "and all of RAM"; and no record carries 128. For every call, refused ones too (D50).
-pub record Matches (x : Step) (p : Plain) : Type 0 where
-  pub numbers : x .leaves .outcome .number ≡ p .number
-  pub values : x .leaves .outcome .value ≡ p .value
+pub record Matches (x : After) (p : Plain) : Type 0 where
+  pub numbers : x .outcome .number ≡ p .number
+  pub values : x .outcome .value ≡ p .value
   pub views : x .shown ≡ p .shown
-  pub rams : x .leaves .memory .ram ≡ p .memory
-  pub no-parity-error : NoParityError (x .leaves)
+  pub rams : x .memory .ram ≡ p .memory
+  pub no-parity-error : NoParityError x
 
 -- After each call of a list, of the unit in a state and the plain memory beside it.
 unfoldable pub AgreesAll : State → List ℕ → List Call → Type 0
@@ -69,7 +69,7 @@ Arises n = (n ≡ 0) ⊎ ((4 ≤ n) × (n ≤ 10))
 -- After each call of a list.
 unfoldable pub ArisesAll : State → List Call → Type 0
 ArisesAll s [] = Unit {0}
-ArisesAll s (c ∷ cs) = Arises (step s c .leaves .outcome .number) × ArisesAll (nextState (step s c)) cs
+ArisesAll s (c ∷ cs) = Arises (step s c .outcome .number) × ArisesAll (nextState (step s c)) cs
 
 -- The claim, for every list with demand 3's premises.
 abbrev pub NumbersThatArise : Type 0

@@ -2,7 +2,7 @@
 ghost use mathlib.Core.Path.{_≡_};
 ghost use Prim.Native.Nat.{_+_, _*_, _≤_, _<_};
 ghost use lib.ListN.{length};
-ghost use Rattle.memory.specs.Parity.{memory};
+ghost use Rattle.memory.specs.Parity.{lentMemory};
 ghost use Rattle.bus.specs.Bus.{burst, cyclesOf};
 ghost use Rattle.bus.specs.Record.{fillKind, readRecord};
 ghost use Rattle.bus.specs.Runs.{offsets};
@@ -37,7 +37,7 @@ pub fn fill_cycles(
     first: usize,
 ) -> usize
     requires { ⌜ (start < 4) × (16 ≤ length (now answers)) × (3 * (first + 16) ≤ length (now log)) × LineNeeds line 0 (length (now ram)) (length (now parity)) ⌝ }
-    ensures { λ r. ⌜ CyclesMade (readRecord fillKind (memory (now (ram .entry)) (now (parity .entry))) line) (cyclesOf (now (answers .entry)) (burst start)) first 0 (now (log .entry)) r (now (log .exit)) × (0 < r) × (r ≤ 16) ⌝ }
+    ensures { λ r. ⌜ CyclesMade (readRecord fillKind (lentMemory (ram .entry) (parity .entry)) line) (cyclesOf (now (answers .entry)) (burst start)) first 0 (now (log .entry)) r (now (log .exit)) × (0 < r) × (r ≤ 16) ⌝ }
 {
     let order = burst_order(start);
     let mut used: usize = 0;

@@ -2,7 +2,7 @@
 ghost use mathlib.Core.List.{[], _∷_};
 ghost use Prim.Native.Nat.{_+_, _*_, _/_, _%_, _≤_, _<_};
 ghost use lib.ListN.{length};
-ghost use Rattle.memory.specs.Parity.{memory};
+ghost use Rattle.memory.specs.Parity.{lentMemory};
 ghost use Rattle.bus.specs.Bus.{cyclesOf, run};
 ghost use Rattle.bus.specs.Record.{plainKind, readRecord};
 ghost use Rattle.cycles.specs.Made.{CyclesMade};
@@ -26,7 +26,7 @@ pub fn plain_cycles(
     first: usize,
 ) -> usize
     requires { ⌜ (0 < count) × (from % 4 + count ≤ 4) × (4 ≤ length (now answers)) × (3 * (first + 4) ≤ length (now log)) × LineNeeds line (from / 4 * 4) (length (now ram)) (length (now parity)) ⌝ }
-    ensures { λ r. ⌜ CyclesMade (readRecord plainKind (memory (now (ram .entry)) (now (parity .entry))) line) (cyclesOf (now (answers .entry)) (run from count ∷ [])) first 0 (now (log .entry)) r (now (log .exit)) × (0 < r) × (r ≤ 4) ⌝ }
+    ensures { λ r. ⌜ CyclesMade (readRecord plainKind (lentMemory (ram .entry) (parity .entry)) line) (cyclesOf (now (answers .entry)) (run from count ∷ [])) first 0 (now (log .entry)) r (now (log .exit)) × (0 < r) × (r ≤ 4) ⌝ }
 {
     let base = line + from / 4 * 4;
     let word = word_at(&ram[..], base);

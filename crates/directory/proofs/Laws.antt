@@ -14,7 +14,9 @@ use Rattle.ways.specs.declared.ways.Found.the-variants.{At, Nothing}
 use Rattle.ways.specs.Address.{setOf, tagOf, lineIndex}
 use Rattle.ways.specs.Lru.{lruAfter}
 use Rattle.ways.specs.Ways.{holds, lookupIn}
-use Rattle.directory.specs.Steps.{validAt, tagAt, lruAt, lookupOf, stateNumberOf, afterUse, afterFill, afterReset, afterControl, controlRefused, controlCall, directoryResult, afterFlush, invalidated, afterSnoop, snoopCall}
+use Rattle.directory.specs.declared.steps.Outcome.{Outcome}
+use Rattle.directory.specs.Outcome.{outcome}
+use Rattle.directory.specs.Steps.{validAt, tagAt, lruAt, lookupOf, stateNumberOf, afterUse, afterFill, afterReset, afterControl, controlRefused, controlCall, afterFlush, invalidated, afterSnoop, snoopCall}
 use Rattle.directory.specs.WellFormed.{Held, Same, GoodSet, Sized, WellFormed}
 use Rattle.laws.proofs.Tests.{both, refuted, differ, cond-true, cond-false, by-test, same-or}
 use Rattle.ways.proofs.FourWays.{lru-after-below, lowest-at, lowest-nothing, none-lowest, one-lowest}
@@ -218,11 +220,11 @@ module _ (d : Directory) (cd nw : Bool) where
       fewer-well-formed d _ g (record { tags = g .sized .tags; valid = g .sized .valid; lru = g .sized .lru })
       (λ r v tag rl vl h. h) (λ r rl. g .sets r rl .lru)
 
-  pub control-accepted : controlRefused cd nw ≡ false → controlCall d cd nw ≡ directoryResult (afterControl d cd nw) 0
+  pub control-accepted : controlRefused cd nw ≡ false → controlCall d cd nw ≡ outcome (afterControl d cd nw) 0 0 0
   unfolding controlCall
   control-accepted e = cond-false _ _ _ e
 
-  pub control-refused : controlRefused cd nw ≡ true → controlCall d cd nw ≡ directoryResult d 9
+  pub control-refused : controlRefused cd nw ≡ true → controlCall d cd nw ≡ outcome d 9 0 0
   unfolding controlCall
   control-refused e = cond-true _ _ _ e
 
@@ -344,26 +346,31 @@ snoop-well-formed d g a =
 
 -- a snoop call is refused for the state of its set, and else accepted
 module _ (d : Directory) (a : ℕ) where
-  pub snoop-accepted : stateNumberOf d (setOf a) ≡ 0 → snoopCall d a ≡ directoryResult (afterSnoop d a) 0
+  pub snoop-accepted : stateNumberOf d (setOf a) ≡ 0 → snoopCall d a ≡ outcome (afterSnoop d a) 0 0 0
   unfolding snoopCall
   snoop-accepted e = cond-true _ _ _ (eq-eqb _ 0 e)
 
-  pub snoop-refused : (stateNumberOf d (setOf a) ≡ 0 → ⊥) → snoopCall d a ≡ directoryResult d (stateNumberOf d (setOf a))
+  pub snoop-refused : (stateNumberOf d (setOf a) ≡ 0 → ⊥) → snoopCall d a ≡ outcome d (stateNumberOf d (setOf a)) 0 0
   unfolding snoopCall
   snoop-refused n = cond-false _ _ _ (ne-eqb _ 0 n)
 
+  -- its value and its count are 0
+  pub snoop-plain : (r : Outcome) → r ≡ snoopCall d a → outcome (r .directory) (r .number) 0 0 ≡ snoopCall d a
+  snoop-plain r e =
+      same-or _ (stateNumberOf d (setOf a)) 0 (λ z. rw (e, snoop-accepted z)) (λ n. rw (e, snoop-refused n))
+
   -- by the number of the set's state: where it is not 0, or NW = 1, nothing changes
   module _ (n : ℕ) (en : n ≡ stateNumberOf d (setOf a)) where
-    pub snoop-call-kept : (eqb n 0 && not (d .nw)) ≡ false → directoryResult d n ≡ snoopCall d a
+    pub snoop-call-kept : (eqb n 0 && not (d .nw)) ≡ false → outcome d n 0 0 ≡ snoopCall d a
     snoop-call-kept h =
         same-or _ n 0
         (λ z.
         let off : d .nw ≡ true = not-false (d .nw) (rw (eq-eqb n 0 z) at h) in
-        rw z (sym (snoop-accepted (sym en ∙ z) ∙ ap (λ (x : Directory). directoryResult x 0) (snoop-off d a off))))
-        (λ m. ap (directoryResult d) en ∙ sym (snoop-refused (λ z. m (en ∙ z))))
+        rw z (sym (snoop-accepted (sym en ∙ z) ∙ ap (λ (x : Directory). outcome x 0 0 0) (snoop-off d a off))))
+        (λ m. ap (λ (x : ℕ). outcome d x 0 0) en ∙ sym (snoop-refused (λ z. m (en ∙ z))))
 
-    pub snoop-call-done : (eqb n 0 && not (d .nw)) ≡ true → (d′ : Directory) → d′ ≡ invalidated d (setOf a) (lookupOf d a) → directoryResult d′ n ≡ snoopCall d a
+    pub snoop-call-done : (eqb n 0 && not (d .nw)) ≡ true → (d′ : Directory) → d′ ≡ invalidated d (setOf a) (lookupOf d a) → outcome d′ n 0 0 ≡ snoopCall d a
     snoop-call-done h d′ e =
         let t = both (eqb n 0) _ h in
         let z = eqb-true n 0 (t .0) in
-        rw (z, e) (sym (snoop-accepted (sym en ∙ z) ∙ ap (λ (x : Directory). directoryResult x 0) (snoop-on d a (not-true (d .nw) (t .1)))))
+        rw (z, e) (sym (snoop-accepted (sym en ∙ z) ∙ ap (λ (x : Directory). outcome x 0 0 0) (snoop-on d a (not-true (d .nw) (t .1)))))

@@ -4,8 +4,10 @@ use mathlib.Core.Bool.{Bool, true, false, cond, not, _&&_}
 use mathlib.Core.List.{List}
 use lib.Dec.{eqb}
 use lib.ListN.{getD, set, replicate}
+use denote.Ref.{RefT, now}
 use Rattle.directory.specs.declared.steps.Directory.{Directory}
-use Rattle.directory.specs.declared.steps.DirectoryResult.{DirectoryResult}
+use Rattle.directory.specs.declared.steps.Outcome.{Outcome}
+use Rattle.directory.specs.Outcome.{outcome}
 use Rattle.ways.specs.declared.ways.Found.{Found}
 use Rattle.ways.specs.declared.ways.Found.the-variants.{At, Nothing}
 use Rattle.ways.specs.Address.{setOf, lineIndex}
@@ -17,9 +19,9 @@ use Rattle.ways.specs.State.{stateNumberIn}
 abbrev pub directoryOf : List ℕ → List Bool → List ℕ → Bool → Bool → Directory
 directoryOf tags valid lru cd nw = record { tags = tags; valid = valid; lru = lru; cd = cd; nw = nw }
 
--- What a call on the directory alone answers: the directory, and 0 or the number that turns it away.
-abbrev pub directoryResult : Directory → ℕ → DirectoryResult
-directoryResult d number = record { directory = d; number = number }
+-- The directory that lent references hold.
+abbrev pub lentDirectory : RefT (List ℕ) → RefT (List Bool) → RefT (List ℕ) → Bool → Bool → Directory
+lentDirectory tags valid lru cd nw = directoryOf (now tags) (now valid) (now lru) cd nw
 
 -- What a directory has of a line and of a set, and the questions asked of it.
 abbrev pub validAt : Directory → ℕ → ℕ → Bool
@@ -83,11 +85,11 @@ abbrev pub controlRefused : Bool → Bool → Bool
 controlRefused cd nw = not cd && nw
 
 -- The control call, refused or not.
-unfoldable pub controlCall : Directory → Bool → Bool → DirectoryResult
+unfoldable pub controlCall : Directory → Bool → Bool → Outcome
 controlCall d cd nw =
     cond (controlRefused cd nw)
-    (directoryResult d 9)
-    (directoryResult (afterControl d cd nw) 0)
+    (outcome d 9 0 0)
+    (outcome (afterControl d cd nw) 0 0 0)
 
 -- "A flush (FLUSH#, INVD and WBINVD alike) clears valid marks and nothing else (H)."
 unfoldable pub afterFlush : Directory → Directory
@@ -99,6 +101,13 @@ afterFlush d =
       cd = d .cd;
       nw = d .nw;
     }
+
+-- A flush and a reset are never turned away.
+abbrev pub flushCall : Directory → Outcome
+flushCall d = outcome (afterFlush d) 0 0 0
+
+abbrev pub resetCall : Outcome
+resetCall = outcome afterReset 0 0 0
 
 -- The directory with the line that a lookup found invalid, and as it was where none was found.
 unfoldable pub invalidated : Directory → ℕ → Found → Directory
@@ -117,8 +126,8 @@ unfoldable pub afterSnoop : Directory → ℕ → Directory
 afterSnoop d address = cond (d .nw) d (invalidated d (setOf address) (lookupOf d address))
 
 -- A snoop is turned away because of the state of its set, whatever NW is.
-unfoldable pub snoopCall : Directory → ℕ → DirectoryResult
+unfoldable pub snoopCall : Directory → ℕ → Outcome
 snoopCall d address =
     cond (eqb (stateNumberOf d (setOf address)) 0)
-    (directoryResult (afterSnoop d address) 0)
-    (directoryResult d (stateNumberOf d (setOf address)))
+    (outcome (afterSnoop d address) 0 0 0)
+    (outcome d (stateNumberOf d (setOf address)) 0 0)

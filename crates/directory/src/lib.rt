@@ -3,4 +3,4 @@
 mod steps;
 
 pub use steps::Directory;
-pub use steps::DirectoryResult;
+pub use steps::Outcome;

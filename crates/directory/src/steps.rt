@@ -1,6 +1,7 @@
 // The directory and its steps. Each step hands the changed directory back.
 ghost use mathlib.Core.Path.{_≡_};
 ghost use Prim.Native.Nat.{_<_};
+ghost use Rattle.directory.specs.Outcome.{outcome};
 ghost use Rattle.directory.specs.Steps.{afterControl, afterFill, afterFlush, afterReset, afterSnoop, afterUse, controlCall, snoopCall};
 use ways::Found;
 use ways::lookup;
@@ -18,11 +19,14 @@ pub struct Directory {
     pub nw: bool,
 }
 
-// What a call answers: 0 where it was done, the number where it was refused, and the directory.
+// What a call by value answers: the directory, 0 where it was done or the number that turned it away, a read's value, the count
+// of cycles.
 #[repr(C)]
-pub struct DirectoryResult {
+pub struct Outcome {
     pub directory: Directory,
     pub number: u32,
+    pub value: u32,
+    pub cycles: u32,
 }
 
 impl Directory {
@@ -93,26 +97,31 @@ impl Directory {
         self
     }
 
+    // What a call without value and cycles answers: a number, with this directory.
+    pub fn answered(self, number: u32) -> Outcome
+        ensures { λ r. ⌜ r ≡ outcome self number 0 0 ⌝ }
+    {
+        Outcome {
+            directory: self,
+            number,
+            value: 0,
+            cycles: 0,
+        }
+    }
+
     // The control call: 9 for CD = 0 with NW = 1.
-    pub fn control(self, cd: bool, nw: bool) -> DirectoryResult
+    pub fn control(self, cd: bool, nw: bool) -> Outcome
         ensures { λ r. ⌜ r ≡ controlCall self cd nw ⌝ }
     {
         if !cd & nw {
-            return DirectoryResult {
-                directory: self,
-                number: 9,
-            };
+            return self.answered(9);
         }
-        let directory = self.with_control(cd, nw);
-        DirectoryResult {
-            directory,
-            number: 0,
-        }
+        self.with_control(cd, nw).answered(0)
     }
 
     // The snoop call: the state of the address's set is checked first, whatever NW is. Done or refused, it ends at one place:
     // at two, the directory would be copied for each.
-    pub fn snoop(mut self, address: u32) -> DirectoryResult
+    pub fn snoop(mut self, address: u32) -> Outcome
         ensures { λ r. ⌜ r ≡ snoopCall self address ⌝ }
     {
         let number = state_number(&self.tags, &self.valid, &self.lru, set_of(address));
@@ -122,9 +131,11 @@ impl Directory {
                 self.valid[line] = false;
             }
         }
-        DirectoryResult {
+        Outcome {
             directory: self,
             number,
+            value: 0,
+            cycles: 0,
         }
     }
 }

@@ -3,7 +3,7 @@ ghost use mathlib.Core.Path.{_≡_};
 ghost use mathlib.Core.Bool.{Bool};
 ghost use mathlib.Core.List.{List};
 ghost use Prim.Native.Nat.{ℕ, _+_, _≤_, _<_};
-ghost use Rattle.directory.specs.Steps.{directoryOf};
+ghost use Rattle.directory.specs.Steps.{directoryOf, lentDirectory};
 ghost use Rattle.doubleword.specs.Doubleword.{changed, dataOffset};
 ghost use Rattle.doubleword.specs.DoublewordCode.{BelowFour, NoFill};
 use directory::Directory;
@@ -52,8 +52,8 @@ pub fn change_in_place(
     change: Change,
 )
     requires { ⌜ BelowFour change ⌝ }
-    ensures { λ _. ⌜ ((cd nw : Bool) → directoryOf (now (tags .exit)) (now (valid .exit)) (now (lru .exit)) cd nw
-        ≡ changed (directoryOf (now (tags .entry)) (now (valid .entry)) (now (lru .entry)) cd nw) line change) ⌝ }
+    ensures { λ _. ⌜ ((cd nw : Bool) → lentDirectory (tags .exit) (valid .exit) (lru .exit) cd nw
+        ≡ changed (lentDirectory (tags .entry) (valid .entry) (lru .entry) cd nw) line change) ⌝ }
 {
     match change {
         Change::Unchanged => {}

@@ -10,13 +10,19 @@ use borrow.Author.Tests.{lt-ltb, le-ltb}
 use Rattle.laws.proofs.Lists.{sets-append}
 use Rattle.bytes.specs.Bytes.{indexOf}
 use Rattle.memory.specs.Parity.{Memory}
-use Rattle.refusal.specs.declared.outcome.Outcome.{Outcome}
-use Rattle.access.specs.Access.{State, state}
+use Rattle.directory.specs.declared.steps.Outcome.{Outcome}
+use Rattle.refusal.specs.Call.{State, state, After, after}
 use Rattle.fields.specs.Fields.{newline, linesOf, withoutEmptyEnd, partsOf}
 use Rattle.rows.specs.Row.{header, rowOf}
 use Rattle.fields.proofs.Parts.{drop-part, lines-next}
-use Rattle.events.specs.Perform.{performed, lineDone}
+use Rattle.access.specs.declared.result.CallResult.{CallResult}
+use Rattle.access.specs.Access.{leaves}
+use Rattle.events.specs.Perform.{lineDone, Leaves}
 use Rattle.events.specs.Output.{rowFor, rowsOf, start, outputOf}
+
+-- a call that leaves some log leaves its own
+pub own-log : (a : After) (r : CallResult) (s : State) (log : List ℕ) → leaves r s log ≡ a → Leaves a r s
+own-log a r s log e = ap (λ (x : After). leaves r s (x .log)) (sym e) ∙ e
 
 -- The rows that are left at a place of the input, from a state and the number of the next event.
 abbrev pub rowsLeft : List ℕ → State → ℕ → ℕ → List ℕ
@@ -27,38 +33,38 @@ unfolding rowsOf linesOf withoutEmptyEnd partsOf
 rows-left-none input s event place h = rw (drop-of-length-le input h)
 
 -- The next line's row comes first.
-rows-left-next : (input : List ℕ) (s : State) (event place : ℕ) (rest : List ℕ) (e : ℕ) (done : Outcome) (m : Memory) (array : List ℕ)
+rows-left-next : (input : List ℕ) (s : State) (event place : ℕ) (rest : List ℕ) (e : ℕ) (done : Outcome) (m : Memory) (array log : List ℕ)
     → place < length input
     → rest ≡ take (length input - place) (drop place input)
     → e ≡ indexOf newline rest
-    → performed done m array ≡ lineDone s (take e rest)
+    → after done m array log ≡ lineDone s (take e rest)
     → rowsLeft input s event place ≡ rowFor event done ++ rowsLeft input (state (done .directory) m array) (event + 1) (place + e + 1)
 unfolding rowsOf
-rows-left-next input s event place rest e done m array h r i d =
+rows-left-next input s event place rest e done m array log h r i d =
     let whole : rest ≡ drop place input = r ∙ drop-part place input in
     let some : 0 < length (drop place input) = omega (arith, length-drop place input) in
     let at : e ≡ indexOf newline (drop place input) = i ∙ ap (indexOf newline) whole in
     let sum : place + suc e ≡ place + e + 1 = omega arith in
     let far : drop (suc e) (drop place input) ≡ drop (place + e + 1) input = drop-drop (suc e) place input ∙ rw sum in
-    let line : lineDone s (take e (drop place input)) ≡ performed done m array = ap (λ l. lineDone s (take e l)) (sym whole) ∙ sym d in
+    let line : lineDone s (take e (drop place input)) ≡ after done m array log = ap (λ l. lineDone s (take e l)) (sym whole) ∙ sym d in
     rw (lines-next (drop place input) e some at, far, line, add-one event)
 
 -- The next line's row put, what is left after it gives what was left before it.
-pub line-done : (input : List ℕ) (s : State) (event place : ℕ) (rest : List ℕ) (e : ℕ) (done : Outcome) (m : Memory) (array out printed whole : List ℕ) (at next total : ℕ)
+pub line-done : (input : List ℕ) (s : State) (event place : ℕ) (rest : List ℕ) (e : ℕ) (done : Outcome) (m : Memory) (array log out printed whole : List ℕ) (at next total : ℕ)
     → place < length input
     → rest ≡ take (length input - place) (drop place input)
     → e ≡ indexOf newline rest
-    → performed done m array ≡ lineDone s (take e rest)
+    → after done m array log ≡ lineDone s (take e rest)
     → next ≡ at + length (rowFor event done)
     → printed ≡ sets out at (rowFor event done)
     → at + length (rowsLeft input s event place) ≡ total
     → sets out at (rowsLeft input s event place) ≡ whole
     → (next + length (rowsLeft input (state (done .directory) m array) (event + 1) (place + e + 1)) ≡ total)
     × (sets printed next (rowsLeft input (state (done .directory) m array) (event + 1) (place + e + 1)) ≡ whole)
-line-done input s event place rest e done m array out printed whole at next total h r i d n p t w =
+line-done input s event place rest e done m array log out printed whole at next total h r i d n p t w =
     let row = rowFor event done in
     let after = rowsLeft input (state (done .directory) m array) (event + 1) (place + e + 1) in
-    let both = rows-left-next input s event place rest e done m array h r i d in (
+    let both = rows-left-next input s event place rest e done m array log h r i d in (
       omega (arith, t, ap length both, length-append row after, n),
       rw (n, p) (sym (sets-append out at row after) ∙ ap (sets out at) (sym both) ∙ w),
     )

@@ -6,25 +6,21 @@ use lib.Dec.{ltb}
 use lib.ListN.{length, replicate}
 use Rattle.directory.specs.Steps.{afterReset}
 use Rattle.memory.specs.Parity.{memory}
-use Rattle.refusal.specs.declared.outcome.Outcome.{Outcome}
-use Rattle.access.specs.Access.{State, state}
+use Rattle.directory.specs.declared.steps.Outcome.{Outcome}
+use Rattle.refusal.specs.Call.{State, state, nextState}
 use Rattle.fields.specs.Fields.{linesOf}
 use Rattle.rows.specs.Row.{header, rowOf}
-use Rattle.events.specs.Perform.{Performed, lineDone}
+use Rattle.events.specs.Perform.{lineDone}
 
 -- A row shows an event's answer.
 abbrev pub rowFor : ℕ → Outcome → List ℕ
 rowFor event o = rowOf event (o .number) (o .value) (o .cycles)
 
--- The state that the next line meets.
-abbrev pub stateAfter : Performed → State
-stateAfter p = state (p .outcome .directory) (p .memory) (p .array)
-
 -- The rows of lines, the first with this event number.
 unfoldable pub rowsOf : State → ℕ → List (List ℕ) → List ℕ
 rowsOf s event [] = []
 rowsOf s event (line ∷ lines) =
-    rowFor event (lineDone s line .outcome) ++ rowsOf (stateAfter (lineDone s line)) (suc event) lines
+    rowFor event (lineDone s line .outcome) ++ rowsOf (nextState (lineDone s line)) (suc event) lines
 
 -- "The program has 65,536 zero RAM bytes, zero parity, a zero data array, a reset directory."
 unfoldable pub start : State

@@ -1,16 +1,16 @@
 // One line on the unit.
 ghost use mathlib.Core.Path.{_≡_};
 ghost use mathlib.Core.Bool.{Bool};
-ghost use Prim.Native.Nat.{_≤_};
+ghost use mathlib.Core.List.{List};
+ghost use Prim.Native.Nat.{ℕ, _≤_};
 ghost use lib.ListN.{length};
-ghost use Rattle.directory.specs.Steps.{directoryOf};
-ghost use Rattle.memory.specs.Parity.{memory};
-ghost use Rattle.refusal.specs.Outcome.{outcome};
-ghost use Rattle.access.specs.Access.{readCall, state, writeCall};
-ghost use Rattle.masters.specs.Masters.{externalCall, written};
+ghost use Rattle.directory.specs.Steps.{lentDirectory};
+ghost use Rattle.memory.specs.Parity.{lentMemory};
+ghost use Rattle.refusal.specs.Call.{lentState, state};
+ghost use Rattle.calls.specs.Calls.{external, read, step, write};
 ghost use Rattle.board.specs.Board.{boardAnswers};
 ghost use Rattle.fields.specs.Fields.{pairBytes};
-ghost use Rattle.events.specs.Perform.{accessEvent, lineDone, performed, zeroLog};
+ghost use Rattle.events.specs.Perform.{Leaves, lineDone, zeroLog};
 use access::CallResult;
 use access::number_only;
 use access::read_in_place;
@@ -36,62 +36,22 @@ pub fn perform<'a>(
     data: &mut [u8],
     line: &[u8],
 ) -> CallResult
-    ensures { λ r. ⌜ performed (outcome (directoryOf (now (tags .exit)) (now (valid .exit)) (now (lru .exit)) (now (cd .exit)) (now (nw .exit))) (r .number) (r .value) (r .cycles))
-        (memory (now (ram .exit)) (now (parity .exit))) (now («data» .exit))
-        ≡ lineDone (state (directoryOf (now (tags .entry)) (now (valid .entry)) (now (lru .entry)) (now (cd .entry)) (now (nw .entry))) (memory (now (ram .entry)) (now (parity .entry))) (now («data» .entry))) (now (line .entry)) ⌝ }
+    ensures { λ r. ⌜ Leaves (lineDone (lentState (tags .entry) (valid .entry) (lru .entry) (now (cd .entry)) (now (nw .entry)) (ram .entry) (parity .entry) («data» .entry)) (now (line .entry)))
+        r (lentState (tags .exit) (valid .exit) (lru .exit) (now (cd .exit)) (now (nw .exit)) (ram .exit) (parity .exit) («data» .exit)) ⌝ }
 {
     let event = scan(line);
     match event {
-        Event::Malformed => malformed(),
-        Event::Read(address, width, pcd) => {
-            let off = *cd;
-            perform_read(
-                tags,
-                valid,
-                lru,
-                off,
-                ram,
-                parity,
-                data,
-                address,
-                width,
-                pcd,
-            )
+        Event::Malformed => number_only(11),
+        Event::Read(at, width, pcd) => {
+            perform_read(tags, valid, lru, cd, ram, parity, data, at, width, pcd)
         }
-        Event::Write(address, width, value) => {
-            let off = *cd;
-            let inside = *nw;
-            perform_write(
-                tags,
-                valid,
-                lru,
-                off,
-                inside,
-                ram,
-                parity,
-                data,
-                address,
-                width,
-                value,
-            )
+        Event::Write(at, size, value) => {
+            perform_write(tags, valid, lru, cd, nw, ram, parity, data, at, size, value)
         }
-        Event::External(address, from) => {
-            let inside = *nw;
-            number_only(perform_external(
-                tags,
-                valid,
-                lru,
-                inside,
-                ram,
-                parity,
-                address,
-                &line[from..],
-            ))
+        Event::External(at, from) => {
+            perform_external(tags, valid, lru, nw, ram, parity, at, &line[from..])
         }
-        Event::Snoop(address) => {
-            let inside = *nw;
-            number_only(snoop_in_place(tags, valid, lru, inside, address))
-        }
+        Event::Snoop(at) => number_only(snoop_in_place(tags, valid, lru, *nw, at)),
         Event::Flush => {
             flush_in_place(valid);
             number_only(0)
@@ -104,22 +64,12 @@ pub fn perform<'a>(
     }
 }
 
-fn malformed() -> CallResult
-    ensures { λ r. ⌜ r ≡ record { number = 11; value = 0; cycles = 0 } ⌝ }
-{
-    CallResult {
-        number: 11,
-        value: 0,
-        cycles: 0,
-    }
-}
-
 // A read with the board's answers and a log that is not shown.
 fn perform_read<'a>(
     tags: &'a mut [u32; 512],
     valid: &'a mut [bool; 512],
     lru: &'a mut [u8; 128],
-    cd: bool,
+    cd: &bool,
     ram: &[u8],
     parity: &[u8],
     data: &mut [u8],
@@ -127,9 +77,8 @@ fn perform_read<'a>(
     width: u32,
     pcd: bool,
 ) -> CallResult
-    ensures { λ r. ⌜ ((nw : Bool) → performed (outcome (directoryOf (now (tags .exit)) (now (valid .exit)) (now (lru .exit)) cd nw) (r .number) (r .value) (r .cycles))
-        (memory (now (ram .entry)) (now (parity .entry))) (now («data» .exit))
-        ≡ accessEvent (readCall (state (directoryOf (now (tags .entry)) (now (valid .entry)) (now (lru .entry)) cd nw) (memory (now (ram .entry)) (now (parity .entry))) (now («data» .entry))) address width pcd (boardAnswers address width) zeroLog)) ⌝ }
+    ensures { λ r. ⌜ ((nw : Bool) → Leaves (step (lentState (tags .entry) (valid .entry) (lru .entry) (now (cd .entry)) nw (ram .entry) (parity .entry) («data» .entry)) (read address width pcd (boardAnswers address width) zeroLog))
+        r (lentState (tags .exit) (valid .exit) (lru .exit) (now (cd .entry)) nw (ram .entry) (parity .entry) («data» .exit))) ⌝ }
 {
     let answers = board::board_answers(address, width);
     let mut log = [0u32; 96];
@@ -137,7 +86,7 @@ fn perform_read<'a>(
         tags,
         valid,
         lru,
-        cd,
+        *cd,
         ram,
         parity,
         data,
@@ -151,11 +100,11 @@ fn perform_read<'a>(
 
 // A write with the board's answers and a log that is not shown.
 fn perform_write<'a>(
-    tags: &'a mut [u32; 512],
-    valid: &'a mut [bool; 512],
+    tags: &'a [u32; 512],
+    valid: &'a [bool; 512],
     lru: &'a mut [u8; 128],
-    cd: bool,
-    nw: bool,
+    cd: &bool,
+    nw: &bool,
     ram: &mut [u8],
     parity: &mut [u8],
     data: &mut [u8],
@@ -163,9 +112,8 @@ fn perform_write<'a>(
     width: u32,
     value: u32,
 ) -> CallResult
-    ensures { λ r. ⌜ performed (outcome (directoryOf (now (tags .exit)) (now (valid .exit)) (now (lru .exit)) cd nw) (r .number) (r .value) (r .cycles))
-        (memory (now (ram .exit)) (now (parity .exit))) (now («data» .exit))
-        ≡ accessEvent (writeCall (state (directoryOf (now (tags .entry)) (now (valid .entry)) (now (lru .entry)) cd nw) (memory (now (ram .entry)) (now (parity .entry))) (now («data» .entry))) address width value (boardAnswers address width) zeroLog) ⌝ }
+    ensures { λ r. ⌜ Leaves (step (lentState (tags .entry) (valid .entry) (lru .entry) (now (cd .entry)) (now (nw .entry)) (ram .entry) (parity .entry) («data» .entry)) (write address width value (boardAnswers address width) zeroLog))
+        r (lentState (tags .entry) (valid .entry) (lru .exit) (now (cd .entry)) (now (nw .entry)) (ram .exit) (parity .exit) («data» .exit)) ⌝ }
 {
     let answers = board::board_answers(address, width);
     let mut log = [0u32; 96];
@@ -173,8 +121,8 @@ fn perform_write<'a>(
         tags,
         valid,
         lru,
-        cd,
-        nw,
+        *cd,
+        *nw,
         ram,
         parity,
         data,
@@ -191,17 +139,26 @@ fn perform_external<'a>(
     tags: &'a [u32; 512],
     valid: &'a mut [bool; 512],
     lru: &'a [u8; 128],
-    nw: bool,
+    nw: &bool,
     ram: &mut [u8],
     parity: &mut [u8],
     address: u32,
     pairs: &[u8],
-) -> u32
+) -> CallResult
     requires { ⌜ length (now pairs) ≤ 80 ⌝ }
-    ensures { λ r. ⌜ ((cd : Bool) → written (outcome (directoryOf (now (tags .entry)) (now (valid .exit)) (now (lru .entry)) cd nw) r 0 0) (memory (now (ram .exit)) (now (parity .exit)))
-        ≡ externalCall (directoryOf (now (tags .entry)) (now (valid .entry)) (now (lru .entry)) cd nw) (memory (now (ram .entry)) (now (parity .entry))) address (pairBytes (now (pairs .entry)))) ⌝ }
+    ensures { λ r. ⌜ ((cd : Bool) (array : List ℕ) → Leaves (step (state (lentDirectory (tags .entry) (valid .entry) (lru .entry) cd (now (nw .entry))) (lentMemory (ram .entry) (parity .entry)) array) (external address (pairBytes (now (pairs .entry)))))
+        r (state (lentDirectory (tags .entry) (valid .exit) (lru .entry) cd (now (nw .entry))) (lentMemory (ram .exit) (parity .exit)) array)) ⌝ }
 {
     let mut bytes = [0u8; 80];
     let count = pair_bytes(pairs, &mut bytes);
-    external_write_in_place(tags, valid, lru, nw, ram, parity, address, &bytes[..count])
+    number_only(external_write_in_place(
+        tags,
+        valid,
+        lru,
+        *nw,
+        ram,
+        parity,
+        address,
+        &bytes[..count],
+    ))
 }

@@ -1,19 +1,19 @@
 // The calls that take and give a whole directory.
 ghost use mathlib.Core.Path.{_≡_};
-ghost use Rattle.masters.specs.Masters.{controlOutcome, resetOutcome};
+ghost use Rattle.directory.specs.Steps.{controlCall, resetCall};
 use directory::Directory;
-use refusal::Outcome;
+use directory::Outcome;
 
 #[no_mangle]
 pub extern "C" fn unit486_reset_by_value() -> Outcome
-    ensures { λ r. ⌜ r ≡ resetOutcome ⌝ }
+    ensures { λ r. ⌜ r ≡ resetCall ⌝ }
 {
-    masters::reset()
+    Directory::reset().answered(0)
 }
 
 #[no_mangle]
 pub extern "C" fn unit486_control_by_value(given: Directory, cd: bool, nw: bool) -> Outcome
-    ensures { λ r. ⌜ r ≡ controlOutcome given cd nw ⌝ }
+    ensures { λ r. ⌜ r ≡ controlCall given cd nw ⌝ }
 {
-    masters::control(given, cd, nw)
+    given.control(cd, nw)
 }

@@ -2,13 +2,14 @@
 // contract holds for either value of the other.
 ghost use mathlib.Core.Path.{_≡_};
 ghost use mathlib.Core.Bool.{Bool};
-ghost use mathlib.Core.List.{List};
+ghost use mathlib.Core.List.{List, []};
 ghost use Prim.Native.Nat.{ℕ};
-ghost use Rattle.directory.specs.Steps.{afterFlush, afterReset, controlCall, directoryOf, directoryResult, snoopCall};
-ghost use Rattle.memory.specs.Parity.{memory};
-ghost use Rattle.refusal.specs.Outcome.{outcome};
-ghost use Rattle.access.specs.Access.{after, readCall, state, writeCall};
-ghost use Rattle.masters.specs.Masters.{externalCall, written};
+ghost use Rattle.directory.specs.Steps.{afterFlush, afterReset, controlCall, directoryOf, lentDirectory, snoopCall};
+ghost use Rattle.memory.specs.Parity.{lentMemory};
+ghost use Rattle.directory.specs.Outcome.{outcome};
+ghost use Rattle.refusal.specs.Call.{after, lentState, state};
+ghost use Rattle.access.specs.Access.{leaves, readCall, writeCall};
+ghost use Rattle.masters.specs.Masters.{externalCall};
 use access::CallResult;
 
 #[no_mangle]
@@ -26,9 +27,8 @@ pub extern "C" fn unit486_read_in_place<'a>(
     answers: &[u8],
     log: &mut [u32],
 ) -> CallResult
-    ensures { λ r. ⌜ ((nw : Bool) → after (outcome (directoryOf (now (tags .exit)) (now (valid .exit)) (now (lru .exit)) cd nw) (r .number) (r .value) (r .cycles))
-        (memory (now (ram .entry)) (now (parity .entry))) (now («data» .exit)) (now (log .exit))
-        ≡ readCall (state (directoryOf (now (tags .entry)) (now (valid .entry)) (now (lru .entry)) cd nw) (memory (now (ram .entry)) (now (parity .entry))) (now («data» .entry))) address width pcd (now (answers .entry)) (now (log .entry))) ⌝ }
+    ensures { λ r. ⌜ ((nw : Bool) → leaves r (lentState (tags .exit) (valid .exit) (lru .exit) cd nw (ram .entry) (parity .entry) («data» .exit)) (now (log .exit))
+        ≡ readCall (lentState (tags .entry) (valid .entry) (lru .entry) cd nw (ram .entry) (parity .entry) («data» .entry)) address width pcd (now (answers .entry)) (now (log .entry))) ⌝ }
 {
     access::read_in_place(
         tags,
@@ -62,9 +62,8 @@ pub extern "C" fn unit486_write_in_place<'a>(
     answers: &[u8],
     log: &mut [u32],
 ) -> CallResult
-    ensures { λ r. ⌜ after (outcome (directoryOf (now (tags .entry)) (now (valid .entry)) (now (lru .exit)) cd nw) (r .number) (r .value) (r .cycles))
-        (memory (now (ram .exit)) (now (parity .exit))) (now («data» .exit)) (now (log .exit))
-        ≡ writeCall (state (directoryOf (now (tags .entry)) (now (valid .entry)) (now (lru .entry)) cd nw) (memory (now (ram .entry)) (now (parity .entry))) (now («data» .entry))) address width value (now (answers .entry)) (now (log .entry)) ⌝ }
+    ensures { λ r. ⌜ leaves r (lentState (tags .entry) (valid .entry) (lru .exit) cd nw (ram .exit) (parity .exit) («data» .exit)) (now (log .exit))
+        ≡ writeCall (lentState (tags .entry) (valid .entry) (lru .entry) cd nw (ram .entry) (parity .entry) («data» .entry)) address width value (now (answers .entry)) (now (log .entry)) ⌝ }
 {
     access::write_in_place(
         tags,
@@ -94,8 +93,8 @@ pub extern "C" fn unit486_external_write_in_place<'a>(
     address: u32,
     bytes: &[u8],
 ) -> u32
-    ensures { λ r. ⌜ ((cd : Bool) → written (outcome (directoryOf (now (tags .entry)) (now (valid .exit)) (now (lru .entry)) cd nw) r 0 0) (memory (now (ram .exit)) (now (parity .exit)))
-        ≡ externalCall (directoryOf (now (tags .entry)) (now (valid .entry)) (now (lru .entry)) cd nw) (memory (now (ram .entry)) (now (parity .entry))) address (now (bytes .entry))) ⌝ }
+    ensures { λ r. ⌜ ((cd : Bool) (array : List ℕ) → after (outcome (lentDirectory (tags .entry) (valid .exit) (lru .entry) cd nw) r 0 0) (lentMemory (ram .exit) (parity .exit)) array []
+        ≡ externalCall (state (lentDirectory (tags .entry) (valid .entry) (lru .entry) cd nw) (lentMemory (ram .entry) (parity .entry)) array) address (now (bytes .entry))) ⌝ }
 {
     masters::external_write_in_place(tags, valid, lru, nw, ram, parity, address, bytes)
 }
@@ -108,8 +107,8 @@ pub extern "C" fn unit486_snoop_in_place<'a>(
     nw: bool,
     address: u32,
 ) -> u32
-    ensures { λ r. ⌜ ((cd : Bool) → directoryResult (directoryOf (now (tags .entry)) (now (valid .exit)) (now (lru .entry)) cd nw) r
-        ≡ snoopCall (directoryOf (now (tags .entry)) (now (valid .entry)) (now (lru .entry)) cd nw) address) ⌝ }
+    ensures { λ r. ⌜ ((cd : Bool) → outcome (lentDirectory (tags .entry) (valid .exit) (lru .entry) cd nw) r 0 0
+        ≡ snoopCall (lentDirectory (tags .entry) (valid .entry) (lru .entry) cd nw) address) ⌝ }
 {
     steps_in_place::snoop_in_place(tags, valid, lru, nw, address)
 }
@@ -129,7 +128,7 @@ pub extern "C" fn unit486_control_in_place(
     new_cd: bool,
     new_nw: bool,
 ) -> u32
-    ensures { λ r. ⌜ ((tags : List ℕ) (valid : List Bool) (lru : List ℕ) → directoryResult (directoryOf tags valid lru (now (cd .exit)) (now (nw .exit))) r
+    ensures { λ r. ⌜ ((tags : List ℕ) (valid : List Bool) (lru : List ℕ) → outcome (directoryOf tags valid lru (now (cd .exit)) (now (nw .exit))) r 0 0
         ≡ controlCall (directoryOf tags valid lru (now (cd .entry)) (now (nw .entry))) «new_cd» «new_nw») ⌝ }
 {
     steps_in_place::control_in_place(cd, nw, new_cd, new_nw)
@@ -143,7 +142,7 @@ pub extern "C" fn unit486_reset_in_place(
     cd: &mut bool,
     nw: &mut bool,
 )
-    ensures { λ _. ⌜ directoryOf (now (tags .exit)) (now (valid .exit)) (now (lru .exit)) (now (cd .exit)) (now (nw .exit)) ≡ afterReset ⌝ }
+    ensures { λ _. ⌜ lentDirectory (tags .exit) (valid .exit) (lru .exit) (now (cd .exit)) (now (nw .exit)) ≡ afterReset ⌝ }
 {
     steps_in_place::reset_in_place(tags, valid, lru, cd, nw)
 }

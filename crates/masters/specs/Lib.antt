@@ -1,2 +1,2 @@
--- Other masters and the calls on the directory alone by document 01: what a reader must believe of this crate.
+-- Other masters by document 01: what a reader must believe of this crate.
 pub mod Masters

@@ -2,10 +2,13 @@
 // directory is copied. CD is not looked at, so the contract holds for either value.
 ghost use mathlib.Core.Path.{_≡_};
 ghost use mathlib.Core.Bool.{Bool};
-ghost use Rattle.directory.specs.Steps.{directoryOf};
-ghost use Rattle.memory.specs.Parity.{memory};
-ghost use Rattle.refusal.specs.Outcome.{outcome};
-ghost use Rattle.masters.specs.Masters.{externalCall, written};
+ghost use mathlib.Core.List.{List, []};
+ghost use Prim.Native.Nat.{ℕ};
+ghost use Rattle.directory.specs.Steps.{lentDirectory};
+ghost use Rattle.memory.specs.Parity.{lentMemory};
+ghost use Rattle.directory.specs.Outcome.{outcome};
+ghost use Rattle.masters.specs.Masters.{externalCall};
+ghost use Rattle.refusal.specs.Call.{after, state};
 use memory::store_bytes;
 use refusal::external_number;
 use refusal::memory_number;
@@ -22,8 +25,8 @@ pub fn external_write_in_place<'a>(
     address: u32,
     bytes: &[u8],
 ) -> u32
-    ensures { λ r. ⌜ ((cd : Bool) → written (outcome (directoryOf (now (tags .entry)) (now (valid .exit)) (now (lru .entry)) cd nw) r 0 0) (memory (now (ram .exit)) (now (parity .exit)))
-        ≡ externalCall (directoryOf (now (tags .entry)) (now (valid .entry)) (now (lru .entry)) cd nw) (memory (now (ram .entry)) (now (parity .entry))) address (now (bytes .entry))) ⌝ }
+    ensures { λ r. ⌜ ((cd : Bool) (array : List ℕ) → after (outcome (lentDirectory (tags .entry) (valid .exit) (lru .entry) cd nw) r 0 0) (lentMemory (ram .exit) (parity .exit)) array []
+        ≡ externalCall (state (lentDirectory (tags .entry) (valid .entry) (lru .entry) cd nw) (lentMemory (ram .entry) (parity .entry)) array) address (now (bytes .entry))) ⌝ }
 {
     let count = bytes.len();
     let lent = memory_number(ram.len(), parity.len());

@@ -5,6 +5,7 @@ use mathlib.Core.Bool.{Bool, false, not, _||_}
 use mathlib.Core.List.{List, [], _∷_}
 use lib.ListN.{length, getD, set}
 use lib.Dec.{eqb}
+use denote.Ref.{RefT, now}
 
 -- RAM, and "The parity array has one byte for each four RAM bytes".
 pub record Memory : Type 0 where
@@ -13,6 +14,10 @@ pub record Memory : Type 0 where
 
 abbrev pub memory : List ℕ → List ℕ → Memory
 memory ram parity = record { ram = ram; parity = parity }
+
+-- The memory that lent references hold.
+abbrev pub lentMemory : RefT (List ℕ) → RefT (List ℕ) → Memory
+lentMemory ram parity = memory (now ram) (now parity)
 
 -- The ones among the lowest binary digits of a number.
 unfoldable pub onesOf : ℕ → ℕ → ℕ

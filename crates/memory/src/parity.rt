@@ -3,7 +3,7 @@ ghost use mathlib.Core.Path.{_≡_};
 ghost use Prim.Native.Nat.{_+_, _*_, _/_, _%_, _^_, _≤_, _<_};
 ghost use lib.ListN.{length};
 ghost use Rattle.words.specs.Bytes.{bytesAt, bytesOf, lanesValue, lanesWord};
-ghost use Rattle.memory.specs.Parity.{dpOf, dpsOf, memory, put, stored, withDp};
+ghost use Rattle.memory.specs.Parity.{dpOf, dpsOf, lentMemory, put, stored, withDp};
 use words::bytes_of;
 use words::copy_bytes;
 use words::lanes_mask;
@@ -40,7 +40,7 @@ pub fn dp_bits(lowest: u8, second: u8, third: u8, highest: u8) -> u8
 // A byte put into RAM, with its parity.
 fn put_byte(ram: &mut [u8], parity: &mut [u8], a: usize, b: u8)
     requires { ⌜ (a < length (now ram)) × (a < 4 * length (now parity)) ⌝ }
-    ensures { λ _. ⌜ memory (now (ram .exit)) (now (parity .exit)) ≡ put (memory (now (ram .entry)) (now (parity .entry))) a b ⌝ }
+    ensures { λ _. ⌜ lentMemory (ram .exit) (parity .exit) ≡ put (lentMemory (ram .entry) (parity .entry)) a b ⌝ }
 {
     ram[a] = b;
     let i = a / 4;
@@ -52,7 +52,7 @@ fn put_byte(ram: &mut [u8], parity: &mut [u8], a: usize, b: u8)
 // without a loop.
 pub fn store_bytes(src: &[u8], s: usize, ram: &mut [u8], parity: &mut [u8], a: usize, count: usize)
     requires { ⌜ (s + count ≤ length (now src)) × (a + count ≤ length (now ram)) × (a + count ≤ 4 * length (now parity)) ⌝ }
-    ensures { λ _. ⌜ memory (now (ram .exit)) (now (parity .exit)) ≡ stored (memory (now (ram .entry)) (now (parity .entry))) a (bytesAt (now (src .entry)) s count) ⌝ }
+    ensures { λ _. ⌜ lentMemory (ram .exit) (parity .exit) ≡ stored (lentMemory (ram .entry) (parity .entry)) a (bytesAt (now (src .entry)) s count) ⌝ }
 {
     if (count == 16) & (a % 4 == 0) {
         store_line(src, s, ram, parity, a);
@@ -63,7 +63,7 @@ pub fn store_bytes(src: &[u8], s: usize, ram: &mut [u8], parity: &mut [u8], a: u
 
 fn store_line(src: &[u8], s: usize, ram: &mut [u8], parity: &mut [u8], a: usize)
     requires { ⌜ (a % 4 ≡ 0) × (s + 16 ≤ length (now src)) × (a + 16 ≤ length (now ram)) × (a + 16 ≤ 4 * length (now parity)) ⌝ }
-    ensures { λ _. ⌜ memory (now (ram .exit)) (now (parity .exit)) ≡ stored (memory (now (ram .entry)) (now (parity .entry))) a (bytesAt (now (src .entry)) s 16) ⌝ }
+    ensures { λ _. ⌜ lentMemory (ram .exit) (parity .exit) ≡ stored (lentMemory (ram .entry) (parity .entry)) a (bytesAt (now (src .entry)) s 16) ⌝ }
 {
     store_doubleword(src, s, ram, parity, a);
     store_doubleword(src, s + 4, ram, parity, a + 4);
@@ -73,7 +73,7 @@ fn store_line(src: &[u8], s: usize, ram: &mut [u8], parity: &mut [u8], a: usize)
 
 fn store_doubleword(src: &[u8], s: usize, ram: &mut [u8], parity: &mut [u8], a: usize)
     requires { ⌜ (a % 4 ≡ 0) × (s + 4 ≤ length (now src)) × (a + 4 ≤ length (now ram)) × (a + 4 ≤ 4 * length (now parity)) ⌝ }
-    ensures { λ _. ⌜ memory (now (ram .exit)) (now (parity .exit)) ≡ stored (memory (now (ram .entry)) (now (parity .entry))) a (bytesAt (now (src .entry)) s 4) ⌝ }
+    ensures { λ _. ⌜ lentMemory (ram .exit) (parity .exit) ≡ stored (lentMemory (ram .entry) (parity .entry)) a (bytesAt (now (src .entry)) s 4) ⌝ }
 {
     let bits = dp_bits(src[s], src[s + 1], src[s + 2], src[s + 3]);
     copy_bytes(src, s, ram, a, 4);
@@ -92,7 +92,7 @@ fn store_next(
 ) -> usize
     requires { ⌜ (0 < left) × (s + left ≤ length (now src)) × (a + left ≤ length (now ram)) × (a + left ≤ 4 * length (now parity)) ⌝ }
     ensures { λ r. ⌜ (0 < r) × (r ≤ left) ⌝ }
-    ensures { λ r. ⌜ memory (now (ram .exit)) (now (parity .exit)) ≡ stored (memory (now (ram .entry)) (now (parity .entry))) a (bytesAt (now (src .entry)) s r) ⌝ }
+    ensures { λ r. ⌜ lentMemory (ram .exit) (parity .exit) ≡ stored (lentMemory (ram .entry) (parity .entry)) a (bytesAt (now (src .entry)) s r) ⌝ }
 {
     if (4 <= left) & (a % 4 == 0) {
         store_doubleword(src, s, ram, parity, a);
@@ -104,7 +104,7 @@ fn store_next(
 
 fn store_each(src: &[u8], s: usize, ram: &mut [u8], parity: &mut [u8], a: usize, count: usize)
     requires { ⌜ (s + count ≤ length (now src)) × (a + count ≤ length (now ram)) × (a + count ≤ 4 * length (now parity)) ⌝ }
-    ensures { λ _. ⌜ memory (now (ram .exit)) (now (parity .exit)) ≡ stored (memory (now (ram .entry)) (now (parity .entry))) a (bytesAt (now (src .entry)) s count) ⌝ }
+    ensures { λ _. ⌜ lentMemory (ram .exit) (parity .exit) ≡ stored (lentMemory (ram .entry) (parity .entry)) a (bytesAt (now (src .entry)) s count) ⌝ }
 {
     let mut k: usize = 0;
     while k < count {
@@ -141,7 +141,7 @@ pub fn store_lanes(
     word: u32,
 )
     requires { ⌜ (0 < count) × (lane + count ≤ 4) × (base % 4 ≡ 0) × (base + 4 ≤ length (now ram)) × (base + 4 ≤ 4 * length (now parity)) × (word ≡ lanesWord word lane count) ⌝ }
-    ensures { λ _. ⌜ memory (now (ram .exit)) (now (parity .exit)) ≡ stored (memory (now (ram .entry)) (now (parity .entry))) (base + lane) (bytesOf count (lanesValue word lane count)) ⌝ }
+    ensures { λ _. ⌜ lentMemory (ram .exit) (parity .exit) ≡ stored (lentMemory (ram .entry) (parity .entry)) (base + lane) (bytesOf count (lanesValue word lane count)) ⌝ }
 {
     let bits = value_bits(word);
     put_lanes(ram, base, lane, count, word);

@@ -4,7 +4,7 @@ ghost use Prim.Native.Nat.{_+_, _*_, _^_, _≤_, _<_};
 ghost use lib.ListN.{length};
 ghost use Rattle.ways.specs.Address.{setOf};
 ghost use Rattle.ways.specs.Ways.{lookupIn, victimIn};
-ghost use Rattle.memory.specs.Parity.{memory};
+ghost use Rattle.memory.specs.Parity.{lentMemory};
 ghost use Rattle.doubleword.specs.Cursor.{AccessNeeds, lineAddress, nextDoubleword};
 ghost use Rattle.reading.specs.Reading.{readDone};
 ghost use Rattle.reading.specs.ReadingCode.{ReadNext};
@@ -37,7 +37,7 @@ pub fn read_next<'a>(
 ) -> NextRead
     requires { ⌜ (0 < cursor .left) × AccessNeeds cursor (length (now ram)) (length (now parity)) (length (now «data»)) (length (now answers)) (length (now log)) ⌝ }
     ensures { λ r. ⌜ ReadNext (readDone (lookupIn (now (tags .entry)) (now (valid .entry)) (lineAddress cursor)) (victimIn (now (valid .entry)) (now (lru .entry)) (setOf (lineAddress cursor)))
-        «may_fill» (memory (now (ram .entry)) (now (parity .entry))) (now («data» .entry)) (nextDoubleword cursor (now (answers .entry))))
+        «may_fill» (lentMemory (ram .entry) (parity .entry)) (now («data» .entry)) (nextDoubleword cursor (now (answers .entry))))
         cursor (now (log .entry)) r (now («data» .exit)) (now (log .exit)) ⌝ }
 {
     let w = cursor.wanted();

@@ -4,7 +4,7 @@ ghost use mathlib.Core.List.{[], _∷_};
 ghost use Prim.Native.Nat.{_+_, _≤_};
 ghost use lib.ListN.{length};
 ghost use Rattle.words.specs.Bytes.{bytesAt, valueOf};
-ghost use Rattle.memory.specs.Parity.{memory};
+ghost use Rattle.memory.specs.Parity.{lentMemory};
 ghost use Rattle.bus.specs.Bus.{cyclesOf, run};
 ghost use Rattle.bus.specs.Record.{plainKind, readRecord};
 ghost use Rattle.cycles.specs.Made.{CyclesMade};
@@ -30,7 +30,7 @@ pub fn plain_read(
 ) -> PlainRead
     requires { ⌜ DoublewordNeeds w first (length (now ram)) (length (now parity)) (length (now answers)) (length (now log)) ⌝ }
     ensures { λ r. ⌜ (r .value ≡ valueOf (bytesAt (now (ram .entry)) (w .line + w .from) (w .count)))
-        × CyclesMade (readRecord plainKind (memory (now (ram .entry)) (now (parity .entry))) (w .line)) (cyclesOf (now (answers .entry)) (run (w .from) (w .count) ∷ [])) first 0 (now (log .entry)) (r .cycles) (now (log .exit))
+        × CyclesMade (readRecord plainKind (lentMemory (ram .entry) (parity .entry)) (w .line)) (cyclesOf (now (answers .entry)) (run (w .from) (w .count) ∷ [])) first 0 (now (log .entry)) (r .cycles) (now (log .exit))
         × (r .cycles ≤ 4) ⌝ }
 {
     let line = w.line as usize;

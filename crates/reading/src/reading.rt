@@ -6,7 +6,7 @@ ghost use lib.Seq.{sets};
 ghost use Rattle.ways.specs.Address.{setOf};
 ghost use Rattle.ways.specs.Ways.{lookupIn, victimIn};
 ghost use Rattle.words.specs.Bytes.{bytesAt};
-ghost use Rattle.memory.specs.Parity.{memory};
+ghost use Rattle.memory.specs.Parity.{lentMemory};
 ghost use Rattle.doubleword.specs.Doubleword.{dataOffset};
 ghost use Rattle.doubleword.specs.DoublewordCode.{DoublewordNeeds, doublewordOf};
 ghost use Rattle.reading.specs.Reading.{readDone};
@@ -62,7 +62,7 @@ pub fn read_doubleword<'a>(
 ) -> DoublewordRead
     requires { ⌜ DoublewordNeeds w first (length (now ram)) (length (now parity)) (length (now answers)) (length (now log)) × (length (now «data») ≡ 8192) ⌝ }
     ensures { λ r. ⌜ Reads (readDone (lookupIn (now (tags .entry)) (now (valid .entry)) (w .line)) (victimIn (now (valid .entry)) (now (lru .entry)) (setOf (w .line)))
-        «may_fill» (memory (now (ram .entry)) (now (parity .entry))) (now («data» .entry)) (doublewordOf w (now (answers .entry))))
+        «may_fill» (lentMemory (ram .entry) (parity .entry)) (now («data» .entry)) (doublewordOf w (now (answers .entry))))
         (w .count) first (now (log .entry)) (r .change) (r .value) (r .cycles) (now («data» .exit)) (now (log .exit)) ⌝ }
 {
     if let Found::At(way) = ways::lookup(tags, valid, w.line) {

@@ -1,8 +1,6 @@
-// What a call answers, and the numbers that turn it away: of the input, then of the state in every touched set. 0 where none
-// is met.
+// The numbers that turn a call away: of the input, then of the state in every touched set. 0 where none is met.
 mod call;
 mod input;
-mod outcome;
 mod state;
 
 pub use call::read_number;
@@ -12,6 +10,4 @@ pub use input::external_number;
 pub use input::memory_number;
 pub use input::or_else;
 pub use input::view_input_number;
-pub use outcome::Outcome;
-pub use outcome::refused;
 pub use state::states_number;

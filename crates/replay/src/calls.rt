@@ -10,7 +10,6 @@ use crate::script::letter_of;
 use crate::script::number;
 use crate::stores::store_line;
 use directory::Directory;
-use refusal::Outcome;
 
 // Address and width of an access, then PCD or the value; and the place after them.
 struct Access {
@@ -208,9 +207,9 @@ fn directory_call(letter: u8, line: &[u8], d: Directory) -> Outcome {
     let first = number(line, 1);
     let second = number(line, first.next);
     match letter {
-        b'S' => masters::snoop(d, first.value),
-        b'F' => masters::flush(d),
-        b'C' => masters::control(d, first.value == 1, second.value == 1),
-        _ => masters::reset(),
+        b'S' => d.snoop(first.value),
+        b'F' => d.flushed().answered(0),
+        b'C' => d.control(first.value == 1, second.value == 1),
+        _ => Directory::reset().answered(0),
     }
 }

@@ -1,8 +1,8 @@
 // Rows on standard output. A row is a label, fields with a tab before each, and a newline.
 use crate::digest::Adler;
 use directory::Directory;
+use directory::Outcome;
 use libc::STDOUT_FILENO;
-use refusal::Outcome;
 
 pub fn label(text: &[u8]) {
     io::write_all(STDOUT_FILENO, text);

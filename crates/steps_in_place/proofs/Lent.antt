@@ -8,7 +8,8 @@ use Rattle.directory.specs.declared.steps.Directory.{Directory}
 use Rattle.ways.specs.declared.ways.Found.the-variants.{At, Nothing}
 use Rattle.ways.specs.Address.{setOf, lineIndex}
 use Rattle.ways.specs.State.{stateNumberIn}
-use Rattle.directory.specs.Steps.{directoryOf, directoryResult, afterSnoop, invalidated, snoopCall}
+use Rattle.directory.specs.Outcome.{outcome}
+use Rattle.directory.specs.Steps.{directoryOf, afterSnoop, invalidated, snoopCall}
 use Rattle.ways.specs.Ways.{lookupIn}
 use Rattle.directory.proofs.Laws.{snoop-off, snoop-on, snoop-accepted, snoop-refused}
 
@@ -33,8 +34,8 @@ module _ (tags : List ℕ) (valid : List Bool) (lru : List ℕ) (cd nw : Bool) (
     number-is : n ≡ stateNumberIn tags valid lru (setOf a)
     number-is = en ∙ ap (stateNumberIn tags valid lru) es
 
-    pub snoop-refused-in-place : (n ≡ 0 → ⊥) → directoryResult d n ≡ snoopCall d a
-    snoop-refused-in-place h = ap (directoryResult d) number-is ∙ sym (snoop-refused d a (λ z. h (number-is ∙ z)))
+    pub snoop-refused-in-place : (n ≡ 0 → ⊥) → outcome d n 0 0 ≡ snoopCall d a
+    snoop-refused-in-place h = ap (λ (x : ℕ). outcome d x 0 0) number-is ∙ sym (snoop-refused d a (λ z. h (number-is ∙ z)))
 
-    pub snoop-accepted-in-place : n ≡ 0 → (valid′ : List Bool) → directoryOf tags valid′ lru cd nw ≡ afterSnoop d a → directoryResult (directoryOf tags valid′ lru cd nw) 0 ≡ snoopCall d a
-    snoop-accepted-in-place z valid′ e = ap (λ (x : Directory). directoryResult x 0) e ∙ sym (snoop-accepted d a (sym number-is ∙ z))
+    pub snoop-accepted-in-place : n ≡ 0 → (valid′ : List Bool) → directoryOf tags valid′ lru cd nw ≡ afterSnoop d a → outcome (directoryOf tags valid′ lru cd nw) 0 0 0 ≡ snoopCall d a
+    snoop-accepted-in-place z valid′ e = ap (λ (x : Directory). outcome x 0 0 0) e ∙ sym (snoop-accepted d a (sym number-is ∙ z))

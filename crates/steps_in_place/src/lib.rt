@@ -4,7 +4,8 @@ ghost use mathlib.Core.Path.{_≡_};
 ghost use mathlib.Core.Bool.{Bool};
 ghost use mathlib.Core.List.{List};
 ghost use Prim.Native.Nat.{ℕ, _<_};
-ghost use Rattle.directory.specs.Steps.{afterFill, afterFlush, afterReset, afterSnoop, afterUse, controlCall, directoryOf, directoryResult, snoopCall};
+ghost use Rattle.directory.specs.Steps.{afterFill, afterFlush, afterReset, afterSnoop, afterUse, controlCall, directoryOf, lentDirectory, snoopCall};
+ghost use Rattle.directory.specs.Outcome.{outcome};
 use ways::Found;
 use ways::lookup;
 use ways::lru_after;
@@ -31,8 +32,8 @@ pub fn fill_in_place(
     tag: u32,
 )
     requires { ⌜ (set < 128) × (way < 4) ⌝ }
-    ensures { λ _. ⌜ ((cd nw : Bool) → directoryOf (now (tags .exit)) (now (valid .exit)) (now (lru .exit)) cd nw
-        ≡ afterFill (directoryOf (now (tags .entry)) (now (valid .entry)) (now (lru .entry)) cd nw) set way tag) ⌝ }
+    ensures { λ _. ⌜ ((cd nw : Bool) → lentDirectory (tags .exit) (valid .exit) (lru .exit) cd nw
+        ≡ afterFill (lentDirectory (tags .entry) (valid .entry) (lru .entry) cd nw) set way tag) ⌝ }
 {
     let index = set * 4 + way;
     tags[index] = tag;
@@ -75,8 +76,8 @@ pub fn snoop_in_place<'a>(
     nw: bool,
     address: u32,
 ) -> u32
-    ensures { λ r. ⌜ ((cd : Bool) → directoryResult (directoryOf (now (tags .entry)) (now (valid .exit)) (now (lru .entry)) cd nw) r
-        ≡ snoopCall (directoryOf (now (tags .entry)) (now (valid .entry)) (now (lru .entry)) cd nw) address) ⌝ }
+    ensures { λ r. ⌜ ((cd : Bool) → outcome (lentDirectory (tags .entry) (valid .exit) (lru .entry) cd nw) r 0 0
+        ≡ snoopCall (lentDirectory (tags .entry) (valid .entry) (lru .entry) cd nw) address) ⌝ }
 {
     let number = state_number(tags, valid, lru, set_of(address));
     if number != 0 {
@@ -88,7 +89,7 @@ pub fn snoop_in_place<'a>(
 
 // The control call: 9 for CD = 0 with NW = 1.
 pub fn control_in_place(cd: &mut bool, nw: &mut bool, new_cd: bool, new_nw: bool) -> u32
-    ensures { λ r. ⌜ ((tags : List ℕ) (valid : List Bool) (lru : List ℕ) → directoryResult (directoryOf tags valid lru (now (cd .exit)) (now (nw .exit))) r
+    ensures { λ r. ⌜ ((tags : List ℕ) (valid : List Bool) (lru : List ℕ) → outcome (directoryOf tags valid lru (now (cd .exit)) (now (nw .exit))) r 0 0
         ≡ controlCall (directoryOf tags valid lru (now (cd .entry)) (now (nw .entry))) «new_cd» «new_nw») ⌝ }
 {
     if !new_cd & new_nw {
@@ -106,7 +107,7 @@ pub fn reset_in_place(
     cd: &mut bool,
     nw: &mut bool,
 )
-    ensures { λ _. ⌜ directoryOf (now (tags .exit)) (now (valid .exit)) (now (lru .exit)) (now (cd .exit)) (now (nw .exit)) ≡ afterReset ⌝ }
+    ensures { λ _. ⌜ lentDirectory (tags .exit) (valid .exit) (lru .exit) (now (cd .exit)) (now (nw .exit)) ≡ afterReset ⌝ }
 {
     *tags = [0u32; 512];
     *valid = [false; 512];

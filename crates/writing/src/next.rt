@@ -3,7 +3,7 @@ ghost use Prim.Native.Nat.{_<_};
 ghost use lib.ListN.{length};
 ghost use Rattle.ways.specs.Ways.{lookupIn};
 ghost use Rattle.words.specs.Bytes.{bytesOf};
-ghost use Rattle.memory.specs.Parity.{memory};
+ghost use Rattle.memory.specs.Parity.{lentMemory};
 ghost use Rattle.doubleword.specs.Cursor.{AccessNeeds, lineAddress, nextDoubleword};
 ghost use Rattle.writing.specs.Writing.{writeDone};
 ghost use Rattle.writing.specs.WritingCode.{WriteNext};
@@ -36,8 +36,8 @@ pub fn write_next<'a>(
 ) -> NextWritten
     requires { ⌜ (0 < cursor .left) × AccessNeeds cursor (length (now ram)) (length (now parity)) (length (now «data»)) (length (now answers)) (length (now log)) ⌝ }
     ensures { λ r. ⌜ WriteNext (writeDone (lookupIn (now (tags .entry)) (now (valid .entry)) (lineAddress cursor)) stays
-        (memory (now (ram .entry)) (now (parity .entry))) (now («data» .entry)) (bytesOf 4 value) (nextDoubleword cursor (now (answers .entry))))
-        cursor (now (log .entry)) r (memory (now (ram .exit)) (now (parity .exit))) (now («data» .exit)) (now (log .exit)) ⌝ }
+        (lentMemory (ram .entry) (parity .entry)) (now («data» .entry)) (bytesOf 4 value) (nextDoubleword cursor (now (answers .entry))))
+        cursor (now (log .entry)) r (lentMemory (ram .exit) (parity .exit)) (now («data» .exit)) (now (log .exit)) ⌝ }
 {
     let w = cursor.wanted();
     let group = cursor.group_of(answers);

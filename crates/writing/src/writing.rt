@@ -5,7 +5,7 @@ ghost use Prim.Native.Nat.{ℕ, _+_, _%_, _≤_};
 ghost use lib.ListN.{length};
 ghost use Rattle.ways.specs.Ways.{lookupIn};
 ghost use Rattle.words.specs.Bytes.{bytesAt, bytesOf, lanesValue, lanesWord};
-ghost use Rattle.memory.specs.Parity.{memory, stored};
+ghost use Rattle.memory.specs.Parity.{lentMemory, stored};
 ghost use Rattle.bus.specs.Bus.{cyclesOf, run};
 ghost use Rattle.bus.specs.Record.{writeRecord};
 ghost use Rattle.cycles.specs.Made.{CyclesMade};
@@ -38,7 +38,7 @@ fn write_through(
     first: usize,
 ) -> usize
     requires { ⌜ DoublewordNeeds w first (length (now ram)) (length (now parity)) (length (now answers)) (length (now log)) × (word ≡ lanesWord word (w .from % 4) (w .count)) ⌝ }
-    ensures { λ r. ⌜ (memory (now (ram .exit)) (now (parity .exit)) ≡ stored (memory (now (ram .entry)) (now (parity .entry))) (w .line + w .from) (bytesOf (w .count) (lanesValue word (w .from % 4) (w .count))))
+    ensures { λ r. ⌜ (lentMemory (ram .exit) (parity .exit) ≡ stored (lentMemory (ram .entry) (parity .entry)) (w .line + w .from) (bytesOf (w .count) (lanesValue word (w .from % 4) (w .count))))
         × CyclesMade (writeRecord (sentLine (w .from) (bytesOf (w .count) (lanesValue word (w .from % 4) (w .count)))) (w .line)) (cyclesOf (now (answers .entry)) (run (w .from) (w .count) ∷ [])) first 0 (now (log .entry)) r (now (log .exit)) × (r ≤ 4) ⌝ }
 {
     let line = w.line as usize;
@@ -64,8 +64,8 @@ pub fn write_doubleword<'a>(
 ) -> DoublewordWritten
     requires { ⌜ DoublewordNeeds w first (length (now ram)) (length (now parity)) (length (now answers)) (length (now log)) × (length (now «data») ≡ 8192) × (word ≡ lanesWord word (w .from % 4) (w .count)) ⌝ }
     ensures { λ r. ⌜ ((operand : List ℕ) → bytesAt operand (w .place) (w .count) ≡ bytesOf (w .count) (lanesValue word (w .from % 4) (w .count)) →
-        Writes (writeDone (lookupIn (now (tags .entry)) (now (valid .entry)) (w .line)) stays (memory (now (ram .entry)) (now (parity .entry))) (now («data» .entry)) operand (doublewordOf w (now (answers .entry))))
-        first (now (log .entry)) (r .change) (r .cycles) (memory (now (ram .exit)) (now (parity .exit))) (now («data» .exit)) (now (log .exit))) ⌝ }
+        Writes (writeDone (lookupIn (now (tags .entry)) (now (valid .entry)) (w .line)) stays (lentMemory (ram .entry) (parity .entry)) (now («data» .entry)) operand (doublewordOf w (now (answers .entry))))
+        first (now (log .entry)) (r .change) (r .cycles) (lentMemory (ram .exit) (parity .exit)) (now («data» .exit)) (now (log .exit))) ⌝ }
 {
     if let Found::At(way) = ways::lookup(tags, valid, w.line) {
         let held = data_offset(w.line, way) + w.from / 4 * 4;

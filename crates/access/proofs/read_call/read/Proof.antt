@@ -8,8 +8,8 @@ use Rattle.access.proofs.read_call.read.Tie as tie
 read-number-requires : tie.Need-read-number-requires
 read-number-requires c κs = search needs
 
-refused-requires : tie.Need-refused-requires
-refused-requires c κs = search needs
+answered-requires : tie.Need-answered-requires
+answered-requires c κs = search needs
 
 same-length : tie.Need-same-length
 same-length c = search needs
@@ -21,7 +21,7 @@ returns : tie.Need-returns
 returns c =
     let at-number = c .before .before in
     let a = at-number .before .before .before .before .before .before .before .before .before .before .before .before .args in
-    rw (c .refused .ensures)
+    rw (c .answered .ensures)
     (read-turned (a .t1) (memory (now (a .ram)) (now (a .parity))) (now (a .«data»)) (a .address) (a .width) (now (a .answers)) (now (a .log))
     (a .pcd) _ (at-number .read-number .ensures) (c .before .if1 .taken))
 
@@ -42,7 +42,7 @@ read-spec =
     tie.close
     (tie.spec
     read-number-requires
-    refused-requires
+    answered-requires
     same-length
     same-length-2
     returns

@@ -1,7 +1,8 @@
 use Rattle.access.proofs.Calls.{read-begin, read-made}
 use Rattle.access.proofs.ReadLoop.{ReadKept, kept-needs, part-fits, kept-next}
 use Rattle.access.proofs.AccessLoop.{restOf}
-use Rattle.access.specs.Access.{state, allOf, readOne}
+use Rattle.refusal.specs.Call.{state}
+use Rattle.access.specs.Access.{allOf, readOne}
 use Rattle.doubleword.proofs.Cursors.{cursor-less, cursor-next}
 use Rattle.doubleword.specs.Cursor.{accessBegin}
 use Rattle.memory.specs.Parity.{memory}

@@ -8,8 +8,8 @@ use Rattle.access.proofs.write_call.write.Tie as tie
 write-number-requires : tie.Need-write-number-requires
 write-number-requires c κs = search needs
 
-refused-requires : tie.Need-refused-requires
-refused-requires c κs = search needs
+answered-requires : tie.Need-answered-requires
+answered-requires c κs = search needs
 
 same-length : tie.Need-same-length
 same-length c = search needs
@@ -27,7 +27,7 @@ returns : tie.Need-returns
 returns c =
     let at-number = c .before .before in
     let a = at-number .before .before .before .before .before .before .before .before .before .before .before .before .before .before .args in
-    rw (c .refused .ensures)
+    rw (c .answered .ensures)
     (write-turned (a .t1) (memory (now (a .ram)) (now (a .parity))) (now (a .«data»)) (a .address) (a .width) (now (a .answers)) (now (a .log))
     (a .value) _ (at-number .write-number .ensures) (c .before .if1 .taken))
 
@@ -54,7 +54,7 @@ write-spec =
     tie.close
     (tie.spec
     write-number-requires
-    refused-requires
+    answered-requires
     same-length
     same-length-2
     same-length-3

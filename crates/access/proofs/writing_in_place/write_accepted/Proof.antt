@@ -1,7 +1,8 @@
 use Rattle.access.proofs.Calls.{write-begin, write-made}
 use Rattle.access.proofs.WriteLoop.{WriteKept, kept-needs, kept-next}
 use Rattle.access.proofs.AccessLoop.{restOf}
-use Rattle.access.specs.Access.{state, allOf, writeOne, operandOf}
+use Rattle.refusal.specs.Call.{state}
+use Rattle.access.specs.Access.{allOf, writeOne, operandOf}
 use Rattle.doubleword.proofs.Cursors.{cursor-less, cursor-next}
 use Rattle.writing.proofs.WriteDoublewords.{write-no-fill}
 use Rattle.doubleword.specs.Cursor.{accessBegin}

@@ -1,16 +1,13 @@
-use Rattle.events.specs.Perform.{performed, lineDone, eventDone, externalEvent}
-use Rattle.lines.proofs.Within.{external-line}
-use Rattle.fields.proofs.Parts.{drop-part}
-use Rattle.masters.specs.Masters.{directoryOutcome}
-use Rattle.access.specs.Access.{state}
-use Rattle.refusal.specs.Outcome.{outcome}
-use Rattle.memory.specs.Parity.{memory}
-use Rattle.directory.specs.Steps.{directoryOf}
-use Rattle.directory.specs.declared.steps.DirectoryResult.{DirectoryResult}
-use Rattle.directory.specs.declared.steps.Directory.{Directory}
-use mathlib.Core.Path.{sym, ap, _∙_}
 use denote.Ref.{now}
 use native.Mathlib.Omega.{arith}
+use mathlib.Core.Path.{sym, ap, _∙_}
+use Rattle.calls.specs.Calls.{step}
+use Rattle.refusal.specs.Call.{lentState, onDirectory}
+use Rattle.directory.specs.declared.steps.Directory.{Directory}
+use Rattle.directory.specs.Outcome.{outcome}
+use Rattle.fields.proofs.Parts.{drop-part}
+use Rattle.lines.proofs.Within.{external-line}
+use Rattle.events.specs.Perform.{callOf, callDone}
 use borrow.Author.Needs.{needs}
 use Rattle.events.proofs.performing.perform.Statement.{statement}
 use Rattle.events.proofs.performing.perform.Tie as tie
@@ -21,8 +18,8 @@ scan-requires c κs = search needs
 enum-told : tie.Need-enum-told
 enum-told c = search needs
 
-malformed-requires : tie.Need-malformed-requires
-malformed-requires c κs = search needs
+number-only-requires : tie.Need-number-only-requires
+number-only-requires c κs = search needs
 
 enum-known-event : tie.Need-enum-known-event
 enum-known-event c = search needs
@@ -41,27 +38,24 @@ enum-known-event-3 c = search needs
 
 sub-perform-external : tie.Need-sub-perform-external
 sub-perform-external c =
-    let c6 = c .before .before .before .before .before .before in
-    let c8 = c6 .before .before in
-    omega (arith, external-line _ _ _ (sym (c8 .scan .ensures) ∙ c6 .event3 .given .1))
+    let c7 = c .before .before .before .before .before .before .before in
+    let c9 = c7 .before .before in
+    omega (arith, external-line _ _ _ (sym (c9 .scan .ensures) ∙ c7 .event3 .given .1))
 
 part-perform-external-start : tie.Need-part-perform-external-start
 part-perform-external-start c =
-    let c6 = c .before .before .before .before .before .before in
-    let c8 = c6 .before .before in
-    omega (arith, external-line _ _ _ (sym (c8 .scan .ensures) ∙ c6 .event3 .given .1))
+    let c7 = c .before .before .before .before .before .before .before in
+    let c9 = c7 .before .before in
+    omega (arith, external-line _ _ _ (sym (c9 .scan .ensures) ∙ c7 .event3 .given .1))
 
 part-perform-external-end : tie.Need-part-perform-external-end
 part-perform-external-end c = search needs
 
 perform-external-requires : tie.Need-perform-external-requires
 perform-external-requires c κs =
-    let c7 = c .before .before .before .before .before .before .before in
-    let c9 = c7 .before .before in
-    omega (arith, external-line _ _ _ (sym (c9 .scan .ensures) ∙ c7 .event3 .given .1))
-
-number-only-requires : tie.Need-number-only-requires
-number-only-requires c κs = search needs
+    let c8 = c .before .before .before .before .before .before .before .before in
+    let c10 = c8 .before .before in
+    omega (arith, external-line _ _ _ (sym (c10 .scan .ensures) ∙ c8 .event3 .given .1))
 
 enum-known-event-4 : tie.Need-enum-known-event-4
 enum-known-event-4 c = search needs
@@ -100,8 +94,8 @@ number-only-requires-5 : tie.Need-number-only-requires-5
 number-only-requires-5 c κs = search needs
 
 returns : tie.Need-returns
-unfolding lineDone eventDone
-returns c = rw (sym (c .before .before .before .scan .ensures) ∙ c .before .enum-told .given .1, c .malformed .ensures)
+unfolding callOf callDone
+returns c = rw (sym (c .before .before .before .scan .ensures) ∙ c .before .enum-told .given .1, c .number-only .ensures)
 
 same-length : tie.Need-same-length
 same-length c = search needs
@@ -113,12 +107,12 @@ same-length-3 : tie.Need-same-length-3
 same-length-3 c = search needs
 
 returns-2 : tie.Need-returns-2
-unfolding lineDone eventDone
+unfolding callOf callDone
 returns-2 c =
     let c2 = c .before .before in
-    let c10 = c2 .before .before .before .before .before .before .before .before in
-    let c12 = c10 .before .before in
-    rw (sym (c12 .scan .ensures) ∙ c10 .event .given .1) (c2 .perform-read .ensures _)
+    let c11 = c2 .before .before .before .before .before .before .before .before .before in
+    let c13 = c11 .before .before in
+    rw (sym (c13 .scan .ensures) ∙ c11 .event .given .1) (c2 .perform-read .ensures _)
 
 same-length-4 : tie.Need-same-length-4
 same-length-4 c = search needs
@@ -130,12 +124,12 @@ same-length-6 : tie.Need-same-length-6
 same-length-6 c = search needs
 
 returns-3 : tie.Need-returns-3
-unfolding lineDone eventDone
+unfolding callOf callDone
 returns-3 c =
     let c6 = c .before .before .before .before .before .before in
-    let c14 = c6 .before .before .before .before .before .before .before .before in
-    let c16 = c14 .before .before in
-    rw (sym (c16 .scan .ensures) ∙ c14 .event2 .given .1) (c6 .perform-write .ensures)
+    let c16 = c6 .before .before .before .before .before .before .before .before .before .before in
+    let c18 = c16 .before .before in
+    rw (sym (c18 .scan .ensures) ∙ c16 .event2 .given .1) (c6 .perform-write .ensures)
 
 same-length-7 : tie.Need-same-length-7
 same-length-7 c = search needs
@@ -144,55 +138,58 @@ same-length-8 : tie.Need-same-length-8
 same-length-8 c = search needs
 
 returns-4 : tie.Need-returns-4
-unfolding lineDone eventDone
+unfolding callOf callDone
 returns-4 c =
-    let c5 = c .before .before .before .before .before in
-    let c13 = c5 .before .before .before .before .before .before .before .before in
+    let c4 = c .before .before .before .before in
+    let c13 = c4 .before .before .before .before .before .before .before .before .before in
     let c15 = c13 .before .before in
     let c20 = c15 .before .before .before .before .before in
     let a = c20 .args in
-    rw (sym (c15 .scan .ensures) ∙ c13 .event3 .given .1, c .number-only .ensures)
-    (ap (externalEvent (state (directoryOf (now (a .tags)) (now (a .valid)) (now (a .lru)) (now (a .cd)) (now (a .nw))) (memory (now (a .ram)) (now (a .parity))) (now (a .«data»)))) (c5 .perform-external .ensures _) ∙ rw drop-part)
+    rw (sym (c15 .scan .ensures) ∙ c13 .event3 .given .1) (rw drop-part at (c4 .perform-external .ensures (now (a .cd)) (now (a .«data»))))
 
 returns-5 : tie.Need-returns-5
-unfolding lineDone eventDone
+unfolding callOf callDone step
 returns-5 c =
-    let c6 = c .before .before .before .before .before .before in
+    let c1 = c .before in
+    let c6 = c1 .before .before .before .before .before in
     let c8 = c6 .before .before in
     let c13 = c8 .before .before .before .before .before in
     let a = c13 .args in
-    rw (sym (c8 .scan .ensures) ∙ c6 .event4 .given .1, c .number-only2 .ensures)
-    (ap (λ (r : DirectoryResult). performed (directoryOutcome r) (memory (now (a .ram)) (now (a .parity))) (now (a .«data»))) (c .before .snoop-in-place .ensures _))
+    let s = lentState (a .tags) (a .valid) (a .lru) (now (a .cd)) (now (a .nw)) (a .ram) (a .parity) (a .«data») in
+    rw (sym (c8 .scan .ensures) ∙ c6 .event4 .given .1, c .number-only2 .ensures) (ap (onDirectory s) (c1 .snoop-in-place .ensures _))
 
 returns-6 : tie.Need-returns-6
-unfolding lineDone eventDone
+unfolding callOf callDone step
 returns-6 c =
-    let c3 = c .before .before .before in
+    let c1 = c .before in
+    let c3 = c1 .before .before in
     let c5 = c3 .before .before in
     let c10 = c5 .before .before .before .before .before in
     let a = c10 .args in
-    rw (sym (c5 .scan .ensures) ∙ c3 .enum-told2 .given .1, c .number-only3 .ensures)
-    (ap (λ (d : Directory). performed (outcome d 0 0 0) (memory (now (a .ram)) (now (a .parity))) (now (a .«data»))) (c .before .flush-in-place .ensures _ _ _ _))
+    let s = lentState (a .tags) (a .valid) (a .lru) (now (a .cd)) (now (a .nw)) (a .ram) (a .parity) (a .«data») in
+    rw (sym (c5 .scan .ensures) ∙ c3 .enum-told2 .given .1, c .number-only3 .ensures) (ap (λ (d : Directory). onDirectory s (outcome d 0 0 0)) (c1 .flush-in-place .ensures _ _ _ _))
 
 returns-7 : tie.Need-returns-7
-unfolding lineDone eventDone
+unfolding callOf callDone step
 returns-7 c =
-    let c5 = c .before .before .before .before .before in
+    let c1 = c .before in
+    let c5 = c1 .before .before .before .before in
     let c7 = c5 .before .before in
     let c12 = c7 .before .before .before .before .before in
     let a = c12 .args in
-    rw (sym (c7 .scan .ensures) ∙ c5 .event5 .given .1, c .number-only4 .ensures)
-    (ap (λ (r : DirectoryResult). performed (directoryOutcome r) (memory (now (a .ram)) (now (a .parity))) (now (a .«data»))) (c .before .control-in-place .ensures _ _ _))
+    let s = lentState (a .tags) (a .valid) (a .lru) (now (a .cd)) (now (a .nw)) (a .ram) (a .parity) (a .«data») in
+    rw (sym (c7 .scan .ensures) ∙ c5 .event5 .given .1, c .number-only4 .ensures) (ap (onDirectory s) (c1 .control-in-place .ensures _ _ _))
 
 returns-8 : tie.Need-returns-8
-unfolding lineDone eventDone
+unfolding callOf callDone step
 returns-8 c =
-    let c7 = c .before .before .before .before .before .before .before in
+    let c1 = c .before in
+    let c7 = c1 .before .before .before .before .before .before in
     let c9 = c7 .before .before in
     let c14 = c9 .before .before .before .before .before in
     let a = c14 .args in
-    rw (sym (c9 .scan .ensures) ∙ c7 .enum-told3 .given .1, c .number-only5 .ensures)
-    (ap (λ (d : Directory). performed (outcome d 0 0 0) (memory (now (a .ram)) (now (a .parity))) (now (a .«data»))) (c .before .reset-in-place .ensures))
+    let s = lentState (a .tags) (a .valid) (a .lru) (now (a .cd)) (now (a .nw)) (a .ram) (a .parity) (a .«data») in
+    rw (sym (c9 .scan .ensures) ∙ c7 .enum-told3 .given .1, c .number-only5 .ensures) (ap (λ (d : Directory). onDirectory s (outcome d 0 0 0)) (c1 .reset-in-place .ensures))
 
 pub perform-spec : {M : Type 1} → statement M
 perform-spec =
@@ -200,7 +197,7 @@ perform-spec =
     (tie.spec
     scan-requires
     enum-told
-    malformed-requires
+    number-only-requires
     enum-known-event
     perform-read-requires
     enum-known-event-2
@@ -210,7 +207,6 @@ perform-spec =
     part-perform-external-start
     part-perform-external-end
     perform-external-requires
-    number-only-requires
     enum-known-event-4
     snoop-in-place-requires
     number-only-requires-2

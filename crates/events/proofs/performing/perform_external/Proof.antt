@@ -1,7 +1,9 @@
-use Rattle.fields.proofs.Pairs.{front-count, pairs-length}
-use Rattle.fields.specs.Fields.{pairBytes}
-use native.Mathlib.Omega.{arith}
 use mathlib.Core.Path.{_∙_}
+use native.Mathlib.Omega.{arith}
+use Rattle.fields.specs.Fields.{pairBytes}
+use Rattle.fields.proofs.Pairs.{front-count, pairs-length}
+use Rattle.calls.specs.Calls.{step}
+use Rattle.events.proofs.Rest.{own-log}
 use borrow.Author.Needs.{needs}
 use Rattle.events.proofs.performing.perform_external.Statement.{statement}
 use Rattle.events.proofs.performing.perform_external.Tie as tie
@@ -16,18 +18,19 @@ array-share-prefix-bytes : tie.Need-array-share-prefix-bytes
 array-share-prefix-bytes c =
     let c4 = c .before .before .before .before in
     let c9 = c4 .before .before .before .before .before in
-    let a = c9 .args in
-    front-count 80 _ (pairBytes (a .pairs .now)) _ (c4 .pair-bytes .ensures .0) (c4 .pair-bytes .ensures .1) (omega (arith, pairs-length (a .pairs .now), c9 .pre)) .0
+    front-count 80 _ (pairBytes (c9 .args .pairs .now)) _ (c4 .pair-bytes .ensures .0) (c4 .pair-bytes .ensures .1) (omega (arith, pairs-length (c9 .args .pairs .now), c9 .pre)) .0
 
 slice-aggregate-external-write-in-place : tie.Need-slice-aggregate-external-write-in-place
 slice-aggregate-external-write-in-place c =
     let c5 = c .before .before .before .before .before in
     let c10 = c5 .before .before .before .before .before in
-    let a = c10 .args in
-    front-count 80 _ (pairBytes (a .pairs .now)) _ (c5 .pair-bytes .ensures .0) (c5 .pair-bytes .ensures .1) (omega (arith, pairs-length (a .pairs .now), c10 .pre)) .1
+    front-count 80 _ (pairBytes (c10 .args .pairs .now)) _ (c5 .pair-bytes .ensures .0) (c5 .pair-bytes .ensures .1) (omega (arith, pairs-length (c10 .args .pairs .now), c10 .pre)) .1
 
 external-write-in-place-requires : tie.Need-external-write-in-place-requires
 external-write-in-place-requires c κs = search needs
+
+number-only-requires : tie.Need-number-only-requires
+number-only-requires c κs = search needs
 
 same-length : tie.Need-same-length
 same-length c = search needs
@@ -36,13 +39,12 @@ same-length-2 : tie.Need-same-length-2
 same-length-2 c = search needs
 
 returns : tie.Need-returns
-returns c cd =
-    let c4 = c .before .before .before .before in
-    let c10 = c4 .before .before .before .before .before .before in
-    let c15 = c10 .before .before .before .before .before in
-    let a = c15 .args in
-    c4 .external-write-in-place .ensures cd ∙ rw
-    (front-count 80 _ (pairBytes (a .pairs .now)) _ (c10 .pair-bytes .ensures .0) (c10 .pair-bytes .ensures .1) (omega (arith, pairs-length (a .pairs .now), c15 .pre)) .2)
+unfolding step
+returns c cd array =
+    let c5 = c .before .before .before .before .before in
+    let c11 = c5 .before .before .before .before .before .before in
+    let c16 = c11 .before .before .before .before .before in
+    rw (c .number-only .ensures) (own-log _ _ _ _ (c5 .external-write-in-place .ensures cd array ∙ rw (front-count 80 _ (pairBytes (c16 .args .pairs .now)) _ (c11 .pair-bytes .ensures .0) (c11 .pair-bytes .ensures .1) (omega (arith, pairs-length (c16 .args .pairs .now), c16 .pre)) .2)))
 
 pub perform-external-spec : {M : Type 1} → statement M
 perform-external-spec =
@@ -53,6 +55,7 @@ perform-external-spec =
     array-share-prefix-bytes
     slice-aggregate-external-write-in-place
     external-write-in-place-requires
+    number-only-requires
     same-length
     same-length-2
     returns)

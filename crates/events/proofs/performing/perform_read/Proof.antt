@@ -1,5 +1,6 @@
-use Rattle.events.specs.Perform.{accessEvent}
-use mathlib.Core.Path.{ap, _∙_}
+use mathlib.Core.Path.{_∙_}
+use Rattle.calls.specs.Calls.{step}
+use Rattle.events.proofs.Rest.{own-log}
 use borrow.Author.Needs.{needs}
 use Rattle.events.proofs.performing.perform_read.Statement.{statement}
 use Rattle.events.proofs.performing.perform_read.Tie as tie
@@ -20,9 +21,11 @@ same-length : tie.Need-same-length
 same-length c = search needs
 
 returns : tie.Need-returns
+unfolding step
 returns c nw =
-    let at-call = c .before .before .before in
-    ap accessEvent (at-call .read-in-place .ensures nw) ∙ rw (at-call .before .before .before .before .before .before .before .board-answers .ensures)
+    let c3 = c .before .before .before in
+    let c10 = c3 .before .before .before .before .before .before .before in
+    own-log _ _ _ _ (c3 .read-in-place .ensures nw ∙ rw (c10 .board-answers .ensures))
 
 pub perform-read-spec : {M : Type 1} → statement M
 perform-read-spec =

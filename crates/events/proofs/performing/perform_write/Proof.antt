@@ -1,5 +1,6 @@
-use Rattle.events.specs.Perform.{accessEvent}
-use mathlib.Core.Path.{ap, _∙_}
+use mathlib.Core.Path.{_∙_}
+use Rattle.calls.specs.Calls.{step}
+use Rattle.events.proofs.Rest.{own-log}
 use borrow.Author.Needs.{needs}
 use Rattle.events.proofs.performing.perform_write.Statement.{statement}
 use Rattle.events.proofs.performing.perform_write.Tie as tie
@@ -26,9 +27,11 @@ same-length-3 : tie.Need-same-length-3
 same-length-3 c = search needs
 
 returns : tie.Need-returns
+unfolding step
 returns c =
-    let at-call = c .before .before .before .before .before .before .before in
-    ap accessEvent (at-call .write-in-place .ensures) ∙ rw (at-call .before .before .before .before .before .before .before .before .before .board-answers .ensures)
+    let c7 = c .before .before .before .before .before .before .before in
+    let c14 = c7 .before .before .before .before .before .before .before in
+    own-log _ _ _ _ (c7 .write-in-place .ensures ∙ rw (c14 .board-answers .ensures))
 
 pub perform-write-spec : {M : Type 1} → statement M
 perform-write-spec =

@@ -5,7 +5,7 @@ use mathlib.Core.Path.{_≡_, refl, sym, ap, _∙_}
 use lib.ListN.{length, length-replicate}
 use lib.Seq.{sets, length-take-le}
 use Rattle.memory.specs.Parity.{memory}
-use Rattle.access.specs.Access.{state}
+use Rattle.refusal.specs.Call.{state}
 use Rattle.fields.specs.Fields.{linesOf}
 use Rattle.events.specs.Output.{rowsOf, start}
 use Rattle.events.proofs.Rest.{rowsLeft, rows-left-none, line-done}
@@ -99,7 +99,7 @@ loop-again c =
     let c27 = c20 .before .before .before .before .before .before .before in
     let d = line-done (c27 .args .input .now)
     (state (directoryOf (c20 .loop .tags) (c20 .loop .valid) (c20 .loop .lru) (c20 .loop .cd) (c20 .loop .nw)) (memory (c20 .loop .ram) (c20 .loop .parity)) (c20 .loop .«data»))
-    (c20 .loop .event) (c20 .loop .place) _ (c17 .end-of .result) _ _ _ (c20 .loop .output) _ _ (c20 .loop .at) (c2 .put-row .result) _ (omega arith) refl (c17 .end-of .ensures .0)
+    (c20 .loop .event) (c20 .loop .place) _ (c17 .end-of .result) _ _ _ _ (c20 .loop .output) _ _ (c20 .loop .at) (c2 .put-row .result) _ (omega arith) refl (c17 .end-of .ensures .0)
     (c7 .perform .ensures) (c2 .put-row .ensures .0 .0) (c2 .put-row .ensures .0 .1) (c20 .loop .inv .0) (c20 .loop .inv .1) in (
       d .0,
       d .1,

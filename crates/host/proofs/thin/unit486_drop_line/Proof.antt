@@ -42,11 +42,12 @@ use denote.Triple.Walked.{says, Stays, stay-ref, stay-none, walkOf, AllGo, goes-
 use denote.Exit.{yes}
 use Rattle.directory.specs.Steps.{snoopCall}
 use Rattle.directory.specs.declared.steps.Directory.{Directory}
-use Rattle.directory.specs.declared.steps.DirectoryResult.{DirectoryResult}
+use Rattle.directory.specs.declared.steps.Outcome.{Outcome}
+use Rattle.directory.proofs.Laws.{snoop-plain}
 use Rattle.directory.proofs.steps.Directory as Dir
 use Rattle.directory.proofs.steps.Directory.Laws as Dir′
-use Rattle.directory.proofs.steps.DirectoryResult as Res
-use Rattle.directory.proofs.steps.DirectoryResult.Laws as Res′
+use Rattle.directory.proofs.steps.Outcome as Res
+use Rattle.directory.proofs.steps.Outcome.Laws as Res′
 use Rattle.directory.proofs.steps.Directory.snoop as snoop
 use Rattle.directory.proofs.steps.Directory.snoop.Symbol as snoop-def
 use Rattle.directory.proofs.steps.Directory.snoop.Symbol.{name as #snoop}
@@ -67,34 +68,34 @@ stayed = (stay-ref (0 ∷ []) tt (plain (λ _. Dir.the-row)), (stay-none (λ _. 
 abbrev dir-val : Directory → Val
 dir-val = LL.val Dir.the-type Dir′.the-laws
 
-abbrev res-val : DirectoryResult → Val
+abbrev res-val : Outcome → Val
 res-val = LL.val Res.the-type Res′.the-laws
 
 abbrev IsDir : Directory → Type 0
 IsDir d = Is Dir.the-row d (dir-val d ∷ [])
 
-abbrev IsRes : DirectoryResult → Val → Type 0
+abbrev IsRes : Outcome → Val → Type 0
 IsRes r v = Is Res.the-row r (v ∷ [])
 
 -- What a call that returned a result leaves known of it.
-spelt-out : (r : DirectoryResult) (v : Val) → IsRes r v → v ≡ res-val r
+spelt-out : (r : Outcome) (v : Val) → IsRes r v → v ≡ res-val r
 spelt-out r v is = ap only (LL.tells Res.the-type Res′.the-laws r (v ∷ []) is)
 
-its-directory : (r : DirectoryResult) (v : Val) → IsRes r v → IsDir (r .directory)
+its-directory : (r : Outcome) (v : Val) → IsRes r v → IsDir (r .directory)
 its-directory r v is = LL.owed Res.the-type Res′.the-laws r (v ∷ []) is .0
 
-its-number : (r : DirectoryResult) (v : Val) → IsRes r v → r .number < 2 ^ 32
+its-number : (r : Outcome) (v : Val) → IsRes r v → r .number < 2 ^ 32
 its-number r v is = LL.owed Res.the-type Res′.the-laws r (v ∷ []) is .1 .0 .1
 
 module _ {M : Type 1} (𝓤 : URA M) (H : Heap 𝓤) (A : Atoms 𝓤) (at-mem : Memory → SProp 𝓤) (run : Routine → Fun 𝓤) where
   abbrev Snoop : Contract 𝓤
   Snoop = tripleOf 𝓤 H A snoop.signature (snoop.spec 𝓤 H A at-mem run)
 
-  abbrev Ensured : Directory → ℕ → DirectoryResult → SProp 𝓤
+  abbrev Ensured : Directory → ℕ → Outcome → SProp 𝓤
   Ensured d n r = ensured 𝓤 H A snoop.ended (snoop.clauses 𝓤 H A at-mem run) tt (d, (n, tt)) tt r
 
   -- Of what `snoop` ensures, the equation alone.
-  snooped : (d : Directory) (n : ℕ) (r : DirectoryResult) → ent 𝓤 (Ensured d n r) (fact 𝓤 (r ≡ snoopCall d n))
+  snooped : (d : Directory) (n : ℕ) (r : Outcome) → ent 𝓤 (Ensured d n r) (fact 𝓤 (r ≡ snoopCall d n))
   snooped d n r = exE 𝓤 _ (λ ws. snd∗ 𝓤 (sem 𝓤 H A (lasts snoop.ended tt (d, (n, tt)) ws)) (fact 𝓤 (r ≡ snoopCall d n)))
 
 -- The directory h lies at (b, o) and is lent for κ under the name γ; n is the address.
@@ -110,13 +111,13 @@ module _ {M : Type 1} (𝓤 : URA M) (H : Heap 𝓤) (A : Atoms 𝓤) (W : Given
   Post = walkOf 𝓤 H A drop′.ended stayed (drop′.clauses 𝓤 H A at-mem run) .post (((κ, tt), (q, tt), tt, x, at), tt)
 
   -- The exit, with the borrow closed at the result's directory and the result's number returned.
-  exits : (r : DirectoryResult) → r ≡ snoopCall h n → r .number < 2 ^ 32 → n < 2 ^ 32
+  exits : (r : Outcome) → r ≡ snoopCall h n → r .number < 2 ^ 32 → n < 2 ^ 32
       → ent 𝓤 (sep 𝓤 (A .obs γ (Dir.the-row .coded .code (r .directory))) (sep 𝓤 (A .bor κ (Body (mem Dir.the-row) b o γ)) (A .lft κ q))) (Post (vint w32 (r .number)))
   exits r e fits-r fits-n =
       qed W (‵ (fobs γ (Dir.the-row .coded .code (r .directory))) ∷ ‵ (fbor κ (Body (mem Dir.the-row) b o γ)) ∷ ‵ (flft κ q) ∷ []) ∵
       suffices ! _
       (ends-at 𝓤 H A drop′.ended stayed (drop′.clauses 𝓤 H A at-mem run) W (((κ, tt), (q, tt), tt, x, at), tt) (vint w32 (r .number)) (r .number) (r .directory, (tt, tt)) (tt, (tt, tt))) $
-      says ! e $ nothing ! $ move ! (3 ∷ 0 ∷ []) $ join ! $ frame ! $ feqI ! (List Val) (vptr b o ∷ []) (vptr b o ∷ []) refl $ fjoin3 ! $
+      says ! (snoop-plain h n r e) $ nothing ! $ move ! (3 ∷ 0 ∷ []) $ join ! $ frame ! $ feqI ! (List Val) (vptr b o ∷ []) (vptr b o ∷ []) refl $ fjoin3 ! $
       nothing ! $ owned ! u32 (Is u32) (uint-makes 𝓤 H A W w32) n _ (refl, fits-n) $ fjoin ! $ move ! (1 ∷ 0 ∷ []) $ fjoin ! $
       owned ! u32 (Is u32) (uint-makes 𝓤 H A W w32) (r .number) _ (refl, fits-r) $ move ! (1 ∷ 0 ∷ []) $ done !
 
@@ -133,7 +134,7 @@ module _ {M : Type 1} (𝓤 : URA M) (H : Heap 𝓤) (A : Atoms 𝓤) (W : Given
   dir-typed : (d : Directory) → IsDir d → Holds (hasTy Dir′.mir (dir-val d)) × WT (dir-val d)
   dir-typed d is = LL.lawful Dir.the-type Dir′.the-laws 𝓤 H A W .typed d _ is .0
 
-  res-typed : (r : DirectoryResult) (v : Val) → IsRes r v → Holds (hasTy Res′.mir v) × WT v
+  res-typed : (r : Outcome) (v : Val) → IsRes r v → Holds (hasTy Res′.mir v) × WT v
   res-typed r v is = LL.lawful Res.the-type Res′.the-laws 𝓤 H A W .typed r _ is .0
 
   module _ (C : Calls 𝓤 H) (Λ : Loops 𝓤 H) (fm : FmC 𝓤 H (W .laws) C) (known : Triple 𝓤 (C #snoop) (Snoop 𝓤 H A at-mem run)) where
@@ -153,7 +154,7 @@ module _ {M : Type 1} (𝓤 : URA M) (H : Heap 𝓤) (A : Atoms 𝓤) (W : Given
         -- let result = given.snoop(address); its value is spelt out for the reads of its fields
         use0 W (raw (Snoop 𝓤 H A at-mem run .pre to-snoop)) (asked is (gn .1)) $
         calls-at ! fm (Snoop 𝓤 H A at-mem run) known to-snoop (and-then ! (load ! (from ! (stop !)) (look ! 7 refl)) (and-then ! (load ! (from ! (stop !)) (look ! 9 refl)) (no-more !))) (λ v.
-        use1 W (later (some (λ (r : DirectoryResult). (‵ ftrue ⊛ ‵ (Res.the-row .own r (v ∷ []))) ⊛ raw (Ensured 𝓤 H A at-mem run h n r)))) (id⊢ 𝓤 _) $ await ! tt $ pick ! (λ r.
+        use1 W (later (some (λ (r : Outcome). (‵ ftrue ⊛ ‵ (Res.the-row .own r (v ∷ []))) ⊛ raw (Ensured 𝓤 H A at-mem run h n r)))) (id⊢ 𝓤 _) $ await ! tt $ pick ! (λ r.
         split ! $ move ! (1 ∷ []) $ use1 W (raw (fact 𝓤 (r ≡ snoopCall h n))) (snooped 𝓤 H A at-mem run h n r) $ heard ! (r ≡ snoopCall h n) (λ e. split ! $ drop ! $
         facts ! Res.the-row (Is Res.the-row) (shows 𝓤 H A Res.the-row) r (v ∷ []) (λ is′.
         land ! (from ! (stop !)) (init ! 4 refl (res-typed r v is′)) $ rewrite ! 4 (λ (u : Val). ‵ (fat fullShare Res′.mir l₄ 0 u)) (spelt-out r v is′) refl $

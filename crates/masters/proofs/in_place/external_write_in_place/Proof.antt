@@ -4,6 +4,7 @@ use lib.ListN.{length}
 use denote.Ref.{now}
 use Rattle.directory.specs.Steps.{directoryOf}
 use Rattle.memory.specs.Parity.{memory}
+use Rattle.refusal.specs.Call.{state}
 use Rattle.refusal.proofs.Accepted.{zero-or, first-or, GoodMemory, GoodExternal, memory-accepted, external-accepted}
 use Rattle.masters.proofs.External.{input-refused, state-refused, external-made}
 use borrow.Author.Needs.{needs}
@@ -14,19 +15,19 @@ memory-number-requires : tie.Need-memory-number-requires
 memory-number-requires c κs = search needs
 
 returns : tie.Need-returns
-returns c cd =
+returns c cd array =
     let a = c .before .before .before .before .before .args in
     let met = c .if1 .taken in
-    input-refused (directoryOf (now (a .tags)) (now (a .valid)) (now (a .lru)) cd (a .nw)) (memory (now (a .ram)) (now (a .parity))) (a .address) (now (a .bytes)) _ _
+    input-refused (state (directoryOf (now (a .tags)) (now (a .valid)) (now (a .lru)) cd (a .nw)) (memory (now (a .ram)) (now (a .parity))) array) (a .address) (now (a .bytes)) _ _
     (c .before .memory-number .ensures) refl _ (sym (first-or _ _ met)) met
 
 external-number-requires : tie.Need-external-number-requires
 external-number-requires c κs = search needs
 
 returns-2 : tie.Need-returns-2
-returns-2 c cd =
+returns-2 c cd array =
     let a = c .before .before .before .before .before .before .before .args in
-    input-refused (directoryOf (now (a .tags)) (now (a .valid)) (now (a .lru)) cd (a .nw)) (memory (now (a .ram)) (now (a .parity))) (a .address) (now (a .bytes)) _ _
+    input-refused (state (directoryOf (now (a .tags)) (now (a .valid)) (now (a .lru)) cd (a .nw)) (memory (now (a .ram)) (now (a .parity))) array) (a .address) (now (a .bytes)) _ _
     (c .before .before .before .memory-number .ensures) (c .before .external-number .ensures) _ (sym (zero-or _ _ (c .before .before .if1 .left))) (c .if2 .taken)
 
 -- the lengths and the place are right
@@ -44,10 +45,10 @@ states-number-requires : tie.Need-states-number-requires
 states-number-requires c κs = search needs
 
 returns-3 : tie.Need-returns-3
-returns-3 c cd =
+returns-3 c cd array =
     let k = c .before .before .before in
     let a = k .before .before .before .before .before .before .before .args in
-    state-refused (directoryOf (now (a .tags)) (now (a .valid)) (now (a .lru)) cd (a .nw)) (memory (now (a .ram)) (now (a .parity))) (a .address) (now (a .bytes)) _ _
+    state-refused (state (directoryOf (now (a .tags)) (now (a .valid)) (now (a .lru)) cd (a .nw)) (memory (now (a .ram)) (now (a .parity))) array) (a .address) (now (a .bytes)) _ _
     (k .before .before .before .memory-number .ensures) (k .before .external-number .ensures) _ (sym (zero-or _ _ (k .before .before .if1 .left))) (k .if2 .left) _
     (c .before .states-number .ensures) (c .if3 .taken)
 
@@ -66,10 +67,10 @@ same-length-2 : tie.Need-same-length-2
 same-length-2 c = search needs
 
 returns-4 : tie.Need-returns-4
-returns-4 c cd =
+returns-4 c cd array =
     let k = c .before .before .before .before .before .before .before .before .before .before .before .before in
     let a = k .before .before .before .before .before .before .before .args in
-    external-made (directoryOf (now (a .tags)) (now (a .valid)) (now (a .lru)) cd (a .nw)) (memory (now (a .ram)) (now (a .parity))) (a .address) (now (a .bytes)) _ _
+    external-made (state (directoryOf (now (a .tags)) (now (a .valid)) (now (a .lru)) cd (a .nw)) (memory (now (a .ram)) (now (a .parity))) array) (a .address) (now (a .bytes)) _ _
     (k .before .before .before .memory-number .ensures) (k .before .external-number .ensures) _ (sym (zero-or _ _ (k .before .before .if1 .left))) (k .if2 .left) _
     (c .before .before .before .before .before .before .before .before .before .before .states-number .ensures) (c .before .before .before .before .before .before .before .before .before .if3 .left) _ _
     (c .invalidate-in-place .ensures _ cd) (c .before .before .before .before .before .before .store-bytes .ensures)

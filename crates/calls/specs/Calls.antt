@@ -1,0 +1,55 @@
+-- Document 01, 'Other masters, views, and the plain memory': the calls of a list, and one step of the unit.
+use Prim.Native.Nat.{ℕ}
+use mathlib.Core.Bool.{Bool}
+use mathlib.Core.List.{List, []}
+use lib.ListN.{length}
+use Rattle.directory.specs.Outcome.{outcome}
+use Rattle.directory.specs.Steps.{snoopCall, controlCall, flushCall, resetCall}
+use Rattle.refusal.specs.Call.{State, After, onDirectory}
+use Rattle.access.specs.Access.{readCall, writeCall}
+use Rattle.masters.specs.Masters.{externalCall}
+use Rattle.views.specs.View.{viewNumberIn, viewIn}
+
+-- "the calls' arguments except directory, RAM, parity and data array": "The log, the board's answers and an external write's bytes are each call's own and may be anything."
+-- Numbers are ℕ, so that the claim covers lists that no caller can make too; the contracts tie steps with 32-bit arguments and
+-- 8-bit bytes to the code.
+pub data Call : Type 0 where
+  read : (address width : ℕ) → (pcd : Bool) → (answers log : List ℕ) → Call
+  write : (address width value : ℕ) → (answers log : List ℕ) → Call
+  external : (address : ℕ) → (bytes : List ℕ) → Call
+  snoop : (address : ℕ) → Call
+  flush : Call
+  control : (cd nw : Bool) → Call
+  view : (address : ℕ) → Call
+  reset : Call
+
+-- A view and its number, of the state of the unit: those that `views` gives for its arrays.
+abbrev pub viewNumberOf : State → ℕ → ℕ
+viewNumberOf s address =
+    viewNumberIn (s .directory .tags) (s .directory .valid) (s .directory .lru) (length (s .memory .ram)) (length (s .array)) address
+
+abbrev pub viewOf : State → ℕ → List ℕ
+viewOf s address =
+    viewIn (s .directory .tags) (s .directory .valid) (s .directory .lru) (s .memory .ram) (s .array) address
+
+-- "the number (a view's is its companion question's)"; views change nothing.
+abbrev pub viewCall : State → ℕ → After
+viewCall s address =
+    record {
+      outcome = outcome (s .directory) (viewNumberOf s address) 0 0;
+      memory = s .memory;
+      array = s .array;
+      log = [];
+      shown = viewOf s address;
+    }
+
+-- One step of the unit, by the definitions that the contracts of the calls cite.
+unfoldable pub step : State → Call → After
+step s (read address width pcd answers log) = readCall s address width pcd answers log
+step s (write address width value answers log) = writeCall s address width value answers log
+step s (external address bytes) = externalCall s address bytes
+step s (snoop address) = onDirectory s (snoopCall (s .directory) address)
+step s flush = onDirectory s (flushCall (s .directory))
+step s (control cd nw) = onDirectory s (controlCall (s .directory) cd nw)
+step s (view address) = viewCall s address
+step s reset = onDirectory s resetCall
