@@ -21,8 +21,7 @@ use Rattle.agreement.specs.Plain.{Plain, plain}
 use Rattle.agreement.specs.Agreement.{Legal, setsNw}
 use Rattle.agreement.specs.Program.{plainEvent, plainLine, plainRows, countsOf, plainOutput, eventSetsNw, NoLineSetsNw, Columns}
 use Rattle.agreement.proofs.Coherence.{Coherent}
-use Rattle.agreement.proofs.Reading.{coherent-with}
-use Rattle.agreement.proofs.Steps.{call-matches}
+use Rattle.agreement.proofs.Steps.{call-matches, call-coherent}
 use Rattle.agreement.proofs.Demand.{start-coherent}
 
 -- what a line leaves beside what the plain memory answers
@@ -37,13 +36,13 @@ module _ (s : State) (m : List ℕ) (c : Coherent s m) where
       LineMatches (performed (step s k .leaves .outcome) (step s k .leaves .memory) (step s k .leaves .array)) (plain m k)
   made k q =
       let g = call-matches s m c k q in
-      record { coherent = g .coherent; numbers = g .numbers; values = g .values }
+      record { coherent = call-coherent s m c k q; numbers = g .numbers; values = g .values }
 
   event-matches : (line : List ℕ) (e : Event) → eventSetsNw e ≡ false → LineMatches (eventDone s line e) (plainEvent m line e)
   unfolding eventDone plainEvent step
   event-matches line Malformed q =
       record {
-        coherent = coherent-with s m c (s .directory) (c .formed) (c .nw) (s .array) (c .arrayLength) (c .lines);
+        coherent = c;
         numbers = refl;
         values = refl;
       }
