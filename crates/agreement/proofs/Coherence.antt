@@ -57,6 +57,41 @@ pub record Coherent (s : State) (m : List ℕ) : Type 0 where
 pub kept-in : (s : State) (m : List ℕ) → Coherent s m → KeptIn (length m) s
 kept-in s m c = record { kept = c .kept; ramLength = ap length (c .beside .rams) }
 
+-- fewer lines, and none
+pub fewer-lines : (d e : Directory) (m array : List ℕ) → ((s w tag : ℕ) → s < 128 → w < 4 → Held e s w tag → Held d s w tag) → Lines d m array → Lines e m array
+fewer-lines d e m array f l =
+    record {
+      inside = λ s w tag sl wl h. l .inside s w tag sl wl (f s w tag sl wl h);
+      same = λ s w tag sl wl h. l .same s w tag sl wl (f s w tag sl wl h);
+    }
+
+no-lines : (d : Directory) (m array : List ℕ) → Empty d → Lines d m array
+no-lines d m array n =
+    record {
+      inside = λ s w tag sl wl h. absurd (n s w tag sl wl h);
+      same = λ s w tag sl wl h. absurd (n s w tag sl wl h);
+    }
+
+-- another directory with the same CD and NW, and no line that the first doesn't hold
+pub fewer-beside : (s : State) (m : List ℕ) → Beside s m → (d : Directory) → ((r w tag : ℕ) → r < 128 → w < 4 → Held d r w tag → Held (s .directory) r w tag) →
+    (d .cd ≡ s .directory .cd) × (d .nw ≡ s .directory .nw) → Apart d → Beside (state d (s .memory) (s .array)) m
+fewer-beside s m b d f k g =
+    record {
+      rams = b .rams;
+      apart = g;
+      lines = fewer-lines (s .directory) d m (s .array) f (b .lines);
+      nw =
+          record {
+            disabled = λ h. k .0 ∙ b .nw .disabled (sym (k .1) ∙ h);
+            empty = λ h r w tag rl wl q. b .nw .empty (sym (k .1) ∙ h) r w tag rl wl (f r w tag rl wl q);
+          };
+    }
+
+-- a directory that holds no line, whatever was held before
+pub empty-beside : (s : State) (m : List ℕ) → s .memory .ram ≡ m → Apart (s .directory) → Empty (s .directory) → (s .directory .nw ≡ true → s .directory .cd ≡ true) → Beside s m
+empty-beside s m e g n o =
+    record { rams = e; apart = g; lines = no-lines (s .directory) m (s .array) n; nw = record { disabled = o; empty = λ _. n } }
+
 -- bytes stored in RAM with their parity, and in the plain memory, where the lines have them
 pub beside-stored : (s : State) (m : List ℕ) → Beside s m → (a : ℕ) (x array : List ℕ) → Lines (s .directory) (sets m a x) array →
     Beside (state (s .directory) (stored (s .memory) a x) array) (sets m a x)
@@ -66,21 +101,6 @@ beside-stored s m b a x array l =
       apart = b .apart;
       lines = l;
       nw = b .nw;
-    }
-
--- fewer lines, and none
-pub fewer-lines : (d e : Directory) (m array : List ℕ) → ((s w tag : ℕ) → s < 128 → w < 4 → Held e s w tag → Held d s w tag) → Lines d m array → Lines e m array
-fewer-lines d e m array f l =
-    record {
-      inside = λ s w tag sl wl h. l .inside s w tag sl wl (f s w tag sl wl h);
-      same = λ s w tag sl wl h. l .same s w tag sl wl (f s w tag sl wl h);
-    }
-
-pub no-lines : (d : Directory) (m array : List ℕ) → Empty d → Lines d m array
-no-lines d m array n =
-    record {
-      inside = λ s w tag sl wl h. absurd (n s w tag sl wl h);
-      same = λ s w tag sl wl h. absurd (n s w tag sl wl h);
     }
 
 -- a line's address has one set and one tag

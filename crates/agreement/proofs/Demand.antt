@@ -14,7 +14,7 @@ use Rattle.agreement.specs.Calls.{Call, read, write, external, snoop, fl
 use Rattle.agreement.specs.Plain.{plainNumber, plainDone, plainRefused, plain}
 use Rattle.agreement.specs.Agreement.{AgreesAll, NeverSetsNw, Legal, Demand3, Arises, ArisesAll, NumbersThatArise}
 use Rattle.agreement.proofs.Kept.{start-kept}
-use Rattle.agreement.proofs.Coherence.{Coherent, no-lines}
+use Rattle.agreement.proofs.Coherence.{Coherent, empty-beside}
 use Rattle.agreement.proofs.Numbers.{plain-arises}
 use Rattle.agreement.proofs.Steps.{call-matches, call-coherent}
 
@@ -22,13 +22,7 @@ pub start-coherent : (m : Memory) (array : List ℕ) → Legal m array → Coher
 start-coherent m array g =
     record {
       kept = start-kept m array g;
-      beside =
-          record {
-            rams = refl;
-            apart = reset-apart;
-            lines = no-lines afterReset (m .ram) array reset-none;
-            nw = record { disabled = λ _. reset-control .0; empty = λ _. reset-none };
-          };
+      beside = empty-beside (state afterReset m array) (m .ram) refl reset-apart reset-none (λ _. reset-control .0);
     }
 
 agrees-from : (cs : List Call) (s : State) (m : List ℕ) → Coherent s m → NeverSetsNw cs → AgreesAll s m cs

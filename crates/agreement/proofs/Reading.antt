@@ -28,23 +28,13 @@ use Rattle.cycles.proofs.Brought.{burst-each, fill-buffer, wanted-bytes}
 use Rattle.agreement.proofs.Cycles.{NoParityErrors, no-error-append, no-error-reads, cycles-within}
 use Rattle.agreement.proofs.Doublewords.{Proper, EachProper, wantedBytes, allWanted}
 use Rattle.agreement.proofs.Kept.{Kept, read-one-kept}
-use Rattle.agreement.proofs.Coherence.{Beside, Coherent, kept-in, fewer-lines, held-bytes, filled-lines}
+use Rattle.agreement.proofs.Coherence.{Beside, Coherent, kept-in, fewer-beside, held-bytes, filled-lines}
 
 -- a use of a way
 pub use-beside : (s : State) (m : List ℕ) → Beside s m → (r w : ℕ) → Beside (state (afterUse (s .directory) r w) (s .memory) (s .array)) m
 use-beside s m b r w =
     let d = s .directory in
-    let k = use-control d r w in
-    record {
-      rams = b .rams;
-      apart = use-apart d (b .apart) r w;
-      lines = fewer-lines d (afterUse d r w) m (s .array) (λ q v tag ql vl. use-held d r w q v tag) (b .lines);
-      nw =
-          record {
-            disabled = λ h. k .0 ∙ b .nw .disabled (sym (k .1) ∙ h);
-            empty = λ h q v tag ql vl g. b .nw .empty (sym (k .1) ∙ h) q v tag ql vl (use-held d r w q v tag g);
-          };
-    }
+    fewer-beside s m b (afterUse d r w) (λ q v tag ql vl. use-held d r w q v tag) (use-control d r w) (use-apart d (b .apart) r w)
 
 -- what a doubleword of a read leaves
 record ReadMatches (s : State) (m : List ℕ) (w : Doubleword) (done : Done) : Type 0 where

@@ -1,6 +1,6 @@
 -- Snoops and external writes keep the invariant.
 use Prim.Native.Nat.{ℕ, _+_, _*_, _/_, _%_, _<_}
-use mathlib.Core.Path.{_≡_, refl, sym, _∙_}
+use mathlib.Core.Path.{_≡_, refl, _∙_}
 use mathlib.Core.List.{List}
 use native.Mathlib.Omega.{arith}
 use lib.ListN.{length}
@@ -14,7 +14,7 @@ use Rattle.directory.proofs.Laws.{snoop-held, snoop-control, snoop-none, snoop-
 use Rattle.memory.specs.Parity.{stored}
 use Rattle.access.specs.Access.{State, state}
 use Rattle.refusal.proofs.Accepted.{GoodExternal}
-use Rattle.agreement.proofs.Coherence.{addressOf, Beside, Coherent, beside-stored, fewer-lines, line-set, stored-miss}
+use Rattle.agreement.proofs.Coherence.{addressOf, Beside, Coherent, fewer-beside, beside-stored, line-set, stored-miss}
 
 module _ (s : State) (m : List ℕ) (c : Coherent s m) (a : ℕ) where
   abbrev d : Directory
@@ -31,17 +31,7 @@ module _ (s : State) (m : List ℕ) (c : Coherent s m) (a : ℕ) where
 
   pub snoop-beside : Beside snooped m
   snoop-beside =
-      let k = snoop-control d z a in
-      record {
-        rams = b .rams;
-        apart = snoop-apart d z (b .apart) a;
-        lines = fewer-lines d (afterSnoop d a) m (s .array) (λ r v tag rl vl. snoop-held d z a r v tag vl) (b .lines);
-        nw =
-            record {
-              disabled = λ h. k .0 ∙ b .nw .disabled (sym (k .1) ∙ h);
-              empty = λ h r v tag rl vl q. b .nw .empty (sym (k .1) ∙ h) r v tag rl vl (snoop-held d z a r v tag vl q);
-            };
-      }
+      fewer-beside s m b (afterSnoop d a) (λ r v tag rl vl. snoop-held d z a r v tag vl) (snoop-control d z a) (snoop-apart d z (b .apart) a)
 
   same-tag : (tag r : ℕ) → r < 128 → addressOf r tag ≡ a / 16 * 16 → tag ≡ tagOf a
   same-tag tag r l e = omega arith

@@ -33,7 +33,7 @@ use Rattle.words.proofs.Spans.{bytes-same}
 use Rattle.agreement.proofs.Bytes.{operand-bytes}
 use Rattle.agreement.proofs.Cycles.{logged-no-error}
 use Rattle.agreement.proofs.Counts.{read-most, write-most, all-most, records-there, none-counted}
-use Rattle.agreement.proofs.Coherence.{Empty, Beside, Coherent, fewer-lines, no-lines, line-around}
+use Rattle.agreement.proofs.Coherence.{Empty, Beside, Coherent, fewer-lines, empty-beside, line-around}
 use Rattle.agreement.proofs.Doublewords.{access-proper, doublewords-wanted, doublewords-written}
 use Rattle.agreement.proofs.Kept.{call-kept}
 use Rattle.agreement.proofs.Reading.{read-all}
@@ -158,8 +158,7 @@ module _ (s : State) (m : List ℕ) (c : Coherent s m) where
 
   -- a directory that holds no line
   emptied-matches : (d : Directory) → Apart d → (d .nw ≡ true → d .cd ≡ true) → Empty d → StepMatches (directoryStep s (outcome d 0 0 0)) (plainAccepted 0 [] m)
-  emptied-matches d g e n =
-      changed-matches d (record { rams = c .beside .rams; apart = g; lines = no-lines d m (s .array) n; nw = record { disabled = e; empty = λ _. n } })
+  emptied-matches d g e n = changed-matches d (empty-beside (state d (s .memory) (s .array)) m (c .beside .rams) g n e)
 
   snoop-matches : (a : ℕ) → StepMatches (step s (snoop a)) (plain m (snoop a))
   unfolding step plain plainNumber plainDone
