@@ -54,6 +54,7 @@ pub record Coherent (s : State) (m : List ℕ) : Type 0 where
   pub kept : Kept s
   pub beside : Beside s m
 
+-- its first part, with the plain memory's length
 pub kept-in : (s : State) (m : List ℕ) → Coherent s m → KeptIn (length m) s
 kept-in s m c = record { kept = c .kept; ramLength = ap length (c .beside .rams) }
 
