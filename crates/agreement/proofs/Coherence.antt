@@ -1,6 +1,6 @@
--- The invariant of demand 3, beside the plain memory: every held line lies in memory and has its bytes.
+-- The invariant of demand 3: what every list keeps, and on top, beside the plain memory, that every held line lies in memory and has its bytes.
 use Prim.Native.Nat.{ℕ, _+_, _*_, _-_, _/_, _%_, _≤_, _<_}
-use mathlib.Core.Path.{_≡_, sym, _∙_}
+use mathlib.Core.Path.{_≡_, sym, _∙_, ap}
 use mathlib.Core.Bool.{true}
 use mathlib.Core.List.{List}
 use mathlib.Core.Logic.{_⊎_, ⊎-elim}
@@ -12,15 +12,16 @@ use Rattle.laws.proofs.Tests.{same-or}
 use Rattle.directory.specs.declared.steps.Directory.{Directory}
 use Rattle.ways.specs.Address.{setOf, tagOf, lineIndex}
 use Rattle.directory.specs.Steps.{afterFill}
-use Rattle.directory.specs.WellFormed.{Held, Same, WellFormed}
+use Rattle.directory.specs.WellFormed.{Held, Same, Sized, Apart}
 use Rattle.directory.proofs.Laws.{fill-held}
 use Rattle.words.specs.Bytes.{bytesAt}
-use Rattle.memory.specs.Parity.{Agrees}
+use Rattle.memory.specs.Parity.{stored}
 use Rattle.doubleword.specs.Doubleword.{dataOffset}
-use Rattle.refusal.specs.Call.{State}
-use Rattle.refusal.proofs.Accepted.{GoodMemory}
+use Rattle.refusal.specs.Call.{State, state}
 use Rattle.words.proofs.Places.{sets-below, sets-above, sets-in}
 use Rattle.words.proofs.Spans.{bytes-same}
+use Rattle.agreement.proofs.Memories.{stored-ram}
+use Rattle.agreement.proofs.Kept.{Kept, KeptIn}
 
 -- the address of a line, by its set and tag
 abbrev pub addressOf : ℕ → ℕ → ℕ
@@ -41,15 +42,21 @@ pub record NwInvariant (d : Directory) : Type 0 where
   pub disabled : d .nw ≡ true → d .cd ≡ true
   pub empty : d .nw ≡ true → Empty d
 
--- the state of the unit beside the plain memory
-pub record Coherent (s : State) (m : List ℕ) : Type 0 where
-  pub formed : WellFormed (s .directory)
-  pub lent : GoodMemory (length (s .memory .ram)) (length (s .memory .parity))
-  pub arrayLength : length (s .array) ≡ 8192
-  pub agrees : Agrees (s .memory)
+-- what agreement needs on top of what every list keeps, beside the plain memory
+pub record Beside (s : State) (m : List ℕ) : Type 0 where
   pub rams : s .memory .ram ≡ m
+  pub apart : Apart (s .directory)
   pub lines : Lines (s .directory) m (s .array)
   pub nw : NwInvariant (s .directory)
+
+-- the state of the unit beside the plain memory
+pub record Coherent (s : State) (m : List ℕ) : Type 0 where
+  pub kept : Kept s
+  pub beside : Beside s m
+
+-- its first part, with the plain memory's length
+pub kept-in : (s : State) (m : List ℕ) → Coherent s m → KeptIn (length m) s
+kept-in s m c = record { kept = c .kept; ramLength = ap length (c .beside .rams) }
 
 -- fewer lines, and none
 pub fewer-lines : (d e : Directory) (m array : List ℕ) → ((s w tag : ℕ) → s < 128 → w < 4 → Held e s w tag → Held d s w tag) → Lines d m array → Lines e m array
@@ -59,11 +66,42 @@ fewer-lines d e m array f l =
       same = λ s w tag sl wl h. l .same s w tag sl wl (f s w tag sl wl h);
     }
 
-pub no-lines : (d : Directory) (m array : List ℕ) → Empty d → Lines d m array
+no-lines : (d : Directory) (m array : List ℕ) → Empty d → Lines d m array
 no-lines d m array n =
     record {
       inside = λ s w tag sl wl h. absurd (n s w tag sl wl h);
       same = λ s w tag sl wl h. absurd (n s w tag sl wl h);
+    }
+
+-- another directory with the same CD and NW, and no line that the first doesn't hold
+pub fewer-beside : (s : State) (m : List ℕ) → Beside s m → (d : Directory) → ((r w tag : ℕ) → r < 128 → w < 4 → Held d r w tag → Held (s .directory) r w tag) →
+    (d .cd ≡ s .directory .cd) × (d .nw ≡ s .directory .nw) → Apart d → Beside (state d (s .memory) (s .array)) m
+fewer-beside s m b d f k g =
+    record {
+      rams = b .rams;
+      apart = g;
+      lines = fewer-lines (s .directory) d m (s .array) f (b .lines);
+      nw =
+          record {
+            disabled = λ h. k .0 ∙ b .nw .disabled (sym (k .1) ∙ h);
+            empty = λ h r w tag rl wl q. b .nw .empty (sym (k .1) ∙ h) r w tag rl wl (f r w tag rl wl q);
+          };
+    }
+
+-- a directory that holds no line, whatever was held before
+pub empty-beside : (s : State) (m : List ℕ) → s .memory .ram ≡ m → Apart (s .directory) → Empty (s .directory) → (s .directory .nw ≡ true → s .directory .cd ≡ true) → Beside s m
+empty-beside s m e g n o =
+    record { rams = e; apart = g; lines = no-lines (s .directory) m (s .array) n; nw = record { disabled = o; empty = λ _. n } }
+
+-- bytes stored in RAM with their parity, and in the plain memory, where the lines have them
+pub beside-stored : (s : State) (m : List ℕ) → Beside s m → (a : ℕ) (x array : List ℕ) → Lines (s .directory) (sets m a x) array →
+    Beside (state (s .directory) (stored (s .memory) a x) array) (sets m a x)
+beside-stored s m b a x array l =
+    record {
+      rams = stored-ram (s .memory) a x ∙ ap (λ (z : List ℕ). sets z a x) (b .rams);
+      apart = b .apart;
+      lines = l;
+      nw = b .nw;
     }
 
 -- a line's address has one set and one tag
@@ -123,7 +161,7 @@ module _ (d : Directory) (m array : List ℕ) (l : Lines d m array) (line from :
       }
 
   -- bytes put into a held line, in memory and in the data array
-  pub stored-hit : WellFormed d → length array ≡ 8192 → line + 16 ≤ length m → (w : ℕ) → w < 4 → Held d (setOf line) w (tagOf line) →
+  pub stored-hit : Apart d → length array ≡ 8192 → line + 16 ≤ length m → (w : ℕ) → w < 4 → Held d (setOf line) w (tagOf line) →
       Lines d (sets m (line + from) x) (sets array (dataOffset line w + from) x)
   stored-hit g a8 fits w wl hw =
       record {
@@ -134,7 +172,7 @@ module _ (d : Directory) (m array : List ℕ) (l : Lines d m array) (line from :
             let se : s ≡ setOf line = line-set s tag line sl e in
             let te : tag ≡ tagOf line = line-tag s tag line sl e in
             let h2 : Held d (setOf line) v (tagOf line) = rw (se, te) at h in
-            let ve : v ≡ w = g .sets (setOf line) (omega arith) .apart v w (tagOf line) vl wl h2 hw in
+            let ve : v ≡ w = g .sets (setOf line) (omega arith) v w (tagOf line) vl wl h2 hw in
             let old : getD array (dataOffset line w + o) 0 ≡ getD m (line + o) 0 = rw (e, se, ve) at (l .same s v tag sl vl h o ol) in
             rw (e, se, ve) (same-line array m (dataOffset line w) line from x o (omega arith) (omega arith) old))
             (λ ne.
@@ -148,10 +186,10 @@ module _ (d : Directory) (m array : List ℕ) (l : Lines d m array) (line from :
       }
 
 -- a kept fill of a line that is not held
-pub filled-lines : (d : Directory) → WellFormed d → (m array : List ℕ) → Lines d m array → (line w : ℕ) → line % 16 ≡ 0 → line + 16 ≤ length m → length array ≡ 8192 → w < 4 →
+pub filled-lines : (d : Directory) → Sized d → (m array : List ℕ) → Lines d m array → (line w : ℕ) → line % 16 ≡ 0 → line + 16 ≤ length m → length array ≡ 8192 → w < 4 →
     (x : List ℕ) → length x ≡ 16 → ((o : ℕ) → o < 16 → getD x o 0 ≡ getD m (line + o) 0) →
     Lines (afterFill d (setOf line) w (tagOf line)) m (sets array (dataOffset line w) x)
-filled-lines d g m array l line w al fits a8 wl x xl hx =
+filled-lines d z m array l line w al fits a8 wl x xl hx =
     record {
       inside = λ s v tag sl vl h. ⊎-elim (λ n. rw (n .0 .0, n .1, line-back line al) fits) (λ n. l .inside s v tag sl vl (n .1)) (split s v tag vl h);
       same = λ s v tag sl vl h o ol.
@@ -163,7 +201,7 @@ filled-lines d g m array l line w al fits a8 wl x xl hx =
   where
     split : (s v tag : ℕ) → v < 4 → Held (afterFill d (setOf line) w (tagOf line)) s v tag →
         (Same s v (setOf line) w × (tag ≡ tagOf line)) ⊎ ((Same s v (setOf line) w → ⊥) × Held d s v tag)
-    split = fill-held d (setOf line) w (tagOf line) (g .sized) (omega arith) wl
+    split = fill-held d (setOf line) w (tagOf line) z (omega arith) wl
 
     other-line : (s v o : ℕ) → v < 4 → o < 16 → (lineIndex s v ≡ lineIndex (setOf line) w → ⊥) → getD (sets array (dataOffset line w) x) (lineIndex s v * 16 + o) 0 ≡ getD array (lineIndex s v * 16 + o) 0
     other-line s v o vl ol ne =

@@ -17,21 +17,27 @@ use Rattle.events.specs.Output.{rowsOf, start, outputOf}
 use Rattle.agreement.specs.Agreement.{Legal}
 use Rattle.agreement.specs.Program.{plainCall, plainLine, plainRows, countsOf, plainOutput, lineSetsNw, NoLineSetsNw, Columns}
 use Rattle.agreement.proofs.Coherence.{Coherent}
-use Rattle.agreement.proofs.Steps.{StepMatches, refused-matches, call-matches}
+use Rattle.agreement.proofs.Steps.{StepMatches, refused-matches, call-matches, call-coherent}
 use Rattle.agreement.proofs.Demand.{start-coherent}
 
 -- a malformed line, and one that makes a call
-line-matches : (s : State) (m : List ℕ) → Coherent s m → (x : Option Call) → lineSetsNw x ≡ false → StepMatches (callDone s x) (plainCall m x)
-unfolding callDone plainCall
-line-matches s m c none q = refused-matches s m c 11 []
-line-matches s m c (some x) q = call-matches s m c x q
+module _ (s : State) (m : List ℕ) (c : Coherent s m) where
+  line-matches : (x : Option Call) → lineSetsNw x ≡ false → StepMatches (callDone s x) (plainCall m x)
+  unfolding callDone plainCall
+  line-matches none q = refused-matches s m c 11 []
+  line-matches (some x) q = call-matches s m c x q
+
+  line-coherent : (x : Option Call) → lineSetsNw x ≡ false → Coherent (nextState (callDone s x)) (plainCall m x .memory)
+  unfolding callDone plainCall
+  line-coherent none q = c
+  line-coherent (some x) q = call-coherent s m c x q
 
 rows-agree : (lines : List (List ℕ)) (s : State) (m : List ℕ) (event : ℕ) → Coherent s m → NoLineSetsNw lines → rowsOf s event lines ≡ plainRows m event lines (countsOf s lines)
 unfolding rowsOf plainRows countsOf
 rows-agree [] s m event c n = refl
 rows-agree (line ∷ lines) s m event c n =
     let g = line-matches s m c (lineCall line) (n .0) in
-    rw (g .numbers, g .values, rows-agree lines (nextState (lineDone s line)) (plainLine m line .memory) (suc event) (g .coherent) (n .1))
+    rw (g .numbers, g .values, rows-agree lines (nextState (lineDone s line)) (plainLine m line .memory) (suc event) (line-coherent s m c (lineCall line) (n .0)) (n .1))
 
 -- zeros have parity that agrees
 no-bit : (lane : ℕ) → lane < 4 → laneBit 0 lane ≡ dpOf 0

@@ -7,26 +7,22 @@ use lib.Dec.{eqb}
 use borrow.Author.Tests.{eqb-true}
 use Rattle.laws.proofs.Tests.{by-test}
 use Rattle.directory.specs.Steps.{afterReset}
-use Rattle.directory.proofs.Laws.{reset-none, reset-control, reset-well-formed}
+use Rattle.directory.proofs.Laws.{reset-none, reset-control, reset-apart}
 use Rattle.memory.specs.Parity.{Memory}
 use Rattle.refusal.specs.Call.{State, state, nextState}
 use Rattle.calls.specs.Calls.{Call, read, write, external, snoop, flush, control, view, reset, step}
 use Rattle.agreement.specs.Plain.{plainNumber, plainDone, plainRefused, plain}
 use Rattle.agreement.specs.Agreement.{AgreesAll, NeverSetsNw, Legal, Demand3, Arises, ArisesAll, NumbersThatArise}
-use Rattle.agreement.proofs.Coherence.{Coherent, no-lines}
+use Rattle.agreement.proofs.Kept.{start-kept}
+use Rattle.agreement.proofs.Coherence.{Coherent, empty-beside}
 use Rattle.agreement.proofs.Numbers.{plain-arises}
-use Rattle.agreement.proofs.Steps.{call-matches}
+use Rattle.agreement.proofs.Steps.{call-matches, call-coherent}
 
 pub start-coherent : (m : Memory) (array : List ℕ) → Legal m array → Coherent (state afterReset m array) (m .ram)
 start-coherent m array g =
     record {
-      formed = reset-well-formed;
-      lent = record { least = g .least; most = g .most; whole = g .whole; bits = g .parityLength };
-      arrayLength = g .arrayLength;
-      agrees = g .agrees;
-      rams = refl;
-      lines = no-lines afterReset (m .ram) array reset-none;
-      nw = record { disabled = λ _. reset-control .0; empty = λ _. reset-none };
+      kept = start-kept m array g;
+      beside = empty-beside (state afterReset m array) (m .ram) refl reset-apart reset-none (λ _. reset-control .0);
     }
 
 agrees-from : (cs : List Call) (s : State) (m : List ℕ) → Coherent s m → NeverSetsNw cs → AgreesAll s m cs
@@ -34,8 +30,8 @@ unfolding AgreesAll
 agrees-from [] s m c n = tt
 agrees-from (x ∷ cs) s m c n =
     let g = call-matches s m c x (n .0) in
-    let h = g .coherent in (
-      record { numbers = g .numbers; values = g .values; views = g .views; rams = h .rams; no-parity-error = g .no-error },
+    let h = call-coherent s m c x (n .0) in (
+      record { numbers = g .numbers; values = g .values; views = g .views; rams = h .beside .rams; no-parity-error = g .no-error },
       agrees-from cs (nextState (step s x)) (plain m x .memory) h (n .1),
     )
 
@@ -71,7 +67,7 @@ unfolding ArisesAll
 arises-from [] s m c n = tt
 arises-from (x ∷ cs) s m c n =
     let g = call-matches s m c x (n .0) in
-    (rw (g .numbers) (answer-arises m x), arises-from cs (nextState (step s x)) (plain m x .memory) (g .coherent) (n .1))
+    (rw (g .numbers) (answer-arises m x), arises-from cs (nextState (step s x)) (plain m x .memory) (call-coherent s m c x (n .0)) (n .1))
 
 pub numbers-that-arise : NumbersThatArise
 numbers-that-arise m array cs g n = arises-from cs (state afterReset m array) (m .ram) (start-coherent m array g) n

@@ -7,11 +7,16 @@ use lib.ListN.{length, drop, length-take, length-drop}
 use lib.Seq.{sets}
 use Rattle.laws.proofs.Lists.{sets-append}
 use Rattle.words.specs.Bytes.{bytesAt}
-use Rattle.bus.specs.Groups.{groupSize}
-use Rattle.doubleword.specs.Doubleword.{Doubleword, doublewordsOf}
+use Rattle.memory.specs.Parity.{Memory, stored}
+use Rattle.bus.specs.Bus.{memoryAfter, afterCycles}
+use Rattle.bus.specs.Groups.{groupSize, groupCount}
+use Rattle.doubleword.specs.Doubleword.{Doubleword, doublewordsOf, plainCycles}
+use Rattle.writing.specs.Writing.{writeBuffer}
 use Rattle.words.proofs.Places.{bytes-length}
 use Rattle.words.proofs.Spans.{bytes-split}
 use Rattle.cycles.proofs.Brought.{OneDoubleword}
+use Rattle.cycles.proofs.Stored.{wanted-stored}
+use Rattle.refusal.proofs.Accepted.{GoodArguments}
 
 -- a doubleword of an accepted access, in a memory of so many bytes
 pub record Proper (size : ℕ) (w : Doubleword) : Type 0 where
@@ -43,7 +48,24 @@ abbrev pub allWritten : List ℕ → List ℕ → List Doubleword → List ℕ
 allWritten operand m [] = m
 allWritten operand m (w ∷ ws) = allWritten operand (memoryWritten operand m w) ws
 
-pub doublewords-proper : (g : ℕ) (xs : List ℕ) (a n place size : ℕ) → length xs ≡ groupSize * g → n ≤ 4 * g - a % 4 → a + n ≤ size → size % 16 ≡ 0 → EachProper size (doublewordsOf g xs a n place)
+-- what a doubleword is given lies in its line, and write cycles store just that
+module _ (operand : List ℕ) (size : ℕ) (w : Doubleword) (ok : Proper size w) where
+  abbrev x : List ℕ
+  x = givenOf operand w
+
+  given-length : length x ≡ w .wanted .count
+  given-length = bytes-length operand (w .place) (w .wanted .count)
+
+  pub given-in-line : w .wanted .from + length x ≤ 16
+  given-in-line = rw given-length (ok .within .line)
+
+  pub given-inside : w .line + w .wanted .from + length x ≤ size
+  given-inside = omega (arith, given-in-line, ok .inside)
+
+  pub given-stored : (m : Memory) → afterCycles (memoryAfter (writeBuffer operand w) (w .line)) (plainCycles w) m ≡ stored m (w .line + w .wanted .from) x
+  given-stored m = wanted-stored x (w .line) (w .wanted) (ok .within) given-length (w .answers) (ok .enough) m
+
+doublewords-proper : (g : ℕ) (xs : List ℕ) (a n place size : ℕ) → length xs ≡ groupSize * g → n ≤ 4 * g - a % 4 → a + n ≤ size → size % 16 ≡ 0 → EachProper size (doublewordsOf g xs a n place)
 unfolding doublewordsOf
 doublewords-proper zero xs a n place size l b i z = tt
 doublewords-proper (suc g) xs a zero place size l b i z = tt
@@ -56,6 +78,11 @@ doublewords-proper (suc g) xs a (suc n) place size l b i z = (
   },
   doublewords-proper g (drop 16 xs) (a + min (suc n) (4 - a % 4)) (suc n - min (suc n) (4 - a % 4)) (place + min (suc n) (4 - a % 4)) size (rw (length-drop 16 xs) (omega arith)) (omega arith) (omega arith) z,
 )
+
+-- those of an accepted access
+pub access-proper : (size a w : ℕ) (xs : List ℕ) (log : ℕ) → GoodArguments size a w (length xs) log → size % 16 ≡ 0 → EachProper size (doublewordsOf groupCount xs a w 0)
+access-proper size a w xs log k whole =
+    doublewords-proper groupCount xs a w 0 size (k .served) (omega (arith, k .four)) (k .inside) whole
 
 pub doublewords-wanted : (g : ℕ) (m xs : List ℕ) (a n place : ℕ) → n ≤ 4 * g - a % 4 → allWanted m (doublewordsOf g xs a n place) ≡ bytesAt m a n
 unfolding doublewordsOf bytesAt

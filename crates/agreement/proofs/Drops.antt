@@ -9,7 +9,7 @@ use Rattle.ways.specs.Address.{setOf}
 use Rattle.directory.specs.Steps.{lookupOf}
 use Rattle.directory.specs.WellFormed.{WellFormed}
 use Rattle.directory.proofs.Laws.{snoop-accepted, snoop-lookup, flush-lookup, reset-lookup}
-use Rattle.directory.proofs.SetState.{good-state-zero}
+use Rattle.directory.proofs.SetState.{well-formed-zero}
 use Rattle.refusal.specs.Call.{State, nextState}
 use Rattle.calls.specs.Calls.{Call, snoop, flush, reset, step}
 
@@ -21,8 +21,8 @@ module _ (s : State) (a : ℕ) where
   pub snoop-drops : WellFormed (s .directory) → s .directory .nw ≡ false → foundAfter s (snoop a) a ≡ Nothing
   unfolding step
   snoop-drops g n =
-      let good = g .sets (setOf a) (omega arith) in
-      rw (snoop-accepted (s .directory) a (good-state-zero (s .directory) (setOf a) good)) (snoop-lookup (s .directory) (g .sized) a good n)
+      rw (snoop-accepted (s .directory) a (well-formed-zero (s .directory) g (setOf a) (omega arith)))
+      (snoop-lookup (s .directory) (g .limits .sized) a (g .apart .sets (setOf a) (omega arith)) n)
 
   pub flush-drops : foundAfter s flush a ≡ Nothing
   unfolding step

@@ -1,11 +1,12 @@
 -- The proof of demand 3, from the bytes up. The theorems are `demand3` and `numbers-that-arise` in `Demand`, `columns` in `Columns`; the laws of
--- `Drops` stand beside them.
+-- `Drops` stand beside them. `Kept` has what any list keeps, whatever it sets.
 mod Bytes
 mod Memories
 mod Cycles
 mod Counts
-mod Coherence
 mod Doublewords
+pub mod Kept
+mod Coherence
 mod Reading
 mod Writing
 mod Snooping

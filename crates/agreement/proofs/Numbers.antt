@@ -11,7 +11,7 @@ use borrow.Author.Tests.{eq-eqb, le-ltb}
 use Rattle.laws.proofs.Tests.{same-or}
 use Rattle.ways.specs.Address.{setOf}
 use Rattle.directory.specs.Steps.{stateNumberOf, controlRefused}
-use Rattle.directory.proofs.SetState.{good-state-zero}
+use Rattle.directory.proofs.SetState.{well-formed-zero}
 use Rattle.refusal.specs.Call.{State}
 use Rattle.access.specs.Access.{readNumber, writeNumber}
 use Rattle.masters.specs.Masters.{externalWriteNumber}
@@ -46,7 +46,7 @@ module _ (ram parity : ℕ) (g : GoodMemory ram parity) where
 module _ (s : State) (m : List ℕ) (c : Coherent s m) where
   -- 21 to 23 are not met in any set
   pub state-zero : (a : ℕ) → stateNumberOf (s .directory) (setOf a) ≡ 0
-  state-zero a = good-state-zero (s .directory) (setOf a) (c .formed .sets (setOf a) (omega arith))
+  state-zero a = well-formed-zero (s .directory) (record { limits = c .kept .limits; apart = c .beside .apart }) (setOf a) (omega arith)
 
   states-clear : (a n : ℕ) → statesNumberOf (s .directory) a n ≡ 0
   unfolding statesNumberIn
@@ -55,31 +55,31 @@ module _ (s : State) (m : List ℕ) (c : Coherent s m) where
   pub read-number : (a w : ℕ) (xs log : List ℕ) → readNumber s a w xs log ≡ argumentNumber (length m) a w xs (length log)
   unfolding readNumber
   read-number a w xs log =
-      zero-or (lentNumber (length (s .memory .ram)) (length (s .memory .parity)) (length (s .array))) _ (lent-clear _ _ (c .lent) _ (c .arrayLength))
+      zero-or (lentNumber (length (s .memory .ram)) (length (s .memory .parity)) (length (s .array))) _ (lent-clear _ _ (c .kept .lent) _ (c .kept .arrayLength))
       ∙ or-nothing (argumentNumber (length (s .memory .ram)) a w xs (length log)) _ (states-clear a w)
-      ∙ ap (λ (l : List ℕ). argumentNumber (length l) a w xs (length log)) (c .rams)
+      ∙ ap (λ (l : List ℕ). argumentNumber (length l) a w xs (length log)) (c .beside .rams)
 
   pub write-number : (a w v : ℕ) (xs log : List ℕ) → writeNumber s a w v xs log ≡ orElse (argumentNumber (length m) a w xs (length log)) (valueNumber w v)
   unfolding writeNumber
   write-number a w v xs log =
-      zero-or (lentNumber (length (s .memory .ram)) (length (s .memory .parity)) (length (s .array))) _ (lent-clear _ _ (c .lent) _ (c .arrayLength))
+      zero-or (lentNumber (length (s .memory .ram)) (length (s .memory .parity)) (length (s .array))) _ (lent-clear _ _ (c .kept .lent) _ (c .kept .arrayLength))
       ∙ ap (orElse (argumentNumber (length (s .memory .ram)) a w xs (length log))) (or-nothing (valueNumber w v) _ (states-clear a w))
-      ∙ ap (λ (l : List ℕ). orElse (argumentNumber (length l) a w xs (length log)) (valueNumber w v)) (c .rams)
+      ∙ ap (λ (l : List ℕ). orElse (argumentNumber (length l) a w xs (length log)) (valueNumber w v)) (c .beside .rams)
 
   pub external-write-number : (a : ℕ) (x : List ℕ) → externalWriteNumber (s .directory) (s .memory) a x ≡ externalNumber (length m) a (length x)
   unfolding externalWriteNumber
   external-write-number a x =
-      zero-or (memoryNumber (length (s .memory .ram)) (length (s .memory .parity))) _ (memory-clear _ _ (c .lent))
+      zero-or (memoryNumber (length (s .memory .ram)) (length (s .memory .parity))) _ (memory-clear _ _ (c .kept .lent))
       ∙ or-nothing (externalNumber (length (s .memory .ram)) a (length x)) _ (states-clear a (length x))
-      ∙ ap (λ (l : List ℕ). externalNumber (length l) a (length x)) (c .rams)
+      ∙ ap (λ (l : List ℕ). externalNumber (length l) a (length x)) (c .beside .rams)
 
   pub view-number : (a : ℕ) → viewNumberOf s a ≡ viewAddressNumber (length m) a
   unfolding viewNumberIn viewInputNumber
   view-number a =
       or-nothing (viewInputNumber (length (s .memory .ram)) (length (s .array)) a) _ (state-zero a)
-      ∙ zero-or (ramNumber (length (s .memory .ram))) _ (ram-zero _ _ (c .lent))
-      ∙ zero-or (arrayNumber (length (s .array))) _ (rw (eq-eqb (length (s .array)) 8192 (c .arrayLength)))
-      ∙ ap (λ (l : List ℕ). viewAddressNumber (length l) a) (c .rams)
+      ∙ zero-or (ramNumber (length (s .memory .ram))) _ (ram-zero _ _ (c .kept .lent))
+      ∙ zero-or (arrayNumber (length (s .array))) _ (rw (eq-eqb (length (s .array)) 8192 (c .kept .arrayLength)))
+      ∙ ap (λ (l : List ℕ). viewAddressNumber (length l) a) (c .beside .rams)
 
 -- THE PLAIN MEMORY'S NUMBERS ARE THE UNIT'S
 

@@ -5,7 +5,7 @@ use mathlib.Core.Bool.{Bool, true, false, cond, not, _&&_}
 use mathlib.Core.List.{List, [], _∷_}
 use native.Mathlib.Omega.{arith}
 use lib.ListN.{length, getD}
-use lib.Seq.{sets, length-sets}
+use lib.Seq.{sets}
 use borrow.Author.Tests.{not-true}
 use Rattle.laws.proofs.Tests.{both, differ, by-test}
 use Rattle.directory.specs.declared.steps.Directory.{Directory}
@@ -13,9 +13,8 @@ use Rattle.ways.specs.declared.ways.Found.{Found}
 use Rattle.ways.specs.declared.ways.Found.the-variants.{At, Nothing}
 use Rattle.ways.specs.Address.{setOf, tagOf}
 use Rattle.directory.specs.Steps.{lookupOf, victimOf, afterUse, afterFill}
-use Rattle.directory.specs.WellFormed.{WellFormed}
 use Rattle.ways.proofs.FourWays.{victim-below}
-use Rattle.directory.proofs.Laws.{lookup-at, use-held, use-control, use-well-formed, fill-control, fill-address-well-formed}
+use Rattle.directory.proofs.Laws.{lookup-at, use-held, use-control, use-apart, fill-control, fill-address-apart}
 use Rattle.words.specs.Bytes.{bytesAt}
 use Rattle.bus.specs.Bus.{ken, burst, lastAnswer}
 use Rattle.bus.specs.Record.{plainKind, fillKind}
@@ -28,29 +27,19 @@ use Rattle.words.proofs.Places.{bytes-at, bytes-length}
 use Rattle.words.proofs.Spans.{bytes-same}
 use Rattle.cycles.proofs.Brought.{burst-each, fill-buffer, wanted-bytes}
 use Rattle.agreement.proofs.Cycles.{NoParityErrors, no-error-append, no-error-reads, cycles-within}
-use Rattle.agreement.proofs.Coherence.{Lines, NwInvariant, Coherent, fewer-lines, held-bytes, filled-lines}
 use Rattle.agreement.proofs.Doublewords.{Proper, EachProper, wantedBytes, allWanted}
-
--- another directory and data array beside the same memory
-pub coherent-with : (s : State) (m : List ℕ) → Coherent s m → (d : Directory) → WellFormed d → NwInvariant d → (array : List ℕ) → length array ≡ 8192 → Lines d m array → Coherent (state d (s .memory) array) m
-coherent-with s m c d g o array a l =
-    record { formed = g; lent = c .lent; arrayLength = a; agrees = c .agrees; rams = c .rams; lines = l; nw = o }
+use Rattle.agreement.proofs.Kept.{Kept, read-one-kept}
+use Rattle.agreement.proofs.Coherence.{Beside, Coherent, kept-in, fewer-beside, held-bytes, filled-lines}
 
 -- a use of a way
-pub use-nw : (d : Directory) (r w : ℕ) → NwInvariant d → NwInvariant (afterUse d r w)
-use-nw d r w o =
-    let k = use-control d r w in
-    record {
-      disabled = λ h. k .0 ∙ o .disabled (sym (k .1) ∙ h);
-      empty = λ h s v tag sl vl q. o .empty (sym (k .1) ∙ h) s v tag sl vl (use-held d r w s v tag q);
-    }
-
-pub use-lines : (d : Directory) (r w : ℕ) (m array : List ℕ) → Lines d m array → Lines (afterUse d r w) m array
-use-lines d r w m array = fewer-lines d (afterUse d r w) m array (λ s v tag sl vl h. use-held d r w s v tag h)
+pub use-beside : (s : State) (m : List ℕ) → Beside s m → (r w : ℕ) → Beside (state (afterUse (s .directory) r w) (s .memory) (s .array)) m
+use-beside s m b r w =
+    let d = s .directory in
+    fewer-beside s m b (afterUse d r w) (λ q v tag ql vl. use-held d r w q v tag) (use-control d r w) (use-apart d (b .apart) r w)
 
 -- what a doubleword of a read leaves
 record ReadMatches (s : State) (m : List ℕ) (w : Doubleword) (done : Done) : Type 0 where
-  pub coherent : Coherent (next s w done) m
+  pub beside : Beside (next s w done) m
   pub gives : done .bytes ≡ wantedBytes m w
   pub no-error : NoParityErrors (done .records)
 
@@ -58,16 +47,22 @@ module _ (s : State) (m : List ℕ) (c : Coherent s m) (w : Doubleword) (ok : Pr
   abbrev d : Directory
   d = s .directory
 
+  abbrev k : Kept s
+  k = c .kept
+
+  abbrev b : Beside s m
+  b = c .beside
+
   fits : w .line + 16 ≤ length (s .memory .ram)
-  fits = rw (c .rams) (ok .inside)
+  fits = rw (b .rams) (ok .inside)
 
   read-hit : (way : ℕ) → lookupOf d (w .line) ≡ At way → ReadMatches s m w (readHit way (s .memory) (s .array) w)
   unfolding readHit changed
   read-hit way e =
-      let k = lookup-at d (w .line) way e in
+      let h = lookup-at d (w .line) way e in
       record {
-        coherent = coherent-with s m c (afterUse d (setOf (w .line)) way) (use-well-formed d (c .formed) (setOf (w .line)) way (omega arith) (k .0)) (use-nw d (setOf (w .line)) way (c .nw)) (s .array) (c .arrayLength) (use-lines d (setOf (w .line)) way m (s .array) (c .lines));
-        gives = held-bytes d m (s .array) (c .lines) (w .line) way (ok .aligned) (k .0) (k .1) (w .wanted .from) (w .wanted .count) (ok .within .line);
+        beside = use-beside s m b (setOf (w .line)) way;
+        gives = held-bytes d m (s .array) (b .lines) (w .line) way (ok .aligned) (h .0) (h .1) (w .wanted .from) (w .wanted .count) (ok .within .line);
         no-error = tt;
       }
 
@@ -78,9 +73,9 @@ module _ (s : State) (m : List ℕ) (c : Coherent s m) (w : Doubleword) (ok : Pr
   unfolding settled plainMiss changed
   read-plain =
       record {
-        coherent = coherent-with s m c d (c .formed) (c .nw) (s .array) (c .arrayLength) (c .lines);
-        gives = wanted-bytes (s .memory .ram) (w .line) (w .wanted) (ok .within) (w .answers) (ok .enough) ∙ ap (λ (l : List ℕ). wantedBytes l w) (c .rams);
-        no-error = no-error-reads plainKind (omega arith) (s .memory) (c .agrees) (w .line) fits (plainCycles w) (cycles-within (w .answers) (w .wanted ∷ []) (ok .within, tt));
+        beside = b;
+        gives = wanted-bytes (s .memory .ram) (w .line) (w .wanted) (ok .within) (w .answers) (ok .enough) ∙ ap (λ (l : List ℕ). wantedBytes l w) (b .rams);
+        no-error = no-error-reads plainKind (omega arith) (s .memory) (k .agrees) (w .line) fits (plainCycles w) (cycles-within (w .answers) (w .wanted ∷ []) (ok .within, tt));
       }
 
   -- the line buffer after a fill has the memory's line
@@ -90,43 +85,44 @@ module _ (s : State) (m : List ℕ) (c : Coherent s m) (w : Doubleword) (ok : Pr
   buffer-is : (o : ℕ) → o < 16 → getD buffer o 0 ≡ getD m (w .line + o) 0
   buffer-is o l =
       fill-buffer (s .memory .ram) (w .line) (w .wanted .from / 4) (w .answers) (ok .enough) o l
-      ∙ ap (λ (z : List ℕ). getD z (w .line + o) 0) (c .rams)
+      ∙ ap (λ (z : List ℕ). getD z (w .line + o) 0) (b .rams)
 
   -- a kept fill: only with CD = 0, so NW = 0
-  kept-coherent : lookupOf d (w .line) ≡ Nothing → d .cd ≡ false →
-      Coherent (state (afterFill d (setOf (w .line)) victim (tagOf (w .line))) (s .memory) (sets (s .array) (dataOffset (w .line) victim) (bytesAt buffer 0 16))) m
-  kept-coherent e enabled =
+  fill-beside : lookupOf d (w .line) ≡ Nothing → d .cd ≡ false →
+      Beside (state (afterFill d (setOf (w .line)) victim (tagOf (w .line))) (s .memory) (sets (s .array) (dataOffset (w .line) victim) (bytesAt buffer 0 16))) m
+  fill-beside e enabled =
+      let z = k .limits .sized in
       let vl = victim-below (d .valid) (d .lru) (setOf (w .line)) in
-      let k = fill-control d (setOf (w .line)) victim (tagOf (w .line)) in
-      let never : afterFill d (setOf (w .line)) victim (tagOf (w .line)) .nw ≡ true → ⊥ = λ h. differ (c .nw .disabled (sym (k .1) ∙ h)) enabled in
-      coherent-with s m c (afterFill d (setOf (w .line)) victim (tagOf (w .line)))
-      (fill-address-well-formed d (c .formed) (w .line) victim (omega (arith, fits, c .lent .most)) vl e)
-      (record { disabled = λ h. absurd (never h); empty = λ h. absurd (never h) })
-      (sets (s .array) (dataOffset (w .line) victim) (bytesAt buffer 0 16))
-      (length-sets (s .array) (dataOffset (w .line) victim) (bytesAt buffer 0 16) ∙ c .arrayLength)
-      (filled-lines d (c .formed) m (s .array) (c .lines) (w .line) victim (ok .aligned) (ok .inside) (c .arrayLength) vl (bytesAt buffer 0 16) (bytes-length buffer 0 16)
-      (λ o l. bytes-at buffer 0 16 o l ∙ buffer-is (0 + o) (omega arith) ∙ ap (λ (i : ℕ). getD m (w .line + i) 0) (omega arith)))
+      let control = fill-control d (setOf (w .line)) victim (tagOf (w .line)) in
+      let never : afterFill d (setOf (w .line)) victim (tagOf (w .line)) .nw ≡ true → ⊥ = λ h. differ (b .nw .disabled (sym (control .1) ∙ h)) enabled in
+      record {
+        rams = b .rams;
+        apart = fill-address-apart d (w .line) victim vl z (b .apart) e;
+        lines = filled-lines d z m (s .array) (b .lines) (w .line) victim (ok .aligned) (ok .inside) (k .arrayLength) vl (bytesAt buffer 0 16) (bytes-length buffer 0 16)
+            (λ o l. bytes-at buffer 0 16 o l ∙ buffer-is (0 + o) (omega arith) ∙ ap (λ (i : ℕ). getD m (w .line + i) 0) (omega arith));
+        nw = record { disabled = λ h. absurd (never h); empty = λ h. absurd (never h) };
+      }
 
   read-fill : lookupOf d (w .line) ≡ Nothing → d .cd ≡ false → ReadMatches s m w (settled victim (s .memory) (s .array) w (fillMiss (s .memory) w))
   unfolding settled fillMiss changed
   read-fill e enabled =
       record {
-        coherent =
-            by-test (λ b. Coherent (state (changed d (w .line) (cond b (Fill victim) Unchanged)) (s .memory) (cond b (sets (s .array) (dataOffset (w .line) victim) (bytesAt buffer 0 16)) (s .array))) m)
+        beside =
+            by-test (λ kept. Beside (state (changed d (w .line) (cond kept (Fill victim) Unchanged)) (s .memory) (cond kept (sets (s .array) (dataOffset (w .line) victim) (bytesAt buffer 0 16)) (s .array))) m)
             (ken (lastAnswer 0 (fillCycles w)))
-            (λ _. kept-coherent e enabled)
-            (λ _. coherent-with s m c d (c .formed) (c .nw) (s .array) (c .arrayLength) (c .lines));
+            (λ _. fill-beside e enabled)
+            (λ _. b);
         gives = bytes-same buffer m (w .wanted .from) (w .line + w .wanted .from) (w .wanted .count) (λ o l.
             let f : w .line + w .wanted .from + o ≡ w .line + (w .wanted .from + o) = omega arith in
             rw f (buffer-is (w .wanted .from + o) (omega (arith, ok .within .line))));
-        no-error = no-error-reads fillKind (omega arith) (s .memory) (c .agrees) (w .line) fits (fillCycles w) (cycles-within (w .answers) (burst (w .wanted .from / 4)) (burst-each _));
+        no-error = no-error-reads fillKind (omega arith) (s .memory) (k .agrees) (w .line) fits (fillCycles w) (cycles-within (w .answers) (burst (w .wanted .from / 4)) (burst-each _));
       }
 
   read-found : (mayFill : Bool) → (mayFill ≡ true → d .cd ≡ false) → (f : Found) → lookupOf d (w .line) ≡ f → ReadMatches s m w (readDone f victim mayFill (s .memory) (s .array) w)
   unfolding readDone readMiss
   read-found mayFill enabled (At way) e = read-hit way e
   read-found mayFill enabled Nothing e =
-      by-test (λ b. (mayFill && ken (getD (w .answers) 0 0)) ≡ b → ReadMatches s m w (settled victim (s .memory) (s .array) w (cond b (fillMiss (s .memory) w) (plainMiss (s .memory) w))))
+      by-test (λ fills. (mayFill && ken (getD (w .answers) 0 0)) ≡ fills → ReadMatches s m w (settled victim (s .memory) (s .array) w (cond fills (fillMiss (s .memory) w) (plainMiss (s .memory) w))))
       (mayFill && ken (getD (w .answers) 0 0))
       (λ _ h. read-fill e (enabled (both mayFill _ h .0)))
       (λ _ _. read-plain)
@@ -139,18 +135,19 @@ module _ (s : State) (m : List ℕ) (c : Coherent s m) (w : Doubleword) (ok : Pr
 
 -- what a whole read leaves
 pub record ReadsMatch (m bytes : List ℕ) (p : Progress) : Type 0 where
-  pub coherent : Coherent (p .state) m
+  pub beside : Beside (p .state) m
   pub gives : p .bytes ≡ bytes
   pub no-error : NoParityErrors (p .records)
 
 pub read-all : (ws : List Doubleword) (s : State) (m : List ℕ) → Coherent s m → (pcd : Bool) → EachProper (length m) ws → ReadsMatch m (allWanted m ws) (allOf (readOne pcd) s ws)
 unfolding allOf
-read-all [] s m c pcd g = record { coherent = c; gives = refl; no-error = tt }
+read-all [] s m c pcd g = record { beside = c .beside; gives = refl; no-error = tt }
 read-all (w ∷ ws) s m c pcd g =
     let h = read-one s m c w (g .0) pcd in
-    let r = read-all ws (next s w (readOne pcd s w)) m (h .coherent) pcd (g .1) in
+    let k = read-one-kept (length m) s (kept-in s m c) w (g .0) pcd .kept in
+    let r = read-all ws (next s w (readOne pcd s w)) m (record { kept = k; beside = h .beside }) pcd (g .1) in
     record {
-      coherent = r .coherent;
+      beside = r .beside;
       gives = rw (h .gives, r .gives);
       no-error = no-error-append (readOne pcd s w .records) _ (h .no-error) (r .no-error);
     }

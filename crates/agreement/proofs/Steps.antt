@@ -12,14 +12,14 @@ use Rattle.ways.specs.declared.ways.Found.{Found}
 use Rattle.ways.specs.declared.ways.Found.the-variants.{At, Nothing}
 use Rattle.ways.specs.Address.{setOf, tagOf}
 use Rattle.directory.specs.Steps.{lookupOf, afterReset, afterFlush, afterControl, afterSnoop, controlRefused}
-use Rattle.directory.specs.WellFormed.{WellFormed}
-use Rattle.directory.proofs.Laws.{lookup-at, reset-none, reset-control, reset-well-formed, flush-none, flush-control, flush-well-formed, control-held, control-set, control-well-formed, control-accepted, control-refused, snoop-well-formed, snoop-accepted}
+use Rattle.directory.specs.WellFormed.{Apart}
+use Rattle.directory.proofs.Laws.{lookup-at, reset-none, reset-control, reset-apart, flush-none, flush-control, flush-apart, control-held, control-set, control-apart, control-accepted, control-refused, snoop-accepted}
 use Rattle.words.specs.Bytes.{bytesAt, valueOf}
 use Rattle.bus.specs.Groups.{groupCount}
 use Rattle.doubleword.specs.Doubleword.{dataOffset, doublewordsOf}
 use Rattle.directory.specs.Outcome.{outcome}
-use Rattle.refusal.specs.Call.{State, After, onDirectory, refused, nextState}
-use Rattle.access.specs.Access.{accepted, operandOf, readNumber, writeNumber, readOne, writeOne, readAll, writeAll}
+use Rattle.refusal.specs.Call.{State, state, After, onDirectory, refused, nextState}
+use Rattle.access.specs.Access.{operandOf, readNumber, writeNumber, readOne, writeOne, readAll, writeAll}
 use Rattle.masters.specs.Masters.{externalWriteNumber}
 use Rattle.refusal.specs.Refusal.{argumentNumber, valueNumber}
 use Rattle.refusal.proofs.Accepted.{or-zero, arguments-accepted, external-accepted}
@@ -34,16 +34,17 @@ use Rattle.words.proofs.Spans.{bytes-same}
 use Rattle.agreement.proofs.Bytes.{operand-bytes}
 use Rattle.agreement.proofs.Cycles.{logged-no-error}
 use Rattle.agreement.proofs.Counts.{read-most, write-most, all-most, records-there, none-counted}
-use Rattle.agreement.proofs.Coherence.{Lines, Empty, NwInvariant, Coherent, fewer-lines, no-lines, line-around}
-use Rattle.agreement.proofs.Doublewords.{doublewords-proper, doublewords-wanted, doublewords-written}
-use Rattle.agreement.proofs.Reading.{coherent-with, read-all}
+use Rattle.agreement.proofs.Coherence.{Empty, Beside, Coherent, fewer-lines, empty-beside, line-around}
+use Rattle.agreement.proofs.Doublewords.{access-proper, doublewords-wanted, doublewords-written}
+use Rattle.agreement.proofs.Kept.{call-kept}
+use Rattle.agreement.proofs.Reading.{read-all}
 use Rattle.agreement.proofs.Writing.{write-all}
-use Rattle.agreement.proofs.Snooping.{snooped-nw, snooped-lines, external-coherent}
+use Rattle.agreement.proofs.Snooping.{snoop-beside, external-beside}
 use Rattle.agreement.proofs.Numbers.{state-zero, read-number, write-number, external-write-number, view-number, plain-read, plain-write, plain-external, plain-view}
 
 -- what a step leaves beside what the plain memory answers
 pub record StepMatches (x : After) (p : Plain) : Type 0 where
-  pub coherent : Coherent (nextState x) (p .memory)
+  pub beside : Beside (nextState x) (p .memory)
   pub numbers : x .outcome .number ≡ p .number
   pub values : x .outcome .value ≡ p .value
   pub views : x .shown ≡ p .shown
@@ -53,7 +54,7 @@ pub record StepMatches (x : After) (p : Plain) : Type 0 where
 pub refused-matches : (s : State) (m : List ℕ) → Coherent s m → (n : ℕ) (log : List ℕ) → StepMatches (refused n s log) (plainRefused n m)
 refused-matches s m c n log =
     record {
-      coherent = coherent-with s m c (s .directory) (c .formed) (c .nw) (s .array) (c .arrayLength) (c .lines);
+      beside = c .beside;
       numbers = refl;
       values = refl;
       views = refl;
@@ -74,7 +75,7 @@ module _ (s : State) (m : List ℕ) (c : Coherent s m) (x : Call) where
 
 module _ (s : State) (m : List ℕ) (c : Coherent s m) where
   whole : length m % 16 ≡ 0
-  whole = rw (c .rams) at (c .lent .whole)
+  whole = rw (c .beside .rams) at (c .kept .lent .whole)
 
   -- READ AND WRITE
 
@@ -85,10 +86,10 @@ module _ (s : State) (m : List ℕ) (c : Coherent s m) where
       (λ z.
       let k = arguments-accepted (length m) a w xs (length log) (sym (read-number s m c a w xs log) ∙ z) in
       let b : w ≤ 4 * groupCount - a % 4 = omega (arith, k .four) in
-      let r = read-all (doublewordsOf groupCount xs a w 0) s m c pcd (doublewords-proper groupCount xs a w 0 (length m) (k .served) b (k .inside) whole) in
+      let r = read-all (doublewordsOf groupCount xs a w 0) s m c pcd (access-proper (length m) a w xs (length log) k whole) in
       rw (read-done s a w pcd xs log z)
       (record {
-        coherent = r .coherent;
+        beside = r .beside;
         numbers = refl;
         values = ap valueOf (r .gives ∙ doublewords-wanted groupCount m xs a w 0 b);
         views = refl;
@@ -109,10 +110,10 @@ module _ (s : State) (m : List ℕ) (c : Coherent s m) where
       let q = or-zero (argumentNumber (length m) a w xs (length log)) (valueNumber w v) (sym (write-number s m c a w v xs log) ∙ z) in
       let k = arguments-accepted (length m) a w xs (length log) (q .0) in
       let b : w ≤ 4 * groupCount - a % 4 = omega (arith, k .four) in
-      let r = write-all (operandOf v) (doublewordsOf groupCount xs a w 0) s m c (doublewords-proper groupCount xs a w 0 (length m) (k .served) b (k .inside) whole) in
+      let r = write-all (operandOf v) (doublewordsOf groupCount xs a w 0) s m c (access-proper (length m) a w xs (length log) k whole) in
       rw (write-done s a w v xs log z)
       (record {
-        coherent = rw (doublewords-written groupCount (operandOf v) m xs a w 0 b, operand-bytes v w (k .four)) at (r .coherent);
+        beside = rw (doublewords-written groupCount (operandOf v) m xs a w 0 b, operand-bytes v w (k .four)) at (r .beside);
         numbers = refl;
         values = refl;
         views = refl;
@@ -135,7 +136,7 @@ module _ (s : State) (m : List ℕ) (c : Coherent s m) where
       (λ z.
       rw (external-done s a x z)
       (record {
-        coherent = external-coherent s m c a x (external-accepted (length m) a (length x) (sym (external-write-number s m c a x) ∙ z));
+        beside = external-beside s m c a x (external-accepted (length m) a (length x) (sym (external-write-number s m c a x) ∙ z));
         numbers = refl;
         values = refl;
         views = refl;
@@ -147,10 +148,10 @@ module _ (s : State) (m : List ℕ) (c : Coherent s m) where
   -- THE DIRECTORY ALONE
 
   -- a call that changes nothing but the directory
-  changed-matches : (d : Directory) → WellFormed d → NwInvariant d → Lines d m (s .array) → StepMatches (onDirectory s (outcome d 0 0 0)) (plainAccepted 0 [] m)
-  changed-matches d g o l =
+  changed-matches : (d : Directory) → Beside (state d (s .memory) (s .array)) m → StepMatches (onDirectory s (outcome d 0 0 0)) (plainAccepted 0 [] m)
+  changed-matches d b =
       record {
-        coherent = coherent-with s m c d g o (s .array) (c .arrayLength) l;
+        beside = b;
         numbers = refl;
         values = refl;
         views = refl;
@@ -158,24 +159,24 @@ module _ (s : State) (m : List ℕ) (c : Coherent s m) where
       }
 
   -- a directory that holds no line
-  emptied-matches : (d : Directory) → WellFormed d → (d .nw ≡ true → d .cd ≡ true) → Empty d → StepMatches (onDirectory s (outcome d 0 0 0)) (plainAccepted 0 [] m)
-  emptied-matches d g e n = changed-matches d g (record { disabled = e; empty = λ _. n }) (no-lines d m (s .array) n)
+  emptied-matches : (d : Directory) → Apart d → (d .nw ≡ true → d .cd ≡ true) → Empty d → StepMatches (onDirectory s (outcome d 0 0 0)) (plainAccepted 0 [] m)
+  emptied-matches d g e n = changed-matches d (empty-beside (state d (s .memory) (s .array)) m (c .beside .rams) g n e)
 
   snoop-matches : (a : ℕ) → StepMatches (step s (snoop a)) (plain m (snoop a))
   unfolding step plain plainNumber plainDone
   snoop-matches a =
       rw (snoop-accepted (s .directory) a (state-zero s m c a))
-      (changed-matches (afterSnoop (s .directory) a) (snoop-well-formed (s .directory) (c .formed) a) (snooped-nw s m c a) (snooped-lines s m c a))
+      (changed-matches (afterSnoop (s .directory) a) (snoop-beside s m c a))
 
   flush-matches : StepMatches (step s flush) (plain m flush)
   unfolding step plain plainNumber plainDone
   flush-matches =
       let k = flush-control (s .directory) in
-      emptied-matches (afterFlush (s .directory)) (flush-well-formed (s .directory) (c .formed)) (λ h. k .0 ∙ c .nw .disabled (sym (k .1) ∙ h)) (flush-none (s .directory))
+      emptied-matches (afterFlush (s .directory)) (flush-apart (s .directory)) (λ h. k .0 ∙ c .beside .nw .disabled (sym (k .1) ∙ h)) (flush-none (s .directory))
 
   reset-matches : StepMatches (step s reset) (plain m reset)
   unfolding step plain plainNumber plainDone
-  reset-matches = emptied-matches afterReset reset-well-formed (λ _. reset-control .0) reset-none
+  reset-matches = emptied-matches afterReset reset-apart (λ _. reset-control .0) reset-none
 
   -- an accepted control call that does not set NW leaves NW = 0
   control-matches : (cd nw : Bool) → setsNw (control cd nw) ≡ false → StepMatches (step s (control cd nw)) (plain m (control cd nw))
@@ -188,9 +189,13 @@ module _ (s : State) (m : List ℕ) (c : Coherent s m) where
       let k = control-set (s .directory) cd nw in
       let never : afterControl (s .directory) cd nw .nw ≡ true → ⊥ = λ h. differ h (k .1 ∙ rw e at q) in
       rw (control-accepted (s .directory) cd nw e, e)
-      (changed-matches (afterControl (s .directory) cd nw) (control-well-formed (s .directory) cd nw (c .formed))
-      (record { disabled = λ h. absurd (never h); empty = λ h. absurd (never h) })
-      (fewer-lines (s .directory) (afterControl (s .directory) cd nw) m (s .array) (λ r v tag rl vl h. control-held (s .directory) cd nw r v tag h) (c .lines))))
+      (changed-matches (afterControl (s .directory) cd nw)
+      (record {
+        rams = c .beside .rams;
+        apart = control-apart (s .directory) cd nw (c .beside .apart);
+        lines = fewer-lines (s .directory) (afterControl (s .directory) cd nw) m (s .array) (λ r v tag rl vl h. control-held (s .directory) cd nw r v tag h) (c .beside .lines);
+        nw = record { disabled = λ h. absurd (never h); empty = λ h. absurd (never h) };
+      })))
       refl
 
   -- VIEWS
@@ -200,8 +205,8 @@ module _ (s : State) (m : List ℕ) (c : Coherent s m) where
   shown-is a (At w) e =
       let k = lookup-at (s .directory) a w e in
       bytes-same (s .array) m (dataOffset a w) (a / 16 * 16) 16 λ o b.
-      rw (line-around a) at (c .lines .same (setOf a) w (tagOf a) (omega arith) (k .0) (k .1) o b)
-  shown-is a Nothing e = ap (λ (l : List ℕ). bytesAt l (a / 16 * 16) 16) (c .rams)
+      rw (line-around a) at (c .beside .lines .same (setOf a) w (tagOf a) (omega arith) (k .0) (k .1) o b)
+  shown-is a Nothing e = ap (λ (l : List ℕ). bytesAt l (a / 16 * 16) 16) (c .beside .rams)
 
   view-matches : (a : ℕ) → StepMatches (step s (view a)) (plain m (view a))
   unfolding step plainDone
@@ -210,7 +215,7 @@ module _ (s : State) (m : List ℕ) (c : Coherent s m) where
       by-number s m c (view a) n (view-number s m c a ∙ sym (plain-view m a))
       (λ z.
       record {
-        coherent = coherent-with s m c (s .directory) (c .formed) (c .nw) (s .array) (c .arrayLength) (c .lines);
+        beside = c .beside;
         numbers = z;
         values = refl;
         views = view-done (s .directory .tags) (s .directory .valid) (s .directory .lru) (s .memory .ram) (s .array) a n refl z ∙ shown-is a (lookupOf (s .directory) a) refl;
@@ -228,3 +233,6 @@ module _ (s : State) (m : List ℕ) (c : Coherent s m) where
   call-matches (control cd nw) q = control-matches cd nw q
   call-matches (view a) q = view-matches a
   call-matches reset q = reset-matches
+
+  pub call-coherent : (x : Call) → setsNw x ≡ false → Coherent (nextState (step s x)) (plain m x .memory)
+  call-coherent x q = record { kept = call-kept s (c .kept) x; beside = call-matches x q .beside }

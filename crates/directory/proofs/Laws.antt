@@ -17,10 +17,10 @@ use Rattle.ways.specs.Ways.{holds, lookupIn}
 use Rattle.directory.specs.declared.steps.Outcome.{Outcome}
 use Rattle.directory.specs.Outcome.{outcome}
 use Rattle.directory.specs.Steps.{validAt, tagAt, lruAt, lookupOf, stateNumberOf, afterUse, afterFill, afterReset, afterControl, controlRefused, controlCall, afterFlush, invalidated, afterSnoop, snoopCall}
-use Rattle.directory.specs.WellFormed.{Held, Same, GoodSet, Sized, WellFormed}
+use Rattle.directory.specs.WellFormed.{Held, Same, SetApart, Sized, WithinLimits, Apart}
 use Rattle.laws.proofs.Tests.{both, refuted, differ, cond-true, cond-false, by-test, same-or}
 use Rattle.ways.proofs.FourWays.{lru-after-below, lowest-at, lowest-nothing, none-lowest, one-lowest}
-use Rattle.directory.proofs.Lines.{same-line, stored-line, stored-other, fewer-well-formed}
+use Rattle.directory.proofs.Lines.{same-line, stored-line, stored-other, fewer-limits, fewer-apart, none-limits, none-apart}
 
 -- LOOKUP
 
@@ -46,11 +46,11 @@ module _ (d : Directory) (a : ℕ) where
   unfolding lookupIn
   lookup-nothing e w l h = differ (held-test d a w h) (lowest-nothing (tagHeld d a) e w l)
 
-  -- what is held in a good set is found
-  pub held-lookup : GoodSet d (setOf a) → (w : ℕ) → w < 4 → Held d (setOf a) w (tagOf a) → lookupOf d a ≡ At w
+  -- what is held in a set where no tag stands twice is found
+  pub held-lookup : SetApart d (setOf a) → (w : ℕ) → w < 4 → Held d (setOf a) w (tagOf a) → lookupOf d a ≡ At w
   unfolding lookupIn
   held-lookup g w l h =
-      one-lowest (tagHeld d a) w l (held-test d a w h) λ v m e. g .apart v w (tagOf a) m l (test-held d a v e) h
+      one-lowest (tagHeld d a) w l (held-test d a w h) λ v m e. g v w (tagOf a) m l (test-held d a v e) h
 
   -- where no way holds the address, nothing is found
   pub none-lookup : ((w : ℕ) → w < 4 → Held d (setOf a) w (tagOf a) → ⊥) → lookupOf d a ≡ Nothing
@@ -70,18 +70,14 @@ pub reset-control : (afterReset .cd ≡ true) × (afterReset .nw ≡ true)
 unfolding afterReset
 reset-control = (refl, refl)
 
-pub reset-well-formed : WellFormed afterReset
+pub reset-limits : WithinLimits afterReset
 unfolding afterReset
-reset-well-formed =
-    record {
-      sized = record { tags = refl; valid = refl; lru = refl };
-      sets = λ s l.
-          record {
-            apart = λ w v tag wl vl h k. absurd (reset-none s w tag l wl h);
-            tags = λ w tag wl h. absurd (reset-none s w tag l wl h);
-            lru = let e : lruAt afterReset s ≡ 0 = getD-replicate {A = ℕ} 128 s 0 0 l in omega arith;
-          };
-    }
+reset-limits =
+    none-limits afterReset reset-none (record { tags = refl; valid = refl; lru = refl })
+    (λ s l. let e : lruAt afterReset s ≡ 0 = getD-replicate {A = ℕ} 128 s 0 0 l in omega arith)
+
+pub reset-apart : Apart afterReset
+reset-apart = none-apart afterReset reset-none
 
 -- USE: no line changes, and one LRU number
 
@@ -116,11 +112,14 @@ use-sized : (d : Directory) → Sized d → (s w : ℕ) → Sized (afterUse d s 
 unfolding afterUse
 use-sized d z s w = record { tags = z .tags; valid = z .valid; lru = rw length-set (z .lru) }
 
-pub use-well-formed : (d : Directory) → WellFormed d → (s w : ℕ) → s < 128 → w < 4 → WellFormed (afterUse d s w)
-use-well-formed d g s w sl wl =
-    fewer-well-formed d (afterUse d s w) g (use-sized d (g .sized) s w)
-    (λ r v tag rl vl. use-held d s w r v tag)
+pub use-limits : (d : Directory) → WithinLimits d → (s w : ℕ) → s < 128 → w < 4 → WithinLimits (afterUse d s w)
+use-limits d g s w sl wl =
+    fewer-limits d (afterUse d s w) (λ r v tag rl vl. use-held d s w r v tag) (use-sized d (g .sized) s w)
     (λ r rl. use-lru-below d s w (g .sized) sl wl r (g .sets r rl .lru))
+    g
+
+pub use-apart : (d : Directory) → Apart d → (s w : ℕ) → Apart (afterUse d s w)
+use-apart d g s w = fewer-apart d (afterUse d s w) (λ r v tag rl vl. use-held d s w r v tag) g
 
 -- FILL: one line becomes the new one, and every other stays as it was
 
@@ -165,35 +164,44 @@ module _ (d : Directory) (s w tag : ℕ) where
         (λ e. inl (e, sym (h .1) ∙ rw (e .0, e .1) (fill-new .1)))
         (λ n. inr (n, other-held r v t vl n h))
 
--- a fill of a tag that no way of its set holds
-pub fill-well-formed : (d : Directory) → WellFormed d → (s w tag : ℕ) → s < 128 → w < 4 → tag ≤ 2097151 →
-    ((v : ℕ) → v < 4 → Held d s v tag → ⊥) → WellFormed (afterFill d s w tag)
-fill-well-formed d g s w tag sl wl tl none =
-    let held = fill-held d s w tag (g .sized) sl wl in
+-- whatever the set holds
+pub fill-limits : (d : Directory) → WithinLimits d → (s w tag : ℕ) → s < 128 → w < 4 → tag ≤ 2097151 → WithinLimits (afterFill d s w tag)
+fill-limits d g s w tag sl wl tl =
     record {
       sized = fill-sized d s w tag (g .sized);
       sets = λ r rl.
           record {
-            apart = λ x y t xl yl h k.
-                ⊎-elim
-                (λ m. ⊎-elim (λ n. m .0 .1 ∙ sym (n .0 .1)) (λ n. absurd (none y yl (rw (m .1, m .0 .0) at (n .1)))) (held r y t yl k))
-                (λ m. ⊎-elim (λ n. absurd (none x xl (rw (n .1, n .0 .0) at (m .1)))) (λ n. g .sets r rl .apart x y t xl yl (m .1) (n .1)) (held r y t yl k))
-                (held r x t xl h);
-            tags = λ x t xl h. ⊎-elim (λ m. rw (m .1) tl) (λ m. g .sets r rl .tags x t xl (m .1)) (held r x t xl h);
+            tags = λ x t xl h. ⊎-elim (λ m. rw (m .1) tl) (λ m. g .sets r rl .tags x t xl (m .1)) (fill-held d s w tag (g .sized) sl wl r x t xl h);
             lru = rw (fill-lru d s w tag r) (use-lru-below d s w (g .sized) sl wl r (g .sets r rl .lru));
           };
     }
 
--- after a fill of an address that was not found, the address is found in the way that was filled
-module _ (d : Directory) (g : WellFormed d) (a w : ℕ) (al : a < 2 ^ 32) (wl : w < 4) (e : lookupOf d a ≡ Nothing) where
-  pub fill-address-well-formed : WellFormed (afterFill d (setOf a) w (tagOf a))
-  fill-address-well-formed =
-      fill-well-formed d g (setOf a) w (tagOf a) (omega arith) wl (omega arith) (lookup-nothing d a e)
+-- a fill of a tag that no way of its set holds
+pub fill-apart : (d : Directory) → Sized d → Apart d → (s w tag : ℕ) → s < 128 → w < 4 → ((v : ℕ) → v < 4 → Held d s v tag → ⊥) → Apart (afterFill d s w tag)
+fill-apart d z g s w tag sl wl none =
+    let held = fill-held d s w tag z sl wl in
+    record {
+      sets = λ r rl x y t xl yl h k.
+          ⊎-elim
+          (λ m. ⊎-elim (λ n. m .0 .1 ∙ sym (n .0 .1)) (λ n. absurd (none y yl (rw (m .1, m .0 .0) at (n .1)))) (held r y t yl k))
+          (λ m. ⊎-elim (λ n. absurd (none x xl (rw (n .1, n .0 .0) at (m .1)))) (λ n. g .sets r rl x y t xl yl (m .1) (n .1)) (held r y t yl k))
+          (held r x t xl h);
+    }
 
-  pub fill-lookup : lookupOf (afterFill d (setOf a) w (tagOf a)) a ≡ At w
-  fill-lookup =
-      held-lookup (afterFill d (setOf a) w (tagOf a)) a (fill-address-well-formed .sets (setOf a) (omega arith)) w wl
-      (fill-new d (setOf a) w (tagOf a) (g .sized) (omega arith) wl)
+-- a fill of an address
+module _ (d : Directory) (a w : ℕ) (wl : w < 4) where
+  pub fill-address-limits : WithinLimits d → a < 2 ^ 32 → WithinLimits (afterFill d (setOf a) w (tagOf a))
+  fill-address-limits g al = fill-limits d g (setOf a) w (tagOf a) (omega arith) wl (omega arith)
+
+  -- that was not found: it is found then in the way that was filled
+  module _ (z : Sized d) (g : Apart d) (e : lookupOf d a ≡ Nothing) where
+    pub fill-address-apart : Apart (afterFill d (setOf a) w (tagOf a))
+    fill-address-apart = fill-apart d z g (setOf a) w (tagOf a) (omega arith) wl (lookup-nothing d a e)
+
+    pub fill-lookup : lookupOf (afterFill d (setOf a) w (tagOf a)) a ≡ At w
+    fill-lookup =
+        held-lookup (afterFill d (setOf a) w (tagOf a)) a (fill-address-apart .sets (setOf a) (omega arith)) w wl
+        (fill-new d (setOf a) w (tagOf a) z (omega arith) wl)
 
 -- CONTROL: no line changes
 
@@ -214,11 +222,16 @@ module _ (d : Directory) (cd nw : Bool) where
   unfolding afterControl
   control-set = (refl, refl)
 
-  pub control-well-formed : WellFormed d → WellFormed (afterControl d cd nw)
+  pub control-limits : WithinLimits d → WithinLimits (afterControl d cd nw)
   unfolding afterControl
-  control-well-formed g =
-      fewer-well-formed d _ g (record { tags = g .sized .tags; valid = g .sized .valid; lru = g .sized .lru })
-      (λ r v tag rl vl h. h) (λ r rl. g .sets r rl .lru)
+  control-limits g =
+      fewer-limits d _ (λ r v tag rl vl h. h)
+      (record { tags = g .sized .tags; valid = g .sized .valid; lru = g .sized .lru })
+      (λ r rl. g .sets r rl .lru)
+      g
+
+  pub control-apart : Apart d → Apart (afterControl d cd nw)
+  control-apart = fewer-apart d (afterControl d cd nw) (λ r v tag rl vl. control-held r v tag)
 
   pub control-accepted : controlRefused cd nw ≡ false → controlCall d cd nw ≡ outcome (afterControl d cd nw) 0 0 0
   unfolding controlCall
@@ -250,11 +263,13 @@ module _ (d : Directory) where
   unfolding afterFlush
   flush-sized z = record { tags = z .tags; valid = refl; lru = z .lru }
 
-  pub flush-well-formed : WellFormed d → WellFormed (afterFlush d)
-  flush-well-formed g =
-      fewer-well-formed d (afterFlush d) g (flush-sized (g .sized))
-      (λ s w tag sl wl h. absurd (flush-none s w tag sl wl h))
-      (λ s l. rw (flush-lru s) (g .sets s l .lru))
+  pub flush-limits : WithinLimits d → WithinLimits (afterFlush d)
+  flush-limits g =
+      none-limits (afterFlush d) flush-none (flush-sized (g .sized)) (λ s l. rw (flush-lru s) (g .sets s l .lru))
+
+  -- whatever was held before
+  pub flush-apart : Apart (afterFlush d)
+  flush-apart = none-apart (afterFlush d) flush-none
 
 -- SNOOP: with NW = 0 the line of the address goes, and every other stays as it was
 
@@ -287,11 +302,11 @@ module _ (d : Directory) (z : Sized d) (a : ℕ) where
       (stored-other (setOf a) w r v (k .0) vl (d .valid) false false o ∙ h .0, h .1)
   dropped-kept Nothing e r v t vl n h = h
 
-  dropped-none : GoodSet d (setOf a) → (f : Found) → lookupOf d a ≡ f → (v : ℕ) → v < 4 → Held (dropped f) (setOf a) v (tagOf a) → ⊥
+  dropped-none : SetApart d (setOf a) → (f : Found) → lookupOf d a ≡ f → (v : ℕ) → v < 4 → Held (dropped f) (setOf a) v (tagOf a) → ⊥
   unfolding invalidated
   dropped-none g (At w) e v vl h =
       let k = lookup-at d a w e in
-      let j : v ≡ w = g .apart v w (tagOf a) vl (k .0) (dropped-held (At w) e (setOf a) v (tagOf a) vl h) (k .1) in
+      let j : v ≡ w = g v w (tagOf a) vl (k .0) (dropped-held (At w) e (setOf a) v (tagOf a) vl h) (k .1) in
       differ (h .0) (rw j (stored-line (d .valid) false false (setOf a) w (z .valid) (omega arith) (k .0)))
   dropped-none g Nothing e v vl h = lookup-nothing d a e v vl h
 
@@ -330,19 +345,22 @@ module _ (d : Directory) (z : Sized d) (a : ℕ) where
   snoop-control = by-nw (λ x. (x .cd ≡ d .cd) × (x .nw ≡ d .nw)) (λ _. (refl, refl)) (λ _. dropped-control _)
 
   -- with NW = 0 no way holds a snooped address
-  pub snoop-none : GoodSet d (setOf a) → d .nw ≡ false → (v : ℕ) → v < 4 → Held (afterSnoop d a) (setOf a) v (tagOf a) → ⊥
+  pub snoop-none : SetApart d (setOf a) → d .nw ≡ false → (v : ℕ) → v < 4 → Held (afterSnoop d a) (setOf a) v (tagOf a) → ⊥
   snoop-none g e v vl h = dropped-none g _ refl v vl (rw (snoop-on d a e) at h)
 
-  pub snoop-lookup : GoodSet d (setOf a) → d .nw ≡ false → lookupOf (afterSnoop d a) a ≡ Nothing
+  pub snoop-lookup : SetApart d (setOf a) → d .nw ≡ false → lookupOf (afterSnoop d a) a ≡ Nothing
   snoop-lookup g e = none-lookup (afterSnoop d a) a (snoop-none g e)
 
-pub snoop-well-formed : (d : Directory) → WellFormed d → (a : ℕ) → WellFormed (afterSnoop d a)
-snoop-well-formed d g a =
-    by-nw d (g .sized) a WellFormed (λ _. g)
+pub snoop-limits : (d : Directory) → WithinLimits d → (a : ℕ) → WithinLimits (afterSnoop d a)
+snoop-limits d g a =
+    by-nw d (g .sized) a WithinLimits (λ _. g)
     (λ _.
-    fewer-well-formed d _ g (dropped-sized d (g .sized) a _)
-    (λ r v t rl vl h. dropped-held d (g .sized) a _ refl r v t vl h)
-    (λ r rl. rw (dropped-lru d (g .sized) a _ r) (g .sets r rl .lru)))
+    fewer-limits d _ (λ r v t rl vl. dropped-held d (g .sized) a _ refl r v t vl) (dropped-sized d (g .sized) a _)
+    (λ r rl. rw (dropped-lru d (g .sized) a _ r) (g .sets r rl .lru))
+    g)
+
+pub snoop-apart : (d : Directory) → Sized d → Apart d → (a : ℕ) → Apart (afterSnoop d a)
+snoop-apart d z g a = fewer-apart d (afterSnoop d a) (λ r v t rl vl. snoop-held d z a r v t vl) g
 
 -- a snoop call is refused for the state of its set, and else accepted
 module _ (d : Directory) (a : ℕ) where

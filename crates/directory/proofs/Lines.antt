@@ -1,4 +1,4 @@
--- What a store does to single lines, and what fewer lines keep well formed.
+-- What a store does to single lines, and what a directory with fewer lines keeps.
 use Prim.Native.Nat.{ℕ, _≤_, _<_}
 use mathlib.Core.Path.{_≡_}
 use mathlib.Core.List.{List}
@@ -8,7 +8,7 @@ use lib.Seq.{getD-set-same, getD-set-other}
 use Rattle.directory.specs.declared.steps.Directory.{Directory}
 use Rattle.ways.specs.Address.{lineIndex}
 use Rattle.directory.specs.Steps.{lruAt}
-use Rattle.directory.specs.WellFormed.{Held, Same, Sized, WellFormed}
+use Rattle.directory.specs.WellFormed.{Held, Same, Sized, WithinLimits, Apart}
 use Rattle.laws.proofs.Tests.{same-or}
 
 -- a line is named by one set and one way
@@ -38,19 +38,27 @@ pub stored-line : {A : Type 0} (l : List A) (x z : A) (s w : ℕ) → length l �
     getD (set l (lineIndex s w) x) (lineIndex s w) z ≡ x
 stored-line l x z s w e sl wl = let i : lineIndex s w < length l = rw e (omega arith) in rw getD-set-same
 
--- a directory that holds no line which a well-formed one doesn't, with LRU numbers up to 7, is well formed
-pub fewer-well-formed :
-    (d e : Directory) → WellFormed d → Sized e →
-    ((s w tag : ℕ) → s < 128 → w < 4 → Held e s w tag → Held d s w tag) →
-    ((s : ℕ) → s < 128 → lruAt e s ≤ 7) →
-    WellFormed e
-fewer-well-formed d e g z held lru =
-    record {
-      sized = z;
-      sets = λ s l.
-          record {
-            apart = λ w v tag wl vl h k. g .sets s l .apart w v tag wl vl (held s w tag l wl h) (held s v tag l vl k);
-            tags = λ w tag wl h. g .sets s l .tags w tag wl (held s w tag l wl h);
-            lru = lru s l;
-          };
-    }
+-- a directory that holds no line which another doesn't
+module _ (d e : Directory) (held : (s w tag : ℕ) → s < 128 → w < 4 → Held e s w tag → Held d s w tag) where
+  pub fewer-limits : Sized e → ((s : ℕ) → s < 128 → lruAt e s ≤ 7) → WithinLimits d → WithinLimits e
+  fewer-limits z lru g =
+      record {
+        sized = z;
+        sets = λ s l. record { tags = λ w tag wl h. g .sets s l .tags w tag wl (held s w tag l wl h); lru = lru s l };
+      }
+
+  pub fewer-apart : Apart d → Apart e
+  fewer-apart g =
+      record { sets = λ s l w v tag wl vl h k. g .sets s l w v tag wl vl (held s w tag l wl h) (held s v tag l vl k) }
+
+-- a directory that holds no line
+module _ (d : Directory) (none : (s w tag : ℕ) → s < 128 → w < 4 → Held d s w tag → ⊥) where
+  pub none-limits : Sized d → ((s : ℕ) → s < 128 → lruAt d s ≤ 7) → WithinLimits d
+  none-limits z lru =
+      record {
+        sized = z;
+        sets = λ s l. record { tags = λ w tag wl h. absurd (none s w tag l wl h); lru = lru s l };
+      }
+
+  pub none-apart : Apart d
+  none-apart = record { sets = λ s l w v tag wl vl h k. absurd (none s w tag l wl h) }

@@ -8,7 +8,7 @@ use borrow.Author.Tests.{eqb-true, eq-eqb, ltb-true, ltb-false, le-ltb}
 use Rattle.directory.specs.declared.steps.Directory.{Directory}
 use Rattle.ways.specs.State.{samePair, sameTags, tagAbove, tagsAbove, firstNumber, stateNumberIn}
 use Rattle.directory.specs.Steps.{validAt, tagAt, lruAt, stateNumberOf}
-use Rattle.directory.specs.WellFormed.{Held, GoodSet}
+use Rattle.directory.specs.WellFormed.{Held, SetApart, GoodSet, WellFormed}
 use Rattle.laws.proofs.Below.{four}
 use Rattle.laws.proofs.Tests.{both, neither, refuted, differ}
 use Rattle.ways.proofs.FourWays.{six}
@@ -66,7 +66,7 @@ module _ (d : Directory) (s : ℕ) where
   tri : (w v : ℕ) → (w < v → ⊥) → (v < w → ⊥) → w ≡ v
   tri w v n m = omega arith
 
-  apart-held : sameTags (d .tags) (d .valid) s ≡ false → (w v tag : ℕ) → w < 4 → v < 4 → Held d s w tag → Held d s v tag → w ≡ v
+  apart-held : sameTags (d .tags) (d .valid) s ≡ false → SetApart d s
   apart-held e w v tag l m h k =
       tri w v
       (λ o. differ (held-pair w v tag h k) (apart-pairs e w v o m))
@@ -81,8 +81,11 @@ module _ (d : Directory) (s : ℕ) where
       let t1 = neither (above 0) (above 1) (t2 .0) in
       record {
         apart = apart-held (n .0);
-        tags = λ w tag l. four (λ w. (tag : ℕ) → Held d s w tag → tag ≤ 2097151) (above-tag 0 (t1 .0)) (above-tag 1 (t1 .1)) (above-tag 2 (t2 .1)) (above-tag 3 (t3 .1)) w l tag;
-        lru = n .2;
+        limits =
+            record {
+              tags = λ w tag l. four (λ w. (tag : ℕ) → Held d s w tag → tag ≤ 2097151) (above-tag 0 (t1 .0)) (above-tag 1 (t1 .1)) (above-tag 2 (t2 .1)) (above-tag 3 (t3 .1)) w l tag;
+              lru = n .2;
+            };
       }
 
   pub good-state-zero : GoodSet d s → stateNumberOf d s ≡ 0
@@ -90,7 +93,7 @@ module _ (d : Directory) (s : ℕ) where
   good-state-zero g =
       let same : (w v : ℕ) → w < v → v < 4 → pair w v ≡ false =
       λ w v l m. refuted _ λ e. let p = pair-held w v e in let k = g .apart w v _ (omega arith) m (p .0) (p .1) in omega arith in
-      let low : (w : ℕ) → w < 4 → above w ≡ false = λ w l. tag-above w λ tag. g .tags w tag l in
+      let low : (w : ℕ) → w < 4 → above w ≡ false = λ w l. tag-above w λ tag. g .limits .tags w tag l in
       rw (
         same 0 1 (omega arith) (omega arith),
         same 0 2 (omega arith) (omega arith),
@@ -102,5 +105,9 @@ module _ (d : Directory) (s : ℕ) where
         low 1 (omega arith),
         low 2 (omega arith),
         low 3 (omega arith),
-        le-ltb 7 (lruAt d s) (g .lru),
+        le-ltb 7 (lruAt d s) (g .limits .lru),
       )
+
+-- no set of a well-formed directory meets one of them
+pub well-formed-zero : (d : Directory) → WellFormed d → (s : ℕ) → s < 128 → stateNumberOf d s ≡ 0
+well-formed-zero d g s l = good-state-zero d s (record { apart = g .apart .sets s l; limits = g .limits .sets s l })

@@ -14,11 +14,19 @@ Held d s w tag = (validAt d s w ≡ true) × (tagAt d s w ≡ tag)
 abbrev pub Same : ℕ → ℕ → ℕ → ℕ → Type 0
 Same r v s w = (r ≡ s) × (v ≡ w)
 
--- A set that meets none of 21, 22 and 23.
-pub record GoodSet (d : Directory) (s : ℕ) : Type 0 where
-  pub apart : (w v tag : ℕ) → w < 4 → v < 4 → Held d s w tag → Held d s v tag → w ≡ v
+-- No tag stands twice in a set: 21 is not met.
+abbrev pub SetApart : Directory → ℕ → Type 0
+SetApart d s = (w v tag : ℕ) → w < 4 → v < 4 → Held d s w tag → Held d s v tag → w ≡ v
+
+-- The held tags and the LRU number of a set are within their limits: 22 and 23 are not met.
+pub record SetLimits (d : Directory) (s : ℕ) : Type 0 where
   pub tags : (w tag : ℕ) → w < 4 → Held d s w tag → tag ≤ 2097151
   pub lru : lruAt d s ≤ 7
+
+-- A set that meets none of 21, 22 and 23.
+pub record GoodSet (d : Directory) (s : ℕ) : Type 0 where
+  pub apart : SetApart d s
+  pub limits : SetLimits d s
 
 -- The lengths of a directory's arrays.
 pub record Sized (d : Directory) : Type 0 where
@@ -26,7 +34,16 @@ pub record Sized (d : Directory) : Type 0 where
   pub valid : length (d .valid) ≡ 512
   pub lru : length (d .lru) ≡ 128
 
--- Whole arrays, and every set good.
-pub record WellFormed (d : Directory) : Type 0 where
+-- Whole arrays, and every set within its limits: what any step keeps, whatever tags stand in a set.
+pub record WithinLimits (d : Directory) : Type 0 where
   pub sized : Sized d
-  pub sets : (s : ℕ) → s < 128 → GoodSet d s
+  pub sets : (s : ℕ) → s < 128 → SetLimits d s
+
+-- No tag twice in any set: what a lookup needs to find the one line of an address.
+pub record Apart (d : Directory) : Type 0 where
+  pub sets : (s : ℕ) → s < 128 → SetApart d s
+
+-- Both: whole arrays, and every set good.
+pub record WellFormed (d : Directory) : Type 0 where
+  pub limits : WithinLimits d
+  pub apart : Apart d

@@ -1,0 +1,216 @@
+-- What every list of calls keeps, whatever it does to CD and NW and whatever tags stand in a set: lengths, limits, parity that agrees.
+use Prim.Native.Nat.{ℕ, _+_, _≤_}
+use mathlib.Core.Path.{_≡_, refl, _∙_}
+use mathlib.Core.Bool.{Bool, _&&_}
+use mathlib.Core.List.{List, [], _∷_}
+use native.Mathlib.Omega.{arith}
+use lib.ListN.{length}
+use lib.Seq.{length-sets}
+use Rattle.laws.proofs.Tests.{by-test, same-or}
+use Rattle.directory.specs.declared.steps.Directory.{Directory}
+use Rattle.ways.specs.declared.ways.Found.{Found}
+use Rattle.ways.specs.declared.ways.Found.the-variants.{At, Nothing}
+use Rattle.ways.specs.Address.{setOf}
+use Rattle.directory.specs.Steps.{lookupOf, victimOf, stateNumberOf, afterReset, afterUse, afterSnoop, controlRefused}
+use Rattle.directory.specs.WellFormed.{WithinLimits}
+use Rattle.ways.proofs.FourWays.{victim-below}
+use Rattle.directory.proofs.Laws.{lookup-at, reset-limits, use-limits, fill-address-limits, control-limits, control-accepted, control-refused, flush-limits, snoop-limits, snoop-accepted, snoop-refused}
+use Rattle.words.specs.Bytes.{bytesAt}
+use Rattle.memory.specs.Parity.{Memory, Agrees, stored}
+use Rattle.memory.proofs.Bits.{stored-lengths}
+use Rattle.bus.specs.Groups.{groupCount}
+use Rattle.doubleword.specs.Doubleword.{Doubleword, Done, doublewordsOf, dataOffset, changed}
+use Rattle.reading.specs.Reading.{keptChange, keptArray, readHit, readMiss, settled, readDone}
+use Rattle.writing.specs.Writing.{writeThrough, hitArray, writeDone}
+use Rattle.refusal.specs.Refusal.{orElse, lentNumber, argumentNumber, memoryNumber, externalNumber}
+use Rattle.refusal.proofs.Accepted.{or-zero, GoodMemory, arguments-accepted, external-accepted}
+use Rattle.refusal.specs.Call.{State, state, nextState}
+use Rattle.access.specs.Access.{operandOf, readNumber, writeNumber, readOne, writeOne, next, allOf, readAll, writeAll}
+use Rattle.access.proofs.Calls.{read-refused, read-done, write-refused, write-done}
+use Rattle.masters.specs.Masters.{externalWriteNumber}
+use Rattle.masters.proofs.External.{external-refused, external-done}
+use Rattle.calls.specs.Calls.{Call, read, write, external, snoop, flush, control, view, reset, step}
+use Rattle.agreement.specs.Agreement.{Legal}
+use Rattle.agreement.proofs.Memories.{stored-agrees}
+use Rattle.agreement.proofs.Doublewords.{Proper, EachProper, givenOf, given-inside, given-stored, access-proper}
+
+-- directory and buffers have document 01's lengths, tags and LRU numbers are within their limits, parity agrees
+pub record Kept (s : State) : Type 0 where
+  pub limits : WithinLimits (s .directory)
+  pub lent : GoodMemory (length (s .memory .ram)) (length (s .memory .parity))
+  pub arrayLength : length (s .array) ≡ 8192
+  pub agrees : Agrees (s .memory)
+
+pub start-kept : (m : Memory) (array : List ℕ) → Legal m array → Kept (state afterReset m array)
+start-kept m array g =
+    record {
+      limits = reset-limits;
+      lent = record { least = g .least; most = g .most; whole = g .whole; bits = g .parityLength };
+      arrayLength = g .arrayLength;
+      agrees = g .agrees;
+    }
+
+module _ (s : State) (k : Kept s) where
+  -- another directory and data array
+  kept-with : (d : Directory) → WithinLimits d → (array : List ℕ) → length array ≡ length (s .array) → Kept (state d (s .memory) array)
+  kept-with d g array e = record { limits = g; lent = k .lent; arrayLength = e ∙ k .arrayLength; agrees = k .agrees }
+
+  -- bytes stored in RAM with their parity
+  kept-stored : (a : ℕ) (x : List ℕ) → a + length x ≤ length (s .memory .ram) → Kept (state (s .directory) (stored (s .memory) a x) (s .array))
+  kept-stored a x fits =
+      let l = stored-lengths (s .memory) a x in
+      record {
+        limits = k .limits;
+        lent = rw (l .0, l .1) (k .lent);
+        arrayLength = k .arrayLength;
+        agrees = stored-agrees (s .memory) a x fits (omega (arith, k .lent .whole, k .lent .bits)) (k .agrees);
+      }
+
+-- A DOUBLEWORD
+
+-- the same with so many bytes of RAM, in which the doublewords of an access lie
+pub record KeptIn (size : ℕ) (s : State) : Type 0 where
+  pub kept : Kept s
+  pub ramLength : length (s .memory .ram) ≡ size
+
+module _ (size : ℕ) (s : State) (k : KeptIn size s) (w : Doubleword) (ok : Proper size w) where
+  abbrev d : Directory
+  d = s .directory
+
+  changed-kept : (d′ : Directory) → WithinLimits d′ → (array : List ℕ) → length array ≡ length (s .array) → KeptIn size (state d′ (s .memory) array)
+  changed-kept d′ g array e = record { kept = kept-with s (k .kept) d′ g array e; ramLength = k .ramLength }
+
+  used-limits : (way : ℕ) → lookupOf d (w .line) ≡ At way → WithinLimits (afterUse d (setOf (w .line)) way)
+  used-limits way e = use-limits d (k .kept .limits) (setOf (w .line)) way (omega arith) (lookup-at d (w .line) way e .0)
+
+  abbrev victim : ℕ
+  victim = victimOf d (setOf (w .line))
+
+  read-found : (mayFill : Bool) (f : Found) → lookupOf d (w .line) ≡ f → KeptIn size (next s w (readDone f victim mayFill (s .memory) (s .array) w))
+  unfolding readDone readHit settled changed
+  read-found mayFill (At way) e = changed-kept _ (used-limits way e) (s .array) refl
+  read-found mayFill Nothing e =
+      let missed = readMiss mayFill (s .memory) w in
+      by-test (λ b. KeptIn size (state (changed d (w .line) (keptChange b victim)) (s .memory) (keptArray b victim (w .line) (missed .buffer) (s .array)))) (missed .kept)
+      (λ _.
+      changed-kept _
+      (fill-address-limits d (w .line) victim (victim-below (d .valid) (d .lru) (setOf (w .line))) (k .kept .limits) (omega (arith, ok .inside, k .ramLength, k .kept .lent .most)))
+      _ (length-sets (s .array) (dataOffset (w .line) victim) (bytesAt (missed .buffer) 0 16)))
+      (λ _. k)
+
+  pub read-one-kept : (pcd : Bool) → KeptIn size (next s w (readOne pcd s w))
+  unfolding readOne
+  read-one-kept pcd = read-found _ (lookupOf d (w .line)) refl
+
+  module _ (operand : List ℕ) where
+    hit-kept : (way : ℕ) → lookupOf d (w .line) ≡ At way → KeptIn size (state (afterUse d (setOf (w .line)) way) (s .memory) (hitArray way (s .array) operand w))
+    unfolding hitArray
+    hit-kept way e =
+        changed-kept _ (used-limits way e) _ (length-sets (s .array) (dataOffset (w .line) way + w .wanted .from) (givenOf operand w))
+
+    -- RAM with the bytes that a doubleword is given
+    through-kept : (t : State) → KeptIn size t → KeptIn size (state (t .directory) (stored (t .memory) (w .line + w .wanted .from) (givenOf operand w)) (t .array))
+    through-kept t kt =
+        let a = w .line + w .wanted .from in
+        let x = givenOf operand w in
+        record {
+          kept = kept-stored t (kt .kept) a x (rw (kt .ramLength) (given-inside operand size w ok));
+          ramLength = stored-lengths (t .memory) a x .0 ∙ kt .ramLength;
+        }
+
+    write-found : (f : Found) → lookupOf d (w .line) ≡ f → KeptIn size (next s w (writeDone f (d .cd && d .nw) (s .memory) (s .array) operand w))
+    unfolding writeDone writeThrough changed
+    write-found (At way) e =
+        by-test (λ b. KeptIn size (next s w (writeDone (At way) b (s .memory) (s .array) operand w))) (d .cd && d .nw)
+        (λ _. hit-kept way e)
+        (λ _. rw (given-stored operand size w ok (s .memory)) (through-kept _ (hit-kept way e)))
+    write-found Nothing e = rw (given-stored operand size w ok (s .memory)) (through-kept s k)
+
+    pub write-one-kept : KeptIn size (next s w (writeOne operand s w))
+    unfolding writeOne
+    write-one-kept = write-found (lookupOf d (w .line)) refl
+
+-- A CALL
+
+all-kept : (size : ℕ) (one : State → Doubleword → Done) → ((s : State) → KeptIn size s → (w : Doubleword) → Proper size w → KeptIn size (next s w (one s w))) →
+    (ws : List Doubleword) (s : State) → KeptIn size s → EachProper size ws → KeptIn size (allOf one s ws .state)
+unfolding allOf
+all-kept size one each [] s k g = k
+all-kept size one each (w ∷ ws) s k g = all-kept size one each ws (next s w (one s w)) (each s k w (g .0)) (g .1)
+
+module _ (s : State) (k : Kept s) where
+  abbrev size : ℕ
+  size = length (s .memory .ram)
+
+  abbrev here : KeptIn size s
+  here = record { kept = k; ramLength = refl }
+
+  -- the doublewords of an access that is not refused
+  proper : (a w : ℕ) (xs log : List ℕ) (later : ℕ) →
+      orElse (lentNumber size (length (s .memory .parity)) (length (s .array))) (orElse (argumentNumber size a w xs (length log)) later) ≡ 0 →
+      EachProper size (doublewordsOf groupCount xs a w 0)
+  proper a w xs log later z =
+      let q = or-zero (argumentNumber size a w xs (length log)) later (or-zero (lentNumber size _ _) _ z .1) in
+      access-proper size a w xs (length log) (arguments-accepted size a w xs (length log) (q .0)) (k .lent .whole)
+
+  read-kept : (a w : ℕ) (pcd : Bool) (xs log : List ℕ) → Kept (nextState (step s (read a w pcd xs log)))
+  unfolding step readNumber readAll
+  read-kept a w pcd xs log =
+      same-or _ (readNumber s a w xs log) 0
+      (λ z. rw (read-done s a w pcd xs log z) (all-kept size (readOne pcd) (λ t kt u ok. read-one-kept size t kt u ok pcd) (doublewordsOf groupCount xs a w 0) s here (proper a w xs log _ z) .kept))
+      (λ h. rw (read-refused s a w pcd xs log h) k)
+
+  write-kept : (a w v : ℕ) (xs log : List ℕ) → Kept (nextState (step s (write a w v xs log)))
+  unfolding step writeNumber writeAll
+  write-kept a w v xs log =
+      same-or _ (writeNumber s a w v xs log) 0
+      (λ z. rw (write-done s a w v xs log z) (all-kept size (writeOne (operandOf v)) (λ t kt u ok. write-one-kept size t kt u ok (operandOf v)) (doublewordsOf groupCount xs a w 0) s here (proper a w xs log _ z) .kept))
+      (λ h. rw (write-refused s a w v xs log h) k)
+
+  external-kept : (a : ℕ) (x : List ℕ) → Kept (nextState (step s (external a x)))
+  unfolding step externalWriteNumber
+  external-kept a x =
+      same-or _ (externalWriteNumber (s .directory) (s .memory) a x) 0
+      (λ z.
+      let own = or-zero (externalNumber size a (length x)) _ (or-zero (memoryNumber size (length (s .memory .parity))) _ z .1) .0 in
+      let snooped = kept-with s k (afterSnoop (s .directory) a) (snoop-limits (s .directory) (k .limits) a) (s .array) refl in
+      rw (external-done s a x z) (kept-stored _ snooped a x (external-accepted size a (length x) own .inside)))
+      (λ h. rw (external-refused s a x _ refl h) k)
+
+  snoop-kept : (a : ℕ) → Kept (nextState (step s (snoop a)))
+  unfolding step
+  snoop-kept a =
+      same-or _ (stateNumberOf (s .directory) (setOf a)) 0
+      (λ z. rw (snoop-accepted (s .directory) a z) (kept-with s k _ (snoop-limits (s .directory) (k .limits) a) (s .array) refl))
+      (λ h. rw (snoop-refused (s .directory) a h) k)
+
+  control-kept : (cd nw : Bool) → Kept (nextState (step s (control cd nw)))
+  unfolding step
+  control-kept cd nw =
+      by-test (λ b. controlRefused cd nw ≡ b → Kept (nextState (step s (control cd nw)))) (controlRefused cd nw)
+      (λ _ e. rw (control-refused (s .directory) cd nw e) k)
+      (λ _ e. rw (control-accepted (s .directory) cd nw e) (kept-with s k _ (control-limits (s .directory) cd nw (k .limits)) (s .array) refl))
+      refl
+
+-- every call, refused or done
+pub call-kept : (s : State) → Kept s → (c : Call) → Kept (nextState (step s c))
+unfolding step
+call-kept s k (read a w pcd xs log) = read-kept s k a w pcd xs log
+call-kept s k (write a w v xs log) = write-kept s k a w v xs log
+call-kept s k (external a x) = external-kept s k a x
+call-kept s k (snoop a) = snoop-kept s k a
+call-kept s k flush = kept-with s k _ (flush-limits (s .directory) (k .limits)) (s .array) refl
+call-kept s k (control cd nw) = control-kept s k cd nw
+call-kept s k (view a) = k
+call-kept s k reset = kept-with s k _ reset-limits (s .array) refl
+
+-- A LIST
+
+-- the state after a list of calls
+abbrev pub stateAfterAll : State → List Call → State
+stateAfterAll s [] = s
+stateAfterAll s (c ∷ cs) = stateAfterAll (nextState (step s c)) cs
+
+pub list-kept : (s : State) → Kept s → (cs : List Call) → Kept (stateAfterAll s cs)
+list-kept s k [] = k
+list-kept s k (c ∷ cs) = list-kept (nextState (step s c)) (call-kept s k c) cs
