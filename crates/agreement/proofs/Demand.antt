@@ -10,7 +10,7 @@ use Rattle.directory.specs.Steps.{afterReset}
 use Rattle.directory.proofs.Laws.{reset-none, reset-control, reset-apart}
 use Rattle.memory.specs.Parity.{Memory}
 use Rattle.refusal.specs.Call.{State, state, nextState}
-use Rattle.calls.specs.Calls.{Call, read, write, external, snoop, flush, control, view, reset, step}
+use Rattle.agreement.specs.Calls.{Call, read, write, external, snoop, flush, control, view, reset, step}
 use Rattle.agreement.specs.Plain.{plainNumber, plainDone, plainRefused, plain}
 use Rattle.agreement.specs.Agreement.{AgreesAll, NeverSetsNw, Legal, Demand3, Arises, ArisesAll, NumbersThatArise}
 use Rattle.agreement.proofs.Kept.{start-kept}

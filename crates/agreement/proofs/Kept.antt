@@ -29,7 +29,7 @@ use Rattle.access.specs.Access.{operandOf, readNumber, writeNumber, readOne, wr
 use Rattle.access.proofs.Calls.{read-refused, read-done, write-refused, write-done}
 use Rattle.masters.specs.Masters.{externalWriteNumber}
 use Rattle.masters.proofs.External.{external-refused, external-done}
-use Rattle.calls.specs.Calls.{Call, read, write, external, snoop, flush, control, view, reset, step}
+use Rattle.agreement.specs.Calls.{Call, read, write, external, snoop, flush, control, view, reset, step}
 use Rattle.agreement.specs.Agreement.{Legal}
 use Rattle.agreement.proofs.Memories.{stored-agrees}
 use Rattle.agreement.proofs.Doublewords.{Proper, EachProper, givenOf, given-inside, given-stored, access-proper}

@@ -1,17 +1,16 @@
--- The proof of demand 3, from the bytes up. The theorems are `demand3` and `numbers-that-arise` in `Demand`, `columns` in `Columns`; the laws of
--- `Drops` stand beside them. `Kept` has what any list keeps, whatever it sets.
+-- The proof of demand 3, from the bytes up. The theorems are `demand3` and `numbers-that-arise` in `Demand`; the laws of `Drops` stand
+-- beside them. `Kept` has what any list keeps, whatever it sets.
 mod Bytes
 mod Memories
 mod Cycles
 mod Counts
 mod Doublewords
 pub mod Kept
-mod Coherence
+pub mod Coherence
 mod Reading
 mod Writing
 mod Snooping
 mod Numbers
-mod Steps
+pub mod Steps
 pub mod Demand
-pub mod Columns
 pub mod Drops

@@ -18,7 +18,7 @@ use Rattle.masters.specs.Masters.{externalWriteNumber}
 use Rattle.refusal.specs.Refusal.{when, orElse, anyAbove, ramNumber, memoryNumber, arrayNumber, lentNumber, badWidth, badAnswers, argumentNumber, valueNumber, externalNumber, viewAddressNumber, viewInputNumber, statesNumberIn, statesNumberOf}
 use Rattle.refusal.proofs.Accepted.{zero-or, first-or, GoodMemory}
 use Rattle.views.specs.View.{viewNumberIn}
-use Rattle.calls.specs.Calls.{Call, read, write, external, snoop, flush, control, view, reset, viewNumberOf}
+use Rattle.agreement.specs.Calls.{Call, read, write, external, snoop, flush, control, view, reset, viewNumberOf}
 use Rattle.agreement.specs.Plain.{someAbove, plainNumber}
 use Rattle.agreement.specs.Agreement.{Arises}
 use Rattle.agreement.proofs.Coherence.{Coherent}

@@ -27,7 +27,7 @@ use Rattle.access.proofs.Calls.{read-refused, read-done, write-refused, write-d
 use Rattle.masters.proofs.External.{external-refused, external-done}
 use Rattle.views.specs.View.{shown}
 use Rattle.views.proofs.Viewing.{view-refused, view-done}
-use Rattle.calls.specs.Calls.{Call, read, write, external, snoop, flush, control, view, reset, step, viewNumberOf}
+use Rattle.agreement.specs.Calls.{Call, read, write, external, snoop, flush, control, view, reset, step, viewNumberOf}
 use Rattle.agreement.specs.Plain.{Plain, plainAccepted, plainRefused, plainNumber, plainDone, plain}
 use Rattle.agreement.specs.Agreement.{NoParityError, setsNw}
 use Rattle.words.proofs.Spans.{bytes-same}

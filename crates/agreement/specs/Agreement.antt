@@ -8,7 +8,7 @@ use lib.ListN.{length, getD}
 use Rattle.directory.specs.Steps.{afterReset, controlRefused}
 use Rattle.memory.specs.Parity.{Memory, Agrees}
 use Rattle.refusal.specs.Call.{State, state, After, nextState}
-use Rattle.calls.specs.Calls.{Call, read, write, external, snoop, flush, control, view, reset, step}
+use Rattle.agreement.specs.Calls.{Call, read, write, external, snoop, flush, control, view, reset, step}
 use Rattle.agreement.specs.Plain.{Plain, plain}
 
 -- "No record that a call of the list leaves carries 128.": the records that a call counts are in its log, three words each, and 128 is not among the

@@ -11,18 +11,12 @@ use Rattle.laws.proofs.Lists.{sets-append}
 use Rattle.bytes.specs.Bytes.{indexOf}
 use Rattle.memory.specs.Parity.{Memory}
 use Rattle.directory.specs.declared.steps.Outcome.{Outcome}
-use Rattle.refusal.specs.Call.{State, state, After, after}
+use Rattle.refusal.specs.Call.{State, state, after}
 use Rattle.fields.specs.Fields.{newline, linesOf, withoutEmptyEnd, partsOf}
 use Rattle.rows.specs.Row.{header, rowOf}
 use Rattle.fields.proofs.Parts.{drop-part, lines-next}
-use Rattle.access.specs.declared.result.CallResult.{CallResult}
-use Rattle.access.specs.Access.{leaves}
-use Rattle.events.specs.Perform.{lineDone, Leaves}
+use Rattle.performing.specs.Perform.{lineDone}
 use Rattle.events.specs.Output.{rowFor, rowsOf, start, outputOf}
-
--- a call that leaves some log leaves its own
-pub own-log : (a : After) (r : CallResult) (s : State) (log : List ℕ) → leaves r s log ≡ a → Leaves a r s
-own-log a r s log e = ap (λ (x : After). leaves r s (x .log)) (sym e) ∙ e
 
 -- The rows that are left at a place of the input, from a state and the number of the next event.
 abbrev pub rowsLeft : List ℕ → State → ℕ → ℕ → List ℕ

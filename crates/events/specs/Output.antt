@@ -10,7 +10,7 @@ use Rattle.directory.specs.declared.steps.Outcome.{Outcome}
 use Rattle.refusal.specs.Call.{State, state, nextState}
 use Rattle.fields.specs.Fields.{linesOf}
 use Rattle.rows.specs.Row.{header, rowOf}
-use Rattle.events.specs.Perform.{lineDone}
+use Rattle.performing.specs.Perform.{lineDone}
 
 -- A row shows an event's answer.
 abbrev pub rowFor : ℕ → Outcome → List ℕ

@@ -1,5 +1,64 @@
-// Event lines in, rows out: one line on the unit, and the run over a whole input.
-mod performing;
-mod running;
+// Event lines in, rows out: the run over a whole input.
+ghost use mathlib.Core.Path.{_≡_};
+ghost use Prim.Native.Nat.{_+_, _≤_};
+ghost use lib.ListN.{length};
+ghost use lib.Seq.{sets};
+ghost use Rattle.fields.specs.Fields.{linesOf};
+ghost use Rattle.events.specs.Output.{outputOf, rowsOf, start};
+use directory::Directory;
+use fields::end_of;
+use performing::perform;
+use rows::put_header;
+use rows::put_row;
 
-pub use running::run;
+// Puts the output of the program for the input at the start of output, as far as output goes, and answers its length, for
+// which 2,883,654 bytes are enough.
+pub fn run(input: &[u8], output: &mut [u8]) -> usize
+    ensures { λ r. ⌜ (r ≡ length (outputOf (now (input .entry)))) × (now (output .exit) ≡ sets (now (output .entry)) 0 (outputOf (now (input .entry)))) ⌝ }
+    ensures { λ r. ⌜ r ≤ 2883654 ⌝ }
+{
+    let at = put_header(output);
+    if 65536 < input.len() {
+        return put_row(output, at, 0, 12, 0, 0);
+    }
+    run_lines(input, output, at)
+}
+
+// Puts the rows of the input's lines at a place of output, as far as output goes, and answers the place after them.
+fn run_lines(input: &[u8], output: &mut [u8], from: usize) -> usize
+    requires { ⌜ (length (now input) ≤ 65536) × (from ≤ 65536) ⌝ }
+    ensures { λ r. ⌜ (r ≡ from + length (rowsOf start 1 (linesOf (now (input .entry))))) × (now (output .exit) ≡ sets (now (output .entry)) from (rowsOf start 1 (linesOf (now (input .entry))))) ⌝ }
+    ensures { λ r. ⌜ r ≤ from + 2883628 ⌝ }
+{
+    let directory = Directory::reset();
+    let mut tags = directory.tags;
+    let mut valid = directory.valid;
+    let mut lru = directory.lru;
+    let mut cd = directory.cd;
+    let mut nw = directory.nw;
+    let mut ram = [0u8; 65536];
+    let mut parity = [0u8; 16384];
+    let mut data = [0u8; 8192];
+    let mut event: u32 = 1;
+    let mut place: usize = 0;
+    let mut at = from;
+    while place < input.len() {
+        let rest = &input[place..];
+        let end = end_of(rest, b'\n');
+        let done = perform(
+            &mut tags,
+            &mut valid,
+            &mut lru,
+            &mut cd,
+            &mut nw,
+            &mut ram,
+            &mut parity,
+            &mut data,
+            &rest[..end],
+        );
+        at = put_row(output, at, event, done.number, done.value, done.cycles);
+        event += 1;
+        place = place + end + 1;
+    }
+    at
+}

@@ -1,0 +1,70 @@
+-- Demand 3 carried to the program: the answer and value columns are the plain memory's.
+use Prim.Native.Nat.{ℕ, suc, _/_, _%_, _<_, _≤_}
+use mathlib.Core.Path.{_≡_, refl}
+use mathlib.Core.Bool.{false}
+use mathlib.Core.List.{List, [], _∷_}
+use mathlib.Core.Option.{Option, none, some}
+use native.Mathlib.Omega.{arith}
+use lib.ListN.{replicate, length-replicate}
+use Rattle.laws.proofs.Below.{four}
+use Rattle.words.proofs.Places.{zeros-at}
+use Rattle.memory.specs.Parity.{memory, Agrees, dpAt, laneBit, dpOf, onesOf}
+use Rattle.refusal.specs.Call.{State, nextState}
+use Rattle.agreement.specs.Calls.{Call}
+use Rattle.fields.specs.Fields.{linesOf}
+use Rattle.performing.specs.Perform.{lineCall, callDone, lineDone}
+use Rattle.events.specs.Output.{rowsOf, start, outputOf}
+use Rattle.agreement.specs.Agreement.{Legal}
+use Rattle.columns.specs.Program.{plainCall, plainLine, plainRows, countsOf, plainOutput, lineSetsNw, NoLineSetsNw, Columns}
+use Rattle.agreement.proofs.Coherence.{Coherent}
+use Rattle.agreement.proofs.Steps.{StepMatches, refused-matches, call-matches, call-coherent}
+use Rattle.agreement.proofs.Demand.{start-coherent}
+
+-- a malformed line, and one that makes a call
+module _ (s : State) (m : List ℕ) (c : Coherent s m) where
+  line-matches : (x : Option Call) → lineSetsNw x ≡ false → StepMatches (callDone s x) (plainCall m x)
+  unfolding callDone plainCall
+  line-matches none q = refused-matches s m c 11 []
+  line-matches (some x) q = call-matches s m c x q
+
+  line-coherent : (x : Option Call) → lineSetsNw x ≡ false → Coherent (nextState (callDone s x)) (plainCall m x .memory)
+  unfolding callDone plainCall
+  line-coherent none q = c
+  line-coherent (some x) q = call-coherent s m c x q
+
+rows-agree : (lines : List (List ℕ)) (s : State) (m : List ℕ) (event : ℕ) → Coherent s m → NoLineSetsNw lines → rowsOf s event lines ≡ plainRows m event lines (countsOf s lines)
+unfolding rowsOf plainRows countsOf
+rows-agree [] s m event c n = refl
+rows-agree (line ∷ lines) s m event c n =
+    let g = line-matches s m c (lineCall line) (n .0) in
+    rw (g .numbers, g .values, rows-agree lines (nextState (lineDone s line)) (plainLine m line .memory) (suc event) (line-coherent s m c (lineCall line) (n .0)) (n .1))
+
+-- zeros have parity that agrees
+no-bit : (lane : ℕ) → lane < 4 → laneBit 0 lane ≡ dpOf 0
+unfolding laneBit dpOf onesOf
+no-bit = four (λ k. laneBit 0 k ≡ dpOf 0) refl refl refl refl
+
+zeros-agree : (ram parity : ℕ) → Agrees (memory (replicate ram 0) (replicate parity 0))
+unfolding dpAt
+zeros-agree ram parity =
+    record { agree = λ a l. rw (zeros-at parity (a / 4), zeros-at ram a) (no-bit (a % 4) (omega arith)) }
+
+-- document 01's lengths, all zeros
+zeros-legal : (ram parity array : ℕ) → 16 ≤ ram → ram ≤ 16777216 → ram % 16 ≡ 0 → parity ≡ ram / 4 → array ≡ 8192 →
+    Legal (memory (replicate ram 0) (replicate parity 0)) (replicate array 0)
+zeros-legal ram parity array least most whole bits e =
+    let n = length-replicate {A = ℕ} ram 0 in
+    record {
+      least = rw n least;
+      most = rw n most;
+      whole = rw n whole;
+      parityLength = rw (n, length-replicate {A = ℕ} parity 0) bits;
+      arrayLength = rw (length-replicate {A = ℕ} array 0) e;
+      agrees = zeros-agree ram parity;
+    }
+
+pub columns : Columns
+unfolding outputOf plainOutput start
+columns input n =
+    let c = start-coherent (memory (replicate 65536 0) (replicate 16384 0)) (replicate 8192 0) (zeros-legal 65536 16384 8192 (omega arith) (omega arith) refl refl refl) in
+    rw (rows-agree (linesOf input) start (replicate 65536 0) 1 c n)

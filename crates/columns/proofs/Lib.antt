@@ -1,0 +1,2 @@
+-- The theorem is `columns`.
+pub mod Columns

@@ -1,0 +1,58 @@
+use mathlib.Core.Path.{_∙_}
+use Rattle.rows.proofs.Printing.{header-length}
+use Rattle.events.proofs.Rest.{output-long, output-lines, after-header}
+use native.Mathlib.Omega.{arith}
+use Rattle.events.proofs.run.Statement.{statement}
+use Rattle.events.proofs.run.Tie as tie
+
+put-header-requires : tie.Need-put-header-requires
+put-header-requires c κs = tt
+
+put-row-requires : tie.Need-put-row-requires
+put-row-requires c κs = omega (arith, c .before .before .before .before .put-header .ensures, header-length)
+
+same-length : tie.Need-same-length
+same-length c = c .before .before .put-row .kept .0 ∙ c .before .before .before .before .before .before .before .put-header .kept .0
+
+returns : tie.Need-returns
+returns c =
+    let at-put-row = c .before .before in
+    let at-if1 = at-put-row .before .before in
+    let at-put-header = at-if1 .before .before .before in
+    let start = at-put-header .before .before .before .before in
+    let a = start .args in (
+      rw (output-long (a .input .now) (at-if1 .if1 .taken))
+          (after-header (a .output .now) _ _ _ _ _ (at-put-header .put-header .ensures .0) (at-put-header .put-header .ensures .1)
+          (at-put-row .put-row .ensures .0 .0) (at-put-row .put-row .ensures .0 .1)),
+      omega (arith, at-put-header .put-header .ensures .0, header-length, at-put-row .put-row .ensures .1),
+    )
+
+run-lines-requires : tie.Need-run-lines-requires
+run-lines-requires c κs = (omega arith, omega (arith, c .before .before .before .before .put-header .ensures, header-length))
+
+same-length-2 : tie.Need-same-length-2
+same-length-2 c = c .before .before .run-lines .kept .1 .0 ∙ c .before .before .before .before .before .before .before .put-header .kept .0
+
+returns-2 : tie.Need-returns-2
+returns-2 c =
+    let at-run-lines = c .before .before in
+    let at-put-header = at-run-lines .before .before .before .before .before in
+    let start = at-put-header .before .before .before .before in
+    let a = start .args in (
+      rw (output-lines (a .input .now) (omega arith))
+          (after-header (a .output .now) _ _ _ _ _ (at-put-header .put-header .ensures .0) (at-put-header .put-header .ensures .1)
+          (at-run-lines .run-lines .ensures .0 .0) (at-run-lines .run-lines .ensures .0 .1)),
+      omega (arith, at-put-header .put-header .ensures .0, header-length, at-run-lines .run-lines .ensures .1),
+    )
+
+pub run-spec : {M : Type 1} → statement M
+run-spec =
+    tie.close
+    (tie.spec
+    put-header-requires
+    put-row-requires
+    same-length
+    returns
+    run-lines-requires
+    same-length-2
+    returns-2)

@@ -1,0 +1,61 @@
+use mathlib.Core.Path.{_∙_}
+use native.Mathlib.Omega.{arith}
+use Rattle.fields.specs.Fields.{pairBytes}
+use Rattle.fields.proofs.Pairs.{front-count, pairs-length}
+use Rattle.agreement.specs.Calls.{step}
+use Rattle.performing.proofs.Log.{own-log}
+use borrow.Author.Needs.{needs}
+use Rattle.performing.proofs.perform_external.Statement.{statement}
+use Rattle.performing.proofs.perform_external.Tie as tie
+
+slice-aggregate-pair-bytes : tie.Need-slice-aggregate-pair-bytes
+slice-aggregate-pair-bytes c = search needs
+
+pair-bytes-requires : tie.Need-pair-bytes-requires
+pair-bytes-requires c κs = search needs
+
+array-share-prefix-bytes : tie.Need-array-share-prefix-bytes
+array-share-prefix-bytes c =
+    let c4 = c .before .before .before .before in
+    let c9 = c4 .before .before .before .before .before in
+    front-count 80 _ (pairBytes (c9 .args .pairs .now)) _ (c4 .pair-bytes .ensures .0) (c4 .pair-bytes .ensures .1) (omega (arith, pairs-length (c9 .args .pairs .now), c9 .pre)) .0
+
+slice-aggregate-external-write-in-place : tie.Need-slice-aggregate-external-write-in-place
+slice-aggregate-external-write-in-place c =
+    let c5 = c .before .before .before .before .before in
+    let c10 = c5 .before .before .before .before .before in
+    front-count 80 _ (pairBytes (c10 .args .pairs .now)) _ (c5 .pair-bytes .ensures .0) (c5 .pair-bytes .ensures .1) (omega (arith, pairs-length (c10 .args .pairs .now), c10 .pre)) .1
+
+external-write-in-place-requires : tie.Need-external-write-in-place-requires
+external-write-in-place-requires c κs = search needs
+
+number-only-requires : tie.Need-number-only-requires
+number-only-requires c κs = search needs
+
+same-length : tie.Need-same-length
+same-length c = search needs
+
+same-length-2 : tie.Need-same-length-2
+same-length-2 c = search needs
+
+returns : tie.Need-returns
+unfolding step
+returns c cd array =
+    let c5 = c .before .before .before .before .before in
+    let c11 = c5 .before .before .before .before .before .before in
+    let c16 = c11 .before .before .before .before .before in
+    rw (c .number-only .ensures) (own-log _ _ _ _ (c5 .external-write-in-place .ensures cd array ∙ rw (front-count 80 _ (pairBytes (c16 .args .pairs .now)) _ (c11 .pair-bytes .ensures .0) (c11 .pair-bytes .ensures .1) (omega (arith, pairs-length (c16 .args .pairs .now), c16 .pre)) .2)))
+
+pub perform-external-spec : {M : Type 1} → statement M
+perform-external-spec =
+    tie.close
+    (tie.spec
+    slice-aggregate-pair-bytes
+    pair-bytes-requires
+    array-share-prefix-bytes
+    slice-aggregate-external-write-in-place
+    external-write-in-place-requires
+    number-only-requires
+    same-length
+    same-length-2
+    returns)

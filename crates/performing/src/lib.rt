@@ -1,0 +1,164 @@
+// One event line on the unit, by the calls in place.
+ghost use mathlib.Core.Path.{_≡_};
+ghost use mathlib.Core.Bool.{Bool};
+ghost use mathlib.Core.List.{List};
+ghost use Prim.Native.Nat.{ℕ, _≤_};
+ghost use lib.ListN.{length};
+ghost use Rattle.directory.specs.Steps.{lentDirectory};
+ghost use Rattle.memory.specs.Parity.{lentMemory};
+ghost use Rattle.refusal.specs.Call.{lentState, state};
+ghost use Rattle.agreement.specs.Calls.{external, read, step, write};
+ghost use Rattle.board.specs.Board.{boardAnswers};
+ghost use Rattle.fields.specs.Fields.{pairBytes};
+ghost use Rattle.performing.specs.Perform.{Leaves, lineDone, zeroLog};
+use access::CallResult;
+use access::number_only;
+use access::read_in_place;
+use access::write_in_place;
+use fields::pair_bytes;
+use lines::Event;
+use lines::scan;
+use masters::external_write_in_place;
+use steps_in_place::control_in_place;
+use steps_in_place::flush_in_place;
+use steps_in_place::reset_in_place;
+use steps_in_place::snoop_in_place;
+
+// The line's event with the board's answers, on a directory whose fields are lent. A malformed line answers 11.
+pub fn perform<'a>(
+    tags: &'a mut [u32; 512],
+    valid: &'a mut [bool; 512],
+    lru: &'a mut [u8; 128],
+    cd: &mut bool,
+    nw: &mut bool,
+    ram: &mut [u8],
+    parity: &mut [u8],
+    data: &mut [u8],
+    line: &[u8],
+) -> CallResult
+    ensures { λ r. ⌜ Leaves (lineDone (lentState (tags .entry) (valid .entry) (lru .entry) (now (cd .entry)) (now (nw .entry)) (ram .entry) (parity .entry) («data» .entry)) (now (line .entry)))
+        r (lentState (tags .exit) (valid .exit) (lru .exit) (now (cd .exit)) (now (nw .exit)) (ram .exit) (parity .exit) («data» .exit)) ⌝ }
+{
+    let event = scan(line);
+    match event {
+        Event::Malformed => number_only(11),
+        Event::Read(at, width, pcd) => {
+            perform_read(tags, valid, lru, cd, ram, parity, data, at, width, pcd)
+        }
+        Event::Write(at, size, value) => {
+            perform_write(tags, valid, lru, cd, nw, ram, parity, data, at, size, value)
+        }
+        Event::External(at, from) => {
+            perform_external(tags, valid, lru, nw, ram, parity, at, &line[from..])
+        }
+        Event::Snoop(at) => number_only(snoop_in_place(tags, valid, lru, *nw, at)),
+        Event::Flush => {
+            flush_in_place(valid);
+            number_only(0)
+        }
+        Event::Control(new_cd, new_nw) => number_only(control_in_place(cd, nw, new_cd, new_nw)),
+        Event::Reset => {
+            reset_in_place(tags, valid, lru, cd, nw);
+            number_only(0)
+        }
+    }
+}
+
+// A read with the board's answers and a log that is not shown.
+fn perform_read<'a>(
+    tags: &'a mut [u32; 512],
+    valid: &'a mut [bool; 512],
+    lru: &'a mut [u8; 128],
+    cd: &bool,
+    ram: &[u8],
+    parity: &[u8],
+    data: &mut [u8],
+    address: u32,
+    width: u32,
+    pcd: bool,
+) -> CallResult
+    ensures { λ r. ⌜ ((nw : Bool) → Leaves (step (lentState (tags .entry) (valid .entry) (lru .entry) (now (cd .entry)) nw (ram .entry) (parity .entry) («data» .entry)) (read address width pcd (boardAnswers address width) zeroLog))
+        r (lentState (tags .exit) (valid .exit) (lru .exit) (now (cd .entry)) nw (ram .entry) (parity .entry) («data» .exit))) ⌝ }
+{
+    let answers = board::board_answers(address, width);
+    let mut log = [0u32; 96];
+    read_in_place(
+        tags,
+        valid,
+        lru,
+        *cd,
+        ram,
+        parity,
+        data,
+        address,
+        width,
+        pcd,
+        &answers,
+        &mut log,
+    )
+}
+
+// A write with the board's answers and a log that is not shown.
+fn perform_write<'a>(
+    tags: &'a [u32; 512],
+    valid: &'a [bool; 512],
+    lru: &'a mut [u8; 128],
+    cd: &bool,
+    nw: &bool,
+    ram: &mut [u8],
+    parity: &mut [u8],
+    data: &mut [u8],
+    address: u32,
+    width: u32,
+    value: u32,
+) -> CallResult
+    ensures { λ r. ⌜ Leaves (step (lentState (tags .entry) (valid .entry) (lru .entry) (now (cd .entry)) (now (nw .entry)) (ram .entry) (parity .entry) («data» .entry)) (write address width value (boardAnswers address width) zeroLog))
+        r (lentState (tags .entry) (valid .entry) (lru .exit) (now (cd .entry)) (now (nw .entry)) (ram .exit) (parity .exit) («data» .exit)) ⌝ }
+{
+    let answers = board::board_answers(address, width);
+    let mut log = [0u32; 96];
+    write_in_place(
+        tags,
+        valid,
+        lru,
+        *cd,
+        *nw,
+        ram,
+        parity,
+        data,
+        address,
+        width,
+        value,
+        &answers,
+        &mut log,
+    )
+}
+
+// An external write of the bytes that the pairs say.
+fn perform_external<'a>(
+    tags: &'a [u32; 512],
+    valid: &'a mut [bool; 512],
+    lru: &'a [u8; 128],
+    nw: &bool,
+    ram: &mut [u8],
+    parity: &mut [u8],
+    address: u32,
+    pairs: &[u8],
+) -> CallResult
+    requires { ⌜ length (now pairs) ≤ 80 ⌝ }
+    ensures { λ r. ⌜ ((cd : Bool) (array : List ℕ) → Leaves (step (state (lentDirectory (tags .entry) (valid .entry) (lru .entry) cd (now (nw .entry))) (lentMemory (ram .entry) (parity .entry)) array) (external address (pairBytes (now (pairs .entry)))))
+        r (state (lentDirectory (tags .entry) (valid .exit) (lru .entry) cd (now (nw .entry))) (lentMemory (ram .exit) (parity .exit)) array)) ⌝ }
+{
+    let mut bytes = [0u8; 80];
+    let count = pair_bytes(pairs, &mut bytes);
+    number_only(external_write_in_place(
+        tags,
+        valid,
+        lru,
+        *nw,
+        ram,
+        parity,
+        address,
+        &bytes[..count],
+    ))
+}
