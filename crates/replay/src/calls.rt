@@ -10,6 +10,7 @@ use crate::script::letter_of;
 use crate::script::number;
 use crate::stores::store_line;
 use directory::Directory;
+use directory::Outcome;
 
 // Address and width of an access, then PCD or the value; and the place after them.
 struct Access {
