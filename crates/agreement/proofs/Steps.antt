@@ -10,13 +10,13 @@ use Rattle.laws.proofs.Tests.{differ, cond-true, cond-false, by-test, same-or}
 use Rattle.directory.specs.declared.steps.Directory.{Directory}
 use Rattle.ways.specs.declared.ways.Found.{Found}
 use Rattle.ways.specs.declared.ways.Found.the-variants.{At, Nothing}
-use Rattle.ways.specs.Address.{setOf, tagOf}
+use Rattle.ways.specs.Address.{setOf, tagOf, dataOffset}
 use Rattle.directory.specs.Steps.{lookupOf, afterReset, afterFlush, afterControl, afterSnoop, controlRefused}
 use Rattle.directory.specs.WellFormed.{WellFormed}
 use Rattle.directory.proofs.Laws.{lookup-at, reset-none, reset-control, reset-well-formed, flush-none, flush-control, flush-well-formed, control-held, control-set, control-well-formed, control-accepted, control-refused, snoop-well-formed, snoop-accepted}
 use Rattle.words.specs.Bytes.{bytesAt, valueOf}
 use Rattle.bus.specs.Groups.{groupCount}
-use Rattle.doubleword.specs.Doubleword.{dataOffset, doublewordsOf}
+use Rattle.doubleword.specs.Doubleword.{doublewordsOf}
 use Rattle.refusal.specs.Outcome.{outcome}
 use Rattle.access.specs.Access.{State, after, refused, accepted, operandOf, readNumber, writeNumber, readOne, writeOne, readAll, writeAll}
 use Rattle.masters.specs.Masters.{externalWriteNumber}

@@ -2,9 +2,9 @@
 ghost use mathlib.Core.Path.{_≡_};
 ghost use mathlib.Core.Bool.{Bool};
 ghost use mathlib.Core.List.{List};
-ghost use Prim.Native.Nat.{ℕ, _+_, _≤_, _<_};
+ghost use Prim.Native.Nat.{ℕ};
 ghost use Rattle.directory.specs.Steps.{directoryOf};
-ghost use Rattle.doubleword.specs.Doubleword.{changed, dataOffset};
+ghost use Rattle.doubleword.specs.Doubleword.{changed};
 ghost use Rattle.doubleword.specs.DoublewordCode.{BelowFour, NoFill};
 use directory::Directory;
 
@@ -21,14 +21,6 @@ pub struct Wanted {
     pub from: usize,
     pub count: usize,
     pub place: usize,
-}
-
-// Where the data array holds the line of an address, in a way.
-pub fn data_offset(line: u32, way: usize) -> usize
-    requires { ⌜ way < 4 ⌝ }
-    ensures { λ r. ⌜ (r ≡ dataOffset line way) × (r + 16 ≤ 8192) ⌝ }
-{
-    (ways::set_of(line) * 4 + way) * 16
 }
 
 // The directory after its change: the one step of a doubleword. It copies the directory, so the calls do not make it for `Unchanged`.

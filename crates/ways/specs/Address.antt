@@ -14,3 +14,7 @@ byteOf address = address % 16
 -- "A line is named by set and way 0 to 3": its place among the 512 tags and valid marks.
 abbrev pub lineIndex : ℕ → ℕ → ℕ
 lineIndex set way = set * 4 + way
+
+-- "Its bytes stand in the lent data array from (set × 4 + way) × 16 (H)."
+abbrev pub dataOffset : ℕ → ℕ → ℕ
+dataOffset line way = lineIndex (setOf line) way * 16

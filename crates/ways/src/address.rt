@@ -1,6 +1,7 @@
-// The parts of an address.
+// The parts of an address, and where the data array holds its line.
 ghost use mathlib.Core.Path.{_≡_};
-ghost use Rattle.ways.specs.Address.{setOf, tagOf};
+ghost use Prim.Native.Nat.{_+_, _≤_, _<_};
+ghost use Rattle.ways.specs.Address.{dataOffset, setOf, tagOf};
 
 pub fn tag_of(address: u32) -> u32
     ensures { λ r. ⌜ r ≡ tagOf address ⌝ }
@@ -12,4 +13,12 @@ pub fn set_of(address: u32) -> usize
     ensures { λ r. ⌜ r ≡ setOf address ⌝ }
 {
     (address / 16 % 128) as usize
+}
+
+// Where the data array holds the line of an address, in a way.
+pub fn data_offset(line: u32, way: usize) -> usize
+    requires { ⌜ way < 4 ⌝ }
+    ensures { λ r. ⌜ (r ≡ dataOffset line way) × (r + 16 ≤ 8192) ⌝ }
+{
+    (set_of(line) * 4 + way) * 16
 }

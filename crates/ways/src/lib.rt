@@ -5,6 +5,7 @@ mod lru;
 mod state;
 mod ways;
 
+pub use address::data_offset;
 pub use address::set_of;
 pub use address::tag_of;
 pub use lru::lru_after;

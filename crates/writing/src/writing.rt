@@ -16,9 +16,9 @@ ghost use Rattle.writing.specs.WritingCode.{Writes};
 use cycles::write_cycles;
 use doubleword::Change;
 use doubleword::Wanted;
-use doubleword::data_offset;
 use memory::store_lanes;
 use ways::Found;
+use ways::data_offset;
 use words::put_lanes;
 
 // What a doubleword of a write did: the directory's change, the count of cycles.
