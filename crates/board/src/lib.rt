@@ -1,7 +1,7 @@
 // The board table: the board's answers for an access.
 ghost use mathlib.Core.Path.{_≡_};
 ghost use Rattle.board.specs.Board.{answerAt, boardAnswers, upperAddress};
-use refusal::bad_width;
+use bus::bad_width;
 
 // The answer of each 1 MiB block.
 const BLOCK_ANSWERS: [u8; 16] = [1, 1, 1, 1, 1, 1, 1, 1, 5, 5, 5, 5, 4, 4, 2, 3];

@@ -4,7 +4,9 @@ ghost use mathlib.Core.Bool.{not};
 ghost use Prim.Native.Nat.{_+_, _^_};
 ghost use lib.Dec.{eqb, ltb};
 ghost use lib.ListN.{length};
-ghost use Rattle.refusal.specs.Refusal.{anyAbove, badRam, badWidth, externalNumber, lentNumber, memoryNumber, orElse, valueNumber, viewInputNumber, when};
+ghost use Rattle.bus.specs.Groups.{badWidth};
+ghost use Rattle.refusal.specs.Refusal.{anyAbove, badRam, externalNumber, lentNumber, memoryNumber, orElse, valueNumber, viewInputNumber, when};
+use bus::bad_width;
 
 // The first of two numbers that is met.
 pub fn or_else(number: u32, next: u32) -> u32
@@ -30,12 +32,6 @@ pub fn memory_number(ram: usize, parity: usize) -> u32
         return 2;
     }
     0
-}
-
-pub fn bad_width(width: u32) -> bool
-    ensures { λ r. ⌜ r ≡ badWidth width ⌝ }
-{
-    (width != 1) & (width != 2) & (width != 4)
 }
 
 fn any_above(limit: u8, answers: &[u8]) -> bool
