@@ -1,5 +1,5 @@
 -- Document 01, 'One doubleword': the widths of an access, and the groups that the board's answers come in.
-use Prim.Native.Nat.{ℕ}
+use Prim.Native.Nat.{ℕ, _*_}
 use mathlib.Core.Bool.{Bool, not, _&&_}
 use lib.Dec.{eqb}
 
@@ -13,3 +13,14 @@ groupSize = 16
 
 abbrev pub groupCount : ℕ
 groupCount = 2
+
+abbrev pub answerCount : ℕ
+answerCount = groupSize * groupCount
+
+-- "6. Not 32 answers, or one above 7."
+abbrev pub highestAnswer : ℕ
+highestAnswer = 7
+
+-- "7. Log below 96 words.": three for each answer.
+abbrev pub logSize : ℕ
+logSize = 3 * answerCount

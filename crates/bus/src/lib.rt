@@ -6,4 +6,8 @@ mod sizes;
 pub use cycle::moved_lanes;
 pub use record::flags_of;
 pub use record::put_record;
+pub use sizes::ANSWERS;
+pub use sizes::GROUP_SIZE;
+pub use sizes::HIGHEST_ANSWER;
+pub use sizes::LOG_WORDS;
 pub use sizes::bad_width;

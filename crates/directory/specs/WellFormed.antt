@@ -3,6 +3,7 @@ use Prim.Native.Nat.{ℕ, _≤_, _<_}
 use mathlib.Core.Path.{_≡_}
 use mathlib.Core.Bool.{true}
 use lib.ListN.{length}
+use Rattle.ways.specs.Address.{setCount, wayCount, lineCount}
 use Rattle.directory.specs.declared.steps.Directory.{Directory}
 use Rattle.directory.specs.Steps.{validAt, tagAt, lruAt}
 
@@ -16,17 +17,17 @@ Same r v s w = (r ≡ s) × (v ≡ w)
 
 -- A set that meets none of 21, 22 and 23.
 pub record GoodSet (d : Directory) (s : ℕ) : Type 0 where
-  pub apart : (w v tag : ℕ) → w < 4 → v < 4 → Held d s w tag → Held d s v tag → w ≡ v
-  pub tags : (w tag : ℕ) → w < 4 → Held d s w tag → tag ≤ 2097151
+  pub apart : (w v tag : ℕ) → w < wayCount → v < wayCount → Held d s w tag → Held d s v tag → w ≡ v
+  pub tags : (w tag : ℕ) → w < wayCount → Held d s w tag → tag ≤ 2097151
   pub lru : lruAt d s ≤ 7
 
 -- The lengths of a directory's arrays.
 pub record Sized (d : Directory) : Type 0 where
-  pub tags : length (d .tags) ≡ 512
-  pub valid : length (d .valid) ≡ 512
-  pub lru : length (d .lru) ≡ 128
+  pub tags : length (d .tags) ≡ lineCount
+  pub valid : length (d .valid) ≡ lineCount
+  pub lru : length (d .lru) ≡ setCount
 
 -- Whole arrays, and every set good.
 pub record WellFormed (d : Directory) : Type 0 where
   pub sized : Sized d
-  pub sets : (s : ℕ) → s < 128 → GoodSet d s
+  pub sets : (s : ℕ) → s < setCount → GoodSet d s

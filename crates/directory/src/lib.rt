@@ -4,3 +4,5 @@ mod steps;
 
 pub use steps::Directory;
 pub use steps::DirectoryResult;
+pub use ways::LINES;
+pub use ways::SETS;

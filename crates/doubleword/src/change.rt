@@ -7,6 +7,8 @@ ghost use Rattle.directory.specs.Steps.{directoryOf};
 ghost use Rattle.doubleword.specs.Doubleword.{changed};
 ghost use Rattle.doubleword.specs.DoublewordCode.{BelowFour, NoFill};
 use directory::Directory;
+use ways::LINES;
+use ways::SETS;
 
 // What a doubleword does to the directory: nothing, a use of a way, or a kept fill of a way.
 pub enum Change {
@@ -37,9 +39,9 @@ pub fn changed_by(directory: Directory, line: u32, change: Change) -> Directory
 
 // The same change of lent arrays, in place.
 pub fn change_in_place(
-    tags: &mut [u32; 512],
-    valid: &mut [bool; 512],
-    lru: &mut [u8; 128],
+    tags: &mut [u32; LINES],
+    valid: &mut [bool; LINES],
+    lru: &mut [u8; SETS],
     line: u32,
     change: Change,
 )
@@ -64,7 +66,7 @@ pub fn change_in_place(
 }
 
 // The same of lent LRU numbers alone, for a change that is no fill.
-pub fn change_lru_in_place(lru: &mut [u8; 128], line: u32, change: Change)
+pub fn change_lru_in_place(lru: &mut [u8; SETS], line: u32, change: Change)
     requires { ⌜ BelowFour change × NoFill change ⌝ }
     ensures { λ _. ⌜ ((tags : List ℕ) (valid : List Bool) (cd nw : Bool) → directoryOf tags valid (now (lru .exit)) cd nw
         ≡ changed (directoryOf tags valid (now (lru .entry)) cd nw) line change) ⌝ }

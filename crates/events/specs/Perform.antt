@@ -1,9 +1,9 @@
 -- Document 01, 'Board table and program': what the event of a line does, by the calls' own definitions.
-use Prim.Native.Nat.{ℕ, _*_}
+use Prim.Native.Nat.{ℕ}
 use mathlib.Core.List.{List}
 use lib.ListN.{drop, replicate}
 use Rattle.memory.specs.Parity.{Memory}
-use Rattle.bus.specs.Groups.{groupSize, groupCount}
+use Rattle.bus.specs.Groups.{logSize}
 use Rattle.refusal.specs.declared.outcome.Outcome.{Outcome}
 use Rattle.refusal.specs.Outcome.{outcome}
 use Rattle.access.specs.Access.{State, After, readCall, writeCall}
@@ -29,7 +29,7 @@ directoryEvent s o = performed o (s .memory) (s .array)
 
 -- Each read and write has a log of its own, which no row shows.
 abbrev pub zeroLog : List ℕ
-zeroLog = replicate (3 * (groupSize * groupCount)) 0
+zeroLog = replicate logSize 0
 
 -- A read or a write: its log is left out.
 abbrev pub accessEvent : After → Performed

@@ -2,4 +2,6 @@
 mod performing;
 mod running;
 
+pub use running::LONGEST_INPUT;
+pub use running::LONGEST_OUTPUT;
 pub use running::run;

@@ -10,25 +10,30 @@ ghost use Rattle.access.specs.Access.{readCall, state, writeCall};
 ghost use Rattle.masters.specs.Masters.{externalCall, written};
 ghost use Rattle.board.specs.Board.{boardAnswers};
 ghost use Rattle.fields.specs.Fields.{pairBytes};
+ghost use Rattle.lines.specs.Scan.{longestLine};
 ghost use Rattle.events.specs.Perform.{accessEvent, lineDone, performed, zeroLog};
 use access::CallResult;
 use access::number_only;
 use access::read_in_place;
 use access::write_in_place;
+use bus::LOG_WORDS;
 use fields::pair_bytes;
 use lines::Event;
+use lines::LONGEST_LINE;
 use lines::scan;
 use masters::external_write_in_place;
 use steps_in_place::control_in_place;
 use steps_in_place::flush_in_place;
 use steps_in_place::reset_in_place;
 use steps_in_place::snoop_in_place;
+use ways::LINES;
+use ways::SETS;
 
 // The line's event with the board's answers, on a directory whose fields are lent. A malformed line answers 11.
 pub fn perform<'a>(
-    tags: &'a mut [u32; 512],
-    valid: &'a mut [bool; 512],
-    lru: &'a mut [u8; 128],
+    tags: &'a mut [u32; LINES],
+    valid: &'a mut [bool; LINES],
+    lru: &'a mut [u8; SETS],
     cd: &mut bool,
     nw: &mut bool,
     ram: &mut [u8],
@@ -116,9 +121,9 @@ fn malformed() -> CallResult
 
 // A read with the board's answers and a log that is not shown.
 fn perform_read<'a>(
-    tags: &'a mut [u32; 512],
-    valid: &'a mut [bool; 512],
-    lru: &'a mut [u8; 128],
+    tags: &'a mut [u32; LINES],
+    valid: &'a mut [bool; LINES],
+    lru: &'a mut [u8; SETS],
     cd: bool,
     ram: &[u8],
     parity: &[u8],
@@ -132,7 +137,7 @@ fn perform_read<'a>(
         ≡ accessEvent (readCall (state (directoryOf (now (tags .entry)) (now (valid .entry)) (now (lru .entry)) cd nw) (memory (now (ram .entry)) (now (parity .entry))) (now («data» .entry))) address width pcd (boardAnswers address width) zeroLog)) ⌝ }
 {
     let answers = board::board_answers(address, width);
-    let mut log = [0u32; 96];
+    let mut log = [0u32; LOG_WORDS];
     read_in_place(
         tags,
         valid,
@@ -151,9 +156,9 @@ fn perform_read<'a>(
 
 // A write with the board's answers and a log that is not shown.
 fn perform_write<'a>(
-    tags: &'a mut [u32; 512],
-    valid: &'a mut [bool; 512],
-    lru: &'a mut [u8; 128],
+    tags: &'a mut [u32; LINES],
+    valid: &'a mut [bool; LINES],
+    lru: &'a mut [u8; SETS],
     cd: bool,
     nw: bool,
     ram: &mut [u8],
@@ -168,7 +173,7 @@ fn perform_write<'a>(
         ≡ accessEvent (writeCall (state (directoryOf (now (tags .entry)) (now (valid .entry)) (now (lru .entry)) cd nw) (memory (now (ram .entry)) (now (parity .entry))) (now («data» .entry))) address width value (boardAnswers address width) zeroLog) ⌝ }
 {
     let answers = board::board_answers(address, width);
-    let mut log = [0u32; 96];
+    let mut log = [0u32; LOG_WORDS];
     write_in_place(
         tags,
         valid,
@@ -188,20 +193,20 @@ fn perform_write<'a>(
 
 // An external write of the bytes that the pairs say.
 fn perform_external<'a>(
-    tags: &'a [u32; 512],
-    valid: &'a mut [bool; 512],
-    lru: &'a [u8; 128],
+    tags: &'a [u32; LINES],
+    valid: &'a mut [bool; LINES],
+    lru: &'a [u8; SETS],
     nw: bool,
     ram: &mut [u8],
     parity: &mut [u8],
     address: u32,
     pairs: &[u8],
 ) -> u32
-    requires { ⌜ length (now pairs) ≤ 80 ⌝ }
+    requires { ⌜ length (now pairs) ≤ longestLine ⌝ }
     ensures { λ r. ⌜ ((cd : Bool) → written (outcome (directoryOf (now (tags .entry)) (now (valid .exit)) (now (lru .entry)) cd nw) r 0 0) (memory (now (ram .exit)) (now (parity .exit)))
         ≡ externalCall (directoryOf (now (tags .entry)) (now (valid .entry)) (now (lru .entry)) cd nw) (memory (now (ram .entry)) (now (parity .entry))) address (pairBytes (now (pairs .entry)))) ⌝ }
 {
-    let mut bytes = [0u8; 80];
+    let mut bytes = [0u8; LONGEST_LINE];
     let count = pair_bytes(pairs, &mut bytes);
     external_write_in_place(tags, valid, lru, nw, ram, parity, address, &bytes[..count])
 }

@@ -10,12 +10,14 @@ ghost use Rattle.refusal.specs.Outcome.{outcome};
 ghost use Rattle.access.specs.Access.{after, readCall, state, writeCall};
 ghost use Rattle.masters.specs.Masters.{externalCall, written};
 use access::CallResult;
+use directory::LINES;
+use directory::SETS;
 
 #[no_mangle]
 pub extern "C" fn unit486_read_in_place<'a>(
-    tags: &'a mut [u32; 512],
-    valid: &'a mut [bool; 512],
-    lru: &'a mut [u8; 128],
+    tags: &'a mut [u32; LINES],
+    valid: &'a mut [bool; LINES],
+    lru: &'a mut [u8; SETS],
     cd: bool,
     ram: &[u8],
     parity: &[u8],
@@ -48,9 +50,9 @@ pub extern "C" fn unit486_read_in_place<'a>(
 
 #[no_mangle]
 pub extern "C" fn unit486_write_in_place<'a>(
-    tags: &'a [u32; 512],
-    valid: &'a [bool; 512],
-    lru: &'a mut [u8; 128],
+    tags: &'a [u32; LINES],
+    valid: &'a [bool; LINES],
+    lru: &'a mut [u8; SETS],
     cd: bool,
     nw: bool,
     ram: &mut [u8],
@@ -85,9 +87,9 @@ pub extern "C" fn unit486_write_in_place<'a>(
 
 #[no_mangle]
 pub extern "C" fn unit486_external_write_in_place<'a>(
-    tags: &'a [u32; 512],
-    valid: &'a mut [bool; 512],
-    lru: &'a [u8; 128],
+    tags: &'a [u32; LINES],
+    valid: &'a mut [bool; LINES],
+    lru: &'a [u8; SETS],
     nw: bool,
     ram: &mut [u8],
     parity: &mut [u8],
@@ -102,9 +104,9 @@ pub extern "C" fn unit486_external_write_in_place<'a>(
 
 #[no_mangle]
 pub extern "C" fn unit486_snoop_in_place<'a>(
-    tags: &'a [u32; 512],
-    valid: &'a mut [bool; 512],
-    lru: &'a [u8; 128],
+    tags: &'a [u32; LINES],
+    valid: &'a mut [bool; LINES],
+    lru: &'a [u8; SETS],
     nw: bool,
     address: u32,
 ) -> u32
@@ -115,7 +117,7 @@ pub extern "C" fn unit486_snoop_in_place<'a>(
 }
 
 #[no_mangle]
-pub extern "C" fn unit486_flush_in_place(valid: &mut [bool; 512])
+pub extern "C" fn unit486_flush_in_place(valid: &mut [bool; LINES])
     ensures { λ _. ⌜ ((tags lru : List ℕ) (cd nw : Bool) → directoryOf tags (now (valid .exit)) lru cd nw
         ≡ afterFlush (directoryOf tags (now (valid .entry)) lru cd nw)) ⌝ }
 {
@@ -137,9 +139,9 @@ pub extern "C" fn unit486_control_in_place(
 
 #[no_mangle]
 pub extern "C" fn unit486_reset_in_place(
-    tags: &mut [u32; 512],
-    valid: &mut [bool; 512],
-    lru: &mut [u8; 128],
+    tags: &mut [u32; LINES],
+    valid: &mut [bool; LINES],
+    lru: &mut [u8; SETS],
     cd: &mut bool,
     nw: &mut bool,
 )

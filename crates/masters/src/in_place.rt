@@ -6,6 +6,8 @@ ghost use Rattle.directory.specs.Steps.{directoryOf};
 ghost use Rattle.memory.specs.Parity.{memory};
 ghost use Rattle.refusal.specs.Outcome.{outcome};
 ghost use Rattle.masters.specs.Masters.{externalCall, written};
+use directory::LINES;
+use directory::SETS;
 use memory::store_bytes;
 use refusal::external_number;
 use refusal::memory_number;
@@ -13,9 +15,9 @@ use refusal::states_number;
 use steps_in_place::invalidate_in_place;
 
 pub fn external_write_in_place<'a>(
-    tags: &'a [u32; 512],
-    valid: &'a mut [bool; 512],
-    lru: &'a [u8; 128],
+    tags: &'a [u32; LINES],
+    valid: &'a mut [bool; LINES],
+    lru: &'a [u8; SETS],
     nw: bool,
     ram: &mut [u8],
     parity: &mut [u8],
