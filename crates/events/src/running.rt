@@ -4,6 +4,7 @@ ghost use Prim.Native.Nat.{_+_, _*_, _≤_};
 ghost use lib.ListN.{length};
 ghost use lib.Seq.{sets};
 ghost use Rattle.fields.specs.Fields.{linesOf};
+ghost use Rattle.rows.specs.Row.{header};
 ghost use Rattle.events.specs.Output.{longestInput, longestOutput, outputOf, rowsOf, start};
 use crate::performing::perform;
 use directory::Directory;
@@ -28,14 +29,14 @@ pub fn run(input: &[u8], output: &mut [u8]) -> usize
 {
     let at = put_header(output);
     if LONGEST_INPUT < input.len() {
-        return put_row(output, at, 0, 12, 0, 0);
+        return at + put_row(output, at, 0, 12, 0, 0);
     }
     run_lines(input, output, at)
 }
 
 // Puts the rows of the input's lines at a place of output, as far as output goes, and answers the place after them.
 fn run_lines(input: &[u8], output: &mut [u8], from: usize) -> usize
-    requires { ⌜ (length (now input) ≤ longestInput) × (from ≤ 65536) ⌝ }
+    requires { ⌜ (length (now input) ≤ longestInput) × (from ≤ length header) ⌝ }
     ensures { λ r. ⌜ (r ≡ from + length (rowsOf start 1 (linesOf (now (input .entry))))) × (now (output .exit) ≡ sets (now (output .entry)) from (rowsOf start 1 (linesOf (now (input .entry))))) ⌝ }
     ensures { λ r. ⌜ r ≤ from + 44 * (longestInput + 1) ⌝ }
 {
@@ -65,7 +66,7 @@ fn run_lines(input: &[u8], output: &mut [u8], from: usize) -> usize
             &mut data,
             &rest[..end],
         );
-        at = put_row(output, at, event, done.number, done.value, done.cycles);
+        at += put_row(output, at, event, done.number, done.value, done.cycles);
         event += 1;
         place = place + end + 1;
     }
