@@ -4,24 +4,26 @@ use mathlib.Core.Path.{_≡_}
 use mathlib.Core.Bool.{false}
 use mathlib.Core.List.{List, [], _∷_}
 use lib.ListN.{take, replicate}
+use Rattle.ways.specs.Address.{dataSize}
 use Rattle.directory.specs.declared.steps.Directory.{Directory}
 use Rattle.ways.specs.declared.ways.Found.{Found}
 use Rattle.ways.specs.declared.ways.Found.the-variants.{At}
 use Rattle.directory.specs.Steps.{lookupOf, afterReset, afterControl}
 use Rattle.memory.specs.Parity.{memory}
+use Rattle.bus.specs.Groups.{answerCount, logSize}
 use Rattle.refusal.specs.Call.{State, state, After}
 use Rattle.access.specs.Access.{readCall, writeCall}
 
 -- A unit after a reset and a control call with CD = NW = 0, with so many zero bytes of RAM and of parity.
 abbrev pub enabled : ℕ → ℕ → State
-enabled ram parity = state (afterControl afterReset false false) (memory (replicate ram 0) (replicate parity 0)) (replicate 8192 0)
+enabled ram parity = state (afterControl afterReset false false) (memory (replicate ram 0) (replicate parity 0)) (replicate dataSize 0)
 
 -- The same answer throughout, and a log of 96 zero words.
 abbrev pub always : ℕ → List ℕ
-always answer = replicate 32 answer
+always answer = replicate answerCount answer
 
 abbrev pub benchLog : List ℕ
-benchLog = replicate 96 0
+benchLog = replicate logSize 0
 
 -- A read and a write of such a unit with 32 bytes of RAM.
 abbrev pub benchRead : ℕ → ℕ → List ℕ → After
@@ -39,7 +41,7 @@ abbrev pub afterReads : Directory → List ℕ → Directory
 afterReads d [] = d
 afterReads d (a ∷ rest) =
     afterReads
-    (readCall (state d (memory (replicate 10256 0) (replicate 2564 0)) (replicate 8192 0)) a 4 false (always 1) benchLog .outcome .directory)
+    (readCall (state d (memory (replicate 10256 0) (replicate 2564 0)) (replicate dataSize 0)) a 4 false (always 1) benchLog .outcome .directory)
     rest
 
 -- "0, 800, 1000, 1800, 2000 (hex)", and the sixth at 2800.

@@ -13,12 +13,14 @@ use doubleword::change_in_place;
 use reading::read_next;
 use reading::with_part;
 use refusal::read_number;
+use ways::LINES;
+use ways::SETS;
 
 // The doublewords of a read whose number is 0.
 fn read_accepted<'a>(
-    tags: &'a mut [u32; 512],
-    valid: &'a mut [bool; 512],
-    lru: &'a mut [u8; 128],
+    tags: &'a mut [u32; LINES],
+    valid: &'a mut [bool; LINES],
+    lru: &'a mut [u8; SETS],
     cd: bool,
     ram: &[u8],
     parity: &[u8],
@@ -62,9 +64,9 @@ fn read_accepted<'a>(
 }
 
 pub fn read_in_place<'a>(
-    tags: &'a mut [u32; 512],
-    valid: &'a mut [bool; 512],
-    lru: &'a mut [u8; 128],
+    tags: &'a mut [u32; LINES],
+    valid: &'a mut [bool; LINES],
+    lru: &'a mut [u8; SETS],
     cd: bool,
     ram: &[u8],
     parity: &[u8],

@@ -9,13 +9,15 @@ use crate::result::number_only;
 use doubleword::AccessCursor;
 use doubleword::change_lru_in_place;
 use refusal::write_number;
+use ways::LINES;
+use ways::SETS;
 use writing::write_next;
 
 // The doublewords of a write whose number is 0.
 fn write_accepted<'a>(
-    tags: &'a [u32; 512],
-    valid: &'a [bool; 512],
-    lru: &'a mut [u8; 128],
+    tags: &'a [u32; LINES],
+    valid: &'a [bool; LINES],
+    lru: &'a mut [u8; SETS],
     cd: bool,
     nw: bool,
     ram: &mut [u8],
@@ -59,9 +61,9 @@ fn write_accepted<'a>(
 }
 
 pub fn write_in_place<'a>(
-    tags: &'a [u32; 512],
-    valid: &'a [bool; 512],
-    lru: &'a mut [u8; 128],
+    tags: &'a [u32; LINES],
+    valid: &'a [bool; LINES],
+    lru: &'a mut [u8; SETS],
     cd: bool,
     nw: bool,
     ram: &mut [u8],

@@ -10,13 +10,12 @@ use lib.ListN.{length, getD}
 use lib.Seq.{sets, length-sets}
 use Rattle.laws.proofs.Tests.{same-or}
 use Rattle.directory.specs.declared.steps.Directory.{Directory}
-use Rattle.ways.specs.Address.{setOf, tagOf, lineIndex}
+use Rattle.ways.specs.Address.{setOf, tagOf, lineIndex, dataOffset}
 use Rattle.directory.specs.Steps.{afterFill}
 use Rattle.directory.specs.WellFormed.{Held, Same, Sized, Apart}
 use Rattle.directory.proofs.Laws.{fill-held}
 use Rattle.words.specs.Bytes.{bytesAt}
 use Rattle.memory.specs.Parity.{stored}
-use Rattle.doubleword.specs.Doubleword.{dataOffset}
 use Rattle.refusal.specs.Call.{State, state}
 use Rattle.words.proofs.Places.{sets-below, sets-above, sets-in}
 use Rattle.words.proofs.Spans.{bytes-same}

@@ -10,7 +10,7 @@ use Rattle.laws.proofs.Tests.{by-test, same-or}
 use Rattle.directory.specs.declared.steps.Directory.{Directory}
 use Rattle.ways.specs.declared.ways.Found.{Found}
 use Rattle.ways.specs.declared.ways.Found.the-variants.{At, Nothing}
-use Rattle.ways.specs.Address.{setOf}
+use Rattle.ways.specs.Address.{setOf, dataOffset}
 use Rattle.directory.specs.Steps.{lookupOf, victimOf, stateNumberOf, afterReset, afterUse, afterSnoop, controlRefused}
 use Rattle.directory.specs.WellFormed.{WithinLimits}
 use Rattle.ways.proofs.FourWays.{victim-below}
@@ -19,7 +19,7 @@ use Rattle.words.specs.Bytes.{bytesAt}
 use Rattle.memory.specs.Parity.{Memory, Agrees, stored}
 use Rattle.memory.proofs.Bits.{stored-lengths}
 use Rattle.bus.specs.Groups.{groupCount}
-use Rattle.doubleword.specs.Doubleword.{Doubleword, Done, doublewordsOf, dataOffset, changed}
+use Rattle.doubleword.specs.Doubleword.{Doubleword, Done, doublewordsOf, changed}
 use Rattle.reading.specs.Reading.{keptChange, keptArray, readHit, readMiss, settled, readDone}
 use Rattle.writing.specs.Writing.{writeThrough, hitArray, writeDone}
 use Rattle.refusal.specs.Refusal.{orElse, lentNumber, argumentNumber, memoryNumber, externalNumber}

@@ -15,7 +15,8 @@ use Rattle.directory.proofs.SetState.{well-formed-zero}
 use Rattle.refusal.specs.Call.{State}
 use Rattle.access.specs.Access.{readNumber, writeNumber}
 use Rattle.masters.specs.Masters.{externalWriteNumber}
-use Rattle.refusal.specs.Refusal.{when, orElse, anyAbove, ramNumber, memoryNumber, arrayNumber, lentNumber, badWidth, badAnswers, argumentNumber, valueNumber, externalNumber, viewAddressNumber, viewInputNumber, statesNumberIn, statesNumberOf}
+use Rattle.bus.specs.Groups.{badWidth}
+use Rattle.refusal.specs.Refusal.{when, orElse, anyAbove, ramNumber, memoryNumber, arrayNumber, lentNumber, badAnswers, argumentNumber, valueNumber, externalNumber, viewAddressNumber, viewInputNumber, statesNumberIn, statesNumberOf}
 use Rattle.refusal.proofs.Accepted.{zero-or, first-or, GoodMemory}
 use Rattle.views.specs.View.{viewNumberIn}
 use Rattle.agreement.specs.Calls.{Call, read, write, external, snoop, flush, control, view, reset, viewNumberOf}

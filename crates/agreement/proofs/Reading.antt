@@ -11,7 +11,7 @@ use Rattle.laws.proofs.Tests.{both, differ, by-test}
 use Rattle.directory.specs.declared.steps.Directory.{Directory}
 use Rattle.ways.specs.declared.ways.Found.{Found}
 use Rattle.ways.specs.declared.ways.Found.the-variants.{At, Nothing}
-use Rattle.ways.specs.Address.{setOf, tagOf}
+use Rattle.ways.specs.Address.{setOf, tagOf, dataOffset}
 use Rattle.directory.specs.Steps.{lookupOf, victimOf, afterUse, afterFill}
 use Rattle.ways.proofs.FourWays.{victim-below}
 use Rattle.directory.proofs.Laws.{lookup-at, use-held, use-control, use-apart, fill-control, fill-address-apart}
@@ -19,7 +19,7 @@ use Rattle.words.specs.Bytes.{bytesAt}
 use Rattle.bus.specs.Bus.{ken, burst, lastAnswer}
 use Rattle.bus.specs.Record.{plainKind, fillKind}
 use Rattle.doubleword.specs.declared.change.Change.the-variants.{Unchanged, Fill}
-use Rattle.doubleword.specs.Doubleword.{Doubleword, Done, changed, dataOffset, plainCycles}
+use Rattle.doubleword.specs.Doubleword.{Doubleword, Done, changed, plainCycles}
 use Rattle.reading.specs.Reading.{fillCycles, bufferOf, readHit, plainMiss, fillMiss, readMiss, settled, readDone}
 use Rattle.refusal.specs.Call.{State, state}
 use Rattle.access.specs.Access.{Progress, readOne, next, allOf}

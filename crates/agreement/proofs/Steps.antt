@@ -10,13 +10,13 @@ use Rattle.laws.proofs.Tests.{differ, cond-true, cond-false, by-test, same-or}
 use Rattle.directory.specs.declared.steps.Directory.{Directory}
 use Rattle.ways.specs.declared.ways.Found.{Found}
 use Rattle.ways.specs.declared.ways.Found.the-variants.{At, Nothing}
-use Rattle.ways.specs.Address.{setOf, tagOf}
+use Rattle.ways.specs.Address.{setOf, tagOf, dataOffset}
 use Rattle.directory.specs.Steps.{lookupOf, afterReset, afterFlush, afterControl, afterSnoop, controlRefused}
 use Rattle.directory.specs.WellFormed.{Apart}
 use Rattle.directory.proofs.Laws.{lookup-at, reset-none, reset-control, reset-apart, flush-none, flush-control, flush-apart, control-held, control-set, control-apart, control-accepted, control-refused, snoop-accepted}
 use Rattle.words.specs.Bytes.{bytesAt, valueOf}
 use Rattle.bus.specs.Groups.{groupCount}
-use Rattle.doubleword.specs.Doubleword.{dataOffset, doublewordsOf}
+use Rattle.doubleword.specs.Doubleword.{doublewordsOf}
 use Rattle.directory.specs.Outcome.{outcome}
 use Rattle.refusal.specs.Call.{State, state, After, onDirectory, refused, nextState}
 use Rattle.access.specs.Access.{operandOf, readNumber, writeNumber, readOne, writeOne, readAll, writeAll}

@@ -10,12 +10,12 @@ use Rattle.laws.proofs.Tests.{both, by-test}
 use Rattle.directory.specs.declared.steps.Directory.{Directory}
 use Rattle.ways.specs.declared.ways.Found.{Found}
 use Rattle.ways.specs.declared.ways.Found.the-variants.{At, Nothing}
-use Rattle.ways.specs.Address.{setOf}
+use Rattle.ways.specs.Address.{setOf, dataOffset}
 use Rattle.directory.specs.Steps.{lookupOf, afterUse}
 use Rattle.directory.proofs.Laws.{lookup-at, lookup-nothing, use-kept}
 use Rattle.bus.specs.Record.{writeRecord}
 use Rattle.doubleword.specs.declared.change.Change.the-variants.{Unchanged, Use}
-use Rattle.doubleword.specs.Doubleword.{Doubleword, Done, changed, dataOffset, plainCycles}
+use Rattle.doubleword.specs.Doubleword.{Doubleword, Done, changed, plainCycles}
 use Rattle.writing.specs.Writing.{writeBuffer, writeThrough, hitArray, writeDone}
 use Rattle.refusal.specs.Call.{State, state}
 use Rattle.access.specs.Access.{Progress, writeOne, next, allOf}

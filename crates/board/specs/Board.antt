@@ -4,8 +4,7 @@ use mathlib.Core.Bool.{cond}
 use mathlib.Core.List.{List, [], _∷_, _++_}
 use lib.Dec.{ltb}
 use lib.ListN.{getD, replicate}
-use Rattle.bus.specs.Groups.{groupSize}
-use Rattle.refusal.specs.Refusal.{badWidth}
+use Rattle.bus.specs.Groups.{badWidth, groupSize}
 
 -- "The answer by 1 MiB block 0 to 15 is 1 1 1 1 1 1 1 1 5 5 5 5 4 4 2 3"
 abbrev pub blockAnswers : List ℕ

@@ -1,7 +1,9 @@
 // The board table: the board's answers for an access.
 ghost use mathlib.Core.Path.{_≡_};
 ghost use Rattle.board.specs.Board.{answerAt, boardAnswers, upperAddress};
-use refusal::bad_width;
+pub use bus::ANSWERS;
+use bus::GROUP_SIZE;
+use bus::bad_width;
 
 // The answer of each 1 MiB block.
 const BLOCK_ANSWERS: [u8; 16] = [1, 1, 1, 1, 1, 1, 1, 1, 5, 5, 5, 5, 4, 4, 2, 3];
@@ -28,14 +30,14 @@ fn upper_address(address: u32, width: u32) -> usize
 
 // The 32 answers for an access: sixteen for its lower doubleword, sixteen for its upper one. An access of a refused width has no
 // upper doubleword.
-pub fn board_answers(address: u32, width: u32) -> [u8; 32]
+pub fn board_answers(address: u32, width: u32) -> [u8; ANSWERS]
     ensures { λ r. ⌜ r ≡ boardAnswers address width ⌝ }
 {
     let lower = answer_at(address as usize);
     let upper = answer_at(upper_address(address, width));
-    let mut answers = [lower; 32];
-    let mut k: usize = 16;
-    while k < 32 {
+    let mut answers = [lower; ANSWERS];
+    let mut k: usize = GROUP_SIZE;
+    while k < ANSWERS {
         answers[k] = upper;
         k += 1;
     }

@@ -1,7 +1,13 @@
-// The bus: the sizing of cycles, and the records that they leave. It knows nothing of the directory.
+// The bus: the widths of an access, the sizing of cycles, and the records that they leave. It knows nothing of the directory.
 mod cycle;
 mod record;
+mod sizes;
 
 pub use cycle::moved_lanes;
 pub use record::flags_of;
 pub use record::put_record;
+pub use sizes::ANSWERS;
+pub use sizes::GROUP_SIZE;
+pub use sizes::HIGHEST_ANSWER;
+pub use sizes::LOG_WORDS;
+pub use sizes::bad_width;

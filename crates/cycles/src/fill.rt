@@ -6,6 +6,7 @@ ghost use Rattle.memory.specs.Parity.{lentMemory};
 ghost use Rattle.bus.specs.Bus.{burst, cyclesOf};
 ghost use Rattle.bus.specs.Record.{fillKind, readRecord};
 ghost use Rattle.bus.specs.Runs.{offsets};
+ghost use Rattle.bus.specs.Groups.{groupSize};
 ghost use Rattle.cycles.specs.Made.{CyclesMade};
 ghost use Rattle.cycles.specs.Parts.{LineNeeds};
 use crate::lanes::due_bits;
@@ -36,8 +37,8 @@ pub fn fill_cycles(
     start: usize,
     first: usize,
 ) -> usize
-    requires { ⌜ (start < 4) × (16 ≤ length (now answers)) × (3 * (first + 16) ≤ length (now log)) × LineNeeds line 0 (length (now ram)) (length (now parity)) ⌝ }
-    ensures { λ r. ⌜ CyclesMade (readRecord fillKind (lentMemory (ram .entry) (parity .entry)) line) (cyclesOf (now (answers .entry)) (burst start)) first 0 (now (log .entry)) r (now (log .exit)) × (0 < r) × (r ≤ 16) ⌝ }
+    requires { ⌜ (start < 4) × (groupSize ≤ length (now answers)) × (3 * (first + groupSize) ≤ length (now log)) × LineNeeds line 0 (length (now ram)) (length (now parity)) ⌝ }
+    ensures { λ r. ⌜ CyclesMade (readRecord fillKind (lentMemory (ram .entry) (parity .entry)) line) (cyclesOf (now (answers .entry)) (burst start)) first 0 (now (log .entry)) r (now (log .exit)) × (0 < r) × (r ≤ groupSize) ⌝ }
 {
     let order = burst_order(start);
     let mut used: usize = 0;

@@ -10,7 +10,7 @@ use Rattle.directory.specs.declared.steps.Outcome.{Outcome}
 use Rattle.directory.specs.Outcome.{outcome}
 use Rattle.ways.specs.declared.ways.Found.{Found}
 use Rattle.ways.specs.declared.ways.Found.the-variants.{At, Nothing}
-use Rattle.ways.specs.Address.{setOf, lineIndex}
+use Rattle.ways.specs.Address.{setCount, lineCount, setOf, lineIndex}
 use Rattle.ways.specs.Lru.{lruAfter}
 use Rattle.ways.specs.Ways.{validIn, tagIn, lookupIn, victimIn}
 use Rattle.ways.specs.State.{stateNumberIn}
@@ -68,9 +68,9 @@ afterFill d s w tag =
 unfoldable pub afterReset : Directory
 afterReset =
     record {
-      tags = replicate 512 0;
-      valid = replicate 512 false;
-      lru = replicate 128 0;
+      tags = replicate lineCount 0;
+      valid = replicate lineCount false;
+      lru = replicate setCount 0;
       cd = true;
       nw = true;
     }
@@ -96,7 +96,7 @@ unfoldable pub afterFlush : Directory → Directory
 afterFlush d =
     record {
       tags = d .tags;
-      valid = replicate 512 false;
+      valid = replicate lineCount false;
       lru = d .lru;
       cd = d .cd;
       nw = d .nw;

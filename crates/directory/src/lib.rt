@@ -4,3 +4,5 @@ mod steps;
 
 pub use steps::Directory;
 pub use steps::Outcome;
+pub use ways::LINES;
+pub use ways::SETS;

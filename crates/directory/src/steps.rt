@@ -2,19 +2,23 @@
 ghost use mathlib.Core.Path.{_≡_};
 ghost use Prim.Native.Nat.{_<_};
 ghost use Rattle.directory.specs.Outcome.{outcome};
+ghost use Rattle.ways.specs.Address.{setCount, wayCount};
 ghost use Rattle.directory.specs.Steps.{afterControl, afterFill, afterFlush, afterReset, afterSnoop, afterUse, controlCall, snoopCall};
 use ways::Found;
+use ways::LINES;
+use ways::SETS;
+use ways::WAYS;
 use ways::lookup;
 use ways::lru_after;
 use ways::set_of;
 use ways::state_number;
 
-// The line of a set and a way is element set * 4 + way of tags and valid. The layout is C's: a host holds one.
+// The line of a set and a way is element set * WAYS + way of tags and valid. The layout is C's: a host holds one.
 #[repr(C)]
 pub struct Directory {
-    pub tags: [u32; 512],
-    pub valid: [bool; 512],
-    pub lru: [u8; 128],
+    pub tags: [u32; LINES],
+    pub valid: [bool; LINES],
+    pub lru: [u8; SETS],
     pub cd: bool,
     pub nw: bool,
 }
@@ -33,9 +37,9 @@ impl Directory {
     pub fn reset() -> Self
         ensures { λ r. ⌜ r ≡ afterReset ⌝ }
     {
-        let tags = [0u32; 512];
-        let valid = [false; 512];
-        let lru = [0u8; 128];
+        let tags = [0u32; LINES];
+        let valid = [false; LINES];
+        let lru = [0u8; SETS];
         Directory {
             tags,
             valid,
@@ -47,7 +51,7 @@ impl Directory {
 
     // A use of a way. Callers have the set of an address and a way that was found or chosen.
     pub fn used(mut self, set: usize, way: usize) -> Self
-        requires { ⌜ (set < 128) × (way < 4) ⌝ }
+        requires { ⌜ (set < setCount) × (way < wayCount) ⌝ }
         ensures { λ r. ⌜ r ≡ afterUse self set way ⌝ }
     {
         let old = self.lru[set];
@@ -57,10 +61,10 @@ impl Directory {
 
     // A kept fill of a way, which is a use of it.
     pub fn filled(mut self, set: usize, way: usize, tag: u32) -> Self
-        requires { ⌜ (set < 128) × (way < 4) ⌝ }
+        requires { ⌜ (set < setCount) × (way < wayCount) ⌝ }
         ensures { λ r. ⌜ r ≡ afterFill self set way tag ⌝ }
     {
-        let index = set * 4 + way;
+        let index = set * WAYS + way;
         self.tags[index] = tag;
         self.valid[index] = true;
         self.used(set, way)
@@ -78,7 +82,7 @@ impl Directory {
     pub fn flushed(mut self) -> Self
         ensures { λ r. ⌜ r ≡ afterFlush self ⌝ }
     {
-        self.valid = [false; 512];
+        self.valid = [false; LINES];
         self
     }
 
@@ -92,7 +96,7 @@ impl Directory {
         let Found::At(way) = lookup(&self.tags, &self.valid, address) else {
             return self;
         };
-        let index = set_of(address) * 4 + way;
+        let index = set_of(address) * WAYS + way;
         self.valid[index] = false;
         self
     }
@@ -127,7 +131,7 @@ impl Directory {
         let number = state_number(&self.tags, &self.valid, &self.lru, set_of(address));
         if (number == 0) & !self.nw {
             if let Found::At(way) = lookup(&self.tags, &self.valid, address) {
-                let line = set_of(address) * 4 + way;
+                let line = set_of(address) * WAYS + way;
                 self.valid[line] = false;
             }
         }

@@ -1,30 +1,32 @@
 // The directories that the rows begin with. Lines and LRU numbers are stored to the fields, so that no row depends on
 // fills or uses, which other rows test.
 ghost use Prim.Native.Nat.{_<_};
+ghost use Rattle.ways.specs.Address.{setCount, wayCount};
 use directory::Directory;
+use ways::WAYS;
 
 // The set that the rows ask about.
 pub const SET: usize = 5;
 
 pub fn with_mark(mut d: Directory, set: usize, way: usize, valid: bool) -> Directory
-    requires { ⌜ (set < 128) × (way < 4) ⌝ }
+    requires { ⌜ (set < setCount) × (way < wayCount) ⌝ }
 {
-    let line = set * 4 + way;
+    let line = set * WAYS + way;
     d.valid[line] = valid;
     d
 }
 
 // One line made valid, which is no use of its way.
 pub fn with_line(mut d: Directory, set: usize, way: usize, tag: u32) -> Directory
-    requires { ⌜ (set < 128) × (way < 4) ⌝ }
+    requires { ⌜ (set < setCount) × (way < wayCount) ⌝ }
 {
-    let line = set * 4 + way;
+    let line = set * WAYS + way;
     d.tags[line] = tag;
     with_mark(d, set, way, true)
 }
 
 pub fn with_lru(mut d: Directory, set: usize, lru: u8) -> Directory
-    requires { ⌜ set < 128 ⌝ }
+    requires { ⌜ set < setCount ⌝ }
 {
     d.lru[set] = lru;
     d

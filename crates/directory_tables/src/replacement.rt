@@ -1,5 +1,6 @@
 // Rows on the way that a fill replaces, for each LRU number.
 ghost use Prim.Native.Nat.{_<_};
+ghost use Rattle.ways.specs.Address.{wayCount};
 use crate::given::SET;
 use crate::given::address;
 use crate::given::full_set;
@@ -30,7 +31,7 @@ fn lru_row(lru: u8) {
 }
 
 fn print_lru_after(d: Directory, way: usize)
-    requires { ⌜ way < 4 ⌝ }
+    requires { ⌜ way < wayCount ⌝ }
 {
     let used = d.used(SET, way);
     number(wide(used.lru[SET]));

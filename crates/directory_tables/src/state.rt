@@ -1,5 +1,6 @@
 // Rows on the number that refuses a set: one good set, with its faults put in.
 ghost use Prim.Native.Nat.{_<_};
+ghost use Rattle.ways.specs.Address.{wayCount};
 use crate::given::SET;
 use crate::given::full_set;
 use crate::given::with_line;
@@ -11,6 +12,7 @@ use crate::print::label_part;
 use crate::print::number;
 use crate::print::wide;
 use directory::Directory;
+use ways::WAYS;
 
 // Another set, whose faults are not SET's.
 const OTHER_SET: usize = 6;
@@ -60,19 +62,19 @@ fn same_tag_rows(name: &[u8], valid: bool) {
 
 // Two ways with one tag. An upper way that is not valid is no fault.
 fn same_tag_row(name: &[u8], lower: usize, upper: usize, valid: bool)
-    requires { ⌜ (lower < 4) × (upper < 4) ⌝ }
+    requires { ⌜ (lower < wayCount) × (upper < wayCount) ⌝ }
 {
     state_label(name);
     label_part(lower as u64);
     label_part(upper as u64);
     let d = good();
-    let line = SET * 4 + lower;
+    let line = SET * WAYS + lower;
     let tagged = with_line(d, SET, upper, d.tags[line]);
     end_with_state(with_mark(tagged, SET, upper, valid));
 }
 
 fn tag_limit_rows(way: usize)
-    requires { ⌜ way < 4 ⌝ }
+    requires { ⌜ way < wayCount ⌝ }
 {
     tag_row(b"limit", way, TAG_LIMIT, true);
     tag_row(b"above", way, TAG_LIMIT + 1, true);
@@ -80,7 +82,7 @@ fn tag_limit_rows(way: usize)
 }
 
 fn tag_row(name: &[u8], way: usize, tag: u32, valid: bool)
-    requires { ⌜ way < 4 ⌝ }
+    requires { ⌜ way < wayCount ⌝ }
 {
     state_label(name);
     label_part(way as u64);

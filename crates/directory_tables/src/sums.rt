@@ -10,6 +10,8 @@ use crate::print::label;
 use crate::print::number;
 use crate::print::wide;
 use directory::Directory;
+use ways::LINES;
+use ways::SETS;
 
 pub fn reset_row() {
     label(b"reset");
@@ -34,7 +36,7 @@ fn end_with_sums(d: Directory) {
     end_row();
 }
 
-fn valid_lines(valid: &[bool; 512]) -> u64 {
+fn valid_lines(valid: &[bool; LINES]) -> u64 {
     let mut sum = 0;
     for line in 0..512usize {
         sum += bit(valid[line]);
@@ -42,7 +44,7 @@ fn valid_lines(valid: &[bool; 512]) -> u64 {
     sum
 }
 
-fn tag_sum(tags: &[u32; 512]) -> u64 {
+fn tag_sum(tags: &[u32; LINES]) -> u64 {
     let mut sum = 0;
     for line in 0..512usize {
         sum += wide_tag(tags[line]);
@@ -50,7 +52,7 @@ fn tag_sum(tags: &[u32; 512]) -> u64 {
     sum
 }
 
-fn lru_sum(lru: &[u8; 128]) -> u64 {
+fn lru_sum(lru: &[u8; SETS]) -> u64 {
     let mut sum = 0;
     for set in 0..128usize {
         sum += wide(lru[set]);

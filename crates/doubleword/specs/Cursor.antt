@@ -3,7 +3,8 @@ use Prim.Native.Nat.{ℕ, _+_, _*_, _-_, _/_, _%_, _≤_, min}
 use mathlib.Core.Path.{_≡_}
 use mathlib.Core.List.{List}
 use lib.ListN.{take, drop}
-use Rattle.bus.specs.Groups.{groupSize, groupCount}
+use Rattle.ways.specs.Address.{dataSize}
+use Rattle.bus.specs.Groups.{groupSize, groupCount, answerCount, logSize}
 use Rattle.doubleword.specs.declared.change.Wanted.{Wanted}
 use Rattle.doubleword.specs.declared.cursor.AccessCursor.{AccessCursor}
 use Rattle.doubleword.specs.Doubleword.{Doubleword}
@@ -53,9 +54,9 @@ pub record AccessNeeds (cursor : AccessCursor) (ram parity array answers log : �
   pub whole : ram % 16 ≡ 0
   pub small : ram ≤ 16777216
   pub bits : parity ≡ ram / 4
-  pub arrayLength : array ≡ 8192
-  pub served : answers ≡ groupSize * groupCount
-  pub records : 3 * (groupSize * groupCount) ≤ log
+  pub arrayLength : array ≡ dataSize
+  pub served : answers ≡ answerCount
+  pub records : logSize ≤ log
   pub fits : cursor .left ≤ 4 * (groupCount - cursor .group) - cursor .address % 4
   pub last : cursor .group ≤ groupCount
   pub made : cursor .cycles ≤ cursor .group * groupSize

@@ -3,7 +3,7 @@ use Prim.Native.Nat.{ℕ, zero, suc, _+_, _*_, _-_, _/_, _%_, min}
 use mathlib.Core.List.{List, [], _∷_}
 use lib.ListN.{take, drop}
 use Rattle.directory.specs.declared.steps.Directory.{Directory}
-use Rattle.ways.specs.Address.{byteOf, setOf, tagOf, lineIndex}
+use Rattle.ways.specs.Address.{byteOf, setOf, tagOf}
 use Rattle.directory.specs.Steps.{afterUse, afterFill}
 use Rattle.memory.specs.Parity.{Memory}
 use Rattle.bus.specs.Groups.{groupSize}
@@ -33,10 +33,6 @@ doublewordsOf (suc g) xs address (suc n) place =
       answers = take groupSize xs;
     }
     ∷ doublewordsOf g (drop groupSize xs) (address + here) (suc n - here) (place + here)
-
--- "Its bytes stand in the lent data array from (set × 4 + way) × 16 (H)."
-abbrev pub dataOffset : ℕ → ℕ → ℕ
-dataOffset line way = lineIndex (setOf line) way * 16
 
 -- What a doubleword does to the directory: `Unchanged` nothing, `Use` a use of a way of the line's set, `Fill` a kept fill of one.
 unfoldable pub changed : Directory → ℕ → Change → Directory

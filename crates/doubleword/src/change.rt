@@ -2,11 +2,13 @@
 ghost use mathlib.Core.Path.{_≡_};
 ghost use mathlib.Core.Bool.{Bool};
 ghost use mathlib.Core.List.{List};
-ghost use Prim.Native.Nat.{ℕ, _+_, _≤_, _<_};
+ghost use Prim.Native.Nat.{ℕ};
 ghost use Rattle.directory.specs.Steps.{directoryOf, lentDirectory};
-ghost use Rattle.doubleword.specs.Doubleword.{changed, dataOffset};
+ghost use Rattle.doubleword.specs.Doubleword.{changed};
 ghost use Rattle.doubleword.specs.DoublewordCode.{BelowFour, NoFill};
 use directory::Directory;
+use ways::LINES;
+use ways::SETS;
 
 // What a doubleword does to the directory: nothing, a use of a way, or a kept fill of a way.
 pub enum Change {
@@ -23,14 +25,6 @@ pub struct Wanted {
     pub place: usize,
 }
 
-// Where the data array holds the line of an address, in a way.
-pub fn data_offset(line: u32, way: usize) -> usize
-    requires { ⌜ way < 4 ⌝ }
-    ensures { λ r. ⌜ (r ≡ dataOffset line way) × (r + 16 ≤ 8192) ⌝ }
-{
-    (ways::set_of(line) * 4 + way) * 16
-}
-
 // The directory after its change: the one step of a doubleword. It copies the directory, so the calls do not make it for `Unchanged`.
 pub fn changed_by(directory: Directory, line: u32, change: Change) -> Directory
     requires { ⌜ BelowFour change ⌝ }
@@ -45,9 +39,9 @@ pub fn changed_by(directory: Directory, line: u32, change: Change) -> Directory
 
 // The same change of lent arrays, in place.
 pub fn change_in_place(
-    tags: &mut [u32; 512],
-    valid: &mut [bool; 512],
-    lru: &mut [u8; 128],
+    tags: &mut [u32; LINES],
+    valid: &mut [bool; LINES],
+    lru: &mut [u8; SETS],
     line: u32,
     change: Change,
 )
@@ -72,7 +66,7 @@ pub fn change_in_place(
 }
 
 // The same of lent LRU numbers alone, for a change that is no fill.
-pub fn change_lru_in_place(lru: &mut [u8; 128], line: u32, change: Change)
+pub fn change_lru_in_place(lru: &mut [u8; SETS], line: u32, change: Change)
     requires { ⌜ BelowFour change × NoFill change ⌝ }
     ensures { λ _. ⌜ ((tags : List ℕ) (valid : List Bool) (cd nw : Bool) → directoryOf tags valid (now (lru .exit)) cd nw
         ≡ changed (directoryOf tags valid (now (lru .entry)) cd nw) line change) ⌝ }

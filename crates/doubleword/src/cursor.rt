@@ -2,8 +2,10 @@
 ghost use mathlib.Core.Path.{_≡_};
 ghost use Prim.Native.Nat.{_+_, _*_, _≤_, _<_};
 ghost use lib.ListN.{length};
+ghost use Rattle.bus.specs.Groups.{groupSize};
 ghost use Rattle.doubleword.specs.Cursor.{accessBegin, accessNext, groupAt, wantedOf};
 use crate::change::Wanted;
+use bus::GROUP_SIZE;
 
 // What is left between two doublewords: the address of the next wanted byte, the bytes left, their place in the operand, the
 // group of answers that serves them, and the cycles made.
@@ -45,11 +47,11 @@ impl AccessCursor {
 
     // The group of answers that serves the next doubleword.
     pub fn group_of<'a>(self, answers: &'a [u8]) -> &'a [u8]
-        requires { ⌜ self .group * 16 + 16 ≤ length (now answers) ⌝ }
-        ensures { λ r. ⌜ (now r ≡ groupAt self (now (answers .entry))) × (length (now r) ≡ 16) ⌝ }
+        requires { ⌜ self .group * groupSize + groupSize ≤ length (now answers) ⌝ }
+        ensures { λ r. ⌜ (now r ≡ groupAt self (now (answers .entry))) × (length (now r) ≡ groupSize) ⌝ }
     {
-        let from = self.group * 16;
-        let to = from + 16;
+        let from = self.group * GROUP_SIZE;
+        let to = from + GROUP_SIZE;
         &answers[from..to]
     }
 

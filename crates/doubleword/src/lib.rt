@@ -7,5 +7,4 @@ pub use change::Wanted;
 pub use change::change_in_place;
 pub use change::change_lru_in_place;
 pub use change::changed_by;
-pub use change::data_offset;
 pub use cursor::AccessCursor;

@@ -1,8 +1,11 @@
 // Runs each event file that its arguments name and prints the whole output of `events` for it below its name. The oracle's
 // model makes the files (../data, ../args) and the output that is expected (../stdout), by oracle/expectations.py --write.
 ghost use mathlib.Core.Path.{_≡_};
+ghost use Prim.Native.Nat.{_+_};
 ghost use lib.ListN.{length};
 ghost use Rattle.io.specs.Counts.{Counts};
+ghost use Rattle.events.specs.Output.{longestInput};
+use events::LONGEST_INPUT;
 use libc::STDOUT_FILENO;
 
 fn main() {
@@ -37,10 +40,10 @@ fn print_output(input: &[u8]) {
 
 // One byte more than an input may have, so that a longer file shows. The contracts of both buffers give only the length,
 // as io's do: proofs would write all bytes out.
-fn input_buffer() -> [u8; 65537]
-    ensures { λ r. ⌜ 65537 ≡ length r ⌝ }
+fn input_buffer() -> [u8; LONGEST_INPUT + 1]
+    ensures { λ r. ⌜ longestInput + 1 ≡ length r ⌝ }
 {
-    [0u8; 65537]
+    [0u8; LONGEST_INPUT + 1]
 }
 
 // Enough for a row of every line in ../data: 65,536 empty lines have the longest output, 840,888 bytes.

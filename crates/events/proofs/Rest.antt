@@ -44,18 +44,18 @@ rows-left-next input s event place rest e done m array log h r i d =
     rw (lines-next (drop place input) e some at, far, line, add-one event)
 
 -- The next line's row put, what is left after it gives what was left before it.
-pub line-done : (input : List ℕ) (s : State) (event place : ℕ) (rest : List ℕ) (e : ℕ) (done : Outcome) (m : Memory) (array log out printed whole : List ℕ) (at next total : ℕ)
+pub line-done : (input : List ℕ) (s : State) (event place : ℕ) (rest : List ℕ) (e : ℕ) (done : Outcome) (m : Memory) (array log out printed whole : List ℕ) (at size total : ℕ)
     → place < length input
     → rest ≡ take (length input - place) (drop place input)
     → e ≡ indexOf newline rest
     → after done m array log ≡ lineDone s (take e rest)
-    → next ≡ at + length (rowFor event done)
+    → size ≡ length (rowFor event done)
     → printed ≡ sets out at (rowFor event done)
     → at + length (rowsLeft input s event place) ≡ total
     → sets out at (rowsLeft input s event place) ≡ whole
-    → (next + length (rowsLeft input (state (done .directory) m array) (event + 1) (place + e + 1)) ≡ total)
-    × (sets printed next (rowsLeft input (state (done .directory) m array) (event + 1) (place + e + 1)) ≡ whole)
-line-done input s event place rest e done m array log out printed whole at next total h r i d n p t w =
+    → (at + size + length (rowsLeft input (state (done .directory) m array) (event + 1) (place + e + 1)) ≡ total)
+    × (sets printed (at + size) (rowsLeft input (state (done .directory) m array) (event + 1) (place + e + 1)) ≡ whole)
+line-done input s event place rest e done m array log out printed whole at size total h r i d n p t w =
     let row = rowFor event done in
     let after = rowsLeft input (state (done .directory) m array) (event + 1) (place + e + 1) in
     let both = rows-left-next input s event place rest e done m array log h r i d in (

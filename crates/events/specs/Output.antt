@@ -1,9 +1,10 @@
 -- Document 01, 'Board table and program': the output of every input.
-use Prim.Native.Nat.{ℕ, suc}
+use Prim.Native.Nat.{ℕ, suc, _/_}
 use mathlib.Core.Bool.{cond}
 use mathlib.Core.List.{List, [], _∷_, _++_}
 use lib.Dec.{ltb}
 use lib.ListN.{length, replicate}
+use Rattle.ways.specs.Address.{dataSize}
 use Rattle.directory.specs.Steps.{afterReset}
 use Rattle.memory.specs.Parity.{memory}
 use Rattle.directory.specs.declared.steps.Outcome.{Outcome}
@@ -11,6 +12,17 @@ use Rattle.refusal.specs.Call.{State, state, nextState}
 use Rattle.fields.specs.Fields.{linesOf}
 use Rattle.rows.specs.Row.{header, rowOf}
 use Rattle.performing.specs.Perform.{lineDone}
+
+-- "The program has 65,536 zero RAM bytes"; "12. Program: over 65,536 input bytes."
+abbrev pub ramSize : ℕ
+ramSize = 65536
+
+abbrev pub longestInput : ℕ
+longestInput = 65536
+
+-- No rule: no output is longer. A header of 26 bytes, and at most 44 for each line and for one more.
+abbrev pub longestOutput : ℕ
+longestOutput = 2883654
 
 -- A row shows an event's answer.
 abbrev pub rowFor : ℕ → Outcome → List ℕ
@@ -24,8 +36,8 @@ rowsOf s event (line ∷ lines) =
 
 -- "The program has 65,536 zero RAM bytes, zero parity, a zero data array, a reset directory."
 unfoldable pub start : State
-start = state afterReset (memory (replicate 65536 0) (replicate 16384 0)) (replicate 8192 0)
+start = state afterReset (memory (replicate ramSize 0) (replicate (ramSize / 4) 0)) (replicate dataSize 0)
 
 -- "Output starts with the fixed header line"; "Number 12 prints the header and the one row 0, 12, 0, 0."
 unfoldable pub outputOf : List ℕ → List ℕ
-outputOf input = header ++ cond (ltb 65536 (length input)) (rowOf 0 12 0 0) (rowsOf start 1 (linesOf input))
+outputOf input = header ++ cond (ltb longestInput (length input)) (rowOf 0 12 0 0) (rowsOf start 1 (linesOf input))

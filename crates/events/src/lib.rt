@@ -1,34 +1,44 @@
 // Event lines in, rows out: the run over a whole input.
 ghost use mathlib.Core.Path.{_≡_};
-ghost use Prim.Native.Nat.{_+_, _≤_};
+ghost use Prim.Native.Nat.{_+_, _*_, _≤_};
 ghost use lib.ListN.{length};
 ghost use lib.Seq.{sets};
 ghost use Rattle.fields.specs.Fields.{linesOf};
-ghost use Rattle.events.specs.Output.{outputOf, rowsOf, start};
+ghost use Rattle.rows.specs.Row.{header};
+ghost use Rattle.events.specs.Output.{longestInput, longestOutput, outputOf, rowsOf, start};
 use directory::Directory;
 use fields::end_of;
 use performing::perform;
 use rows::put_header;
 use rows::put_row;
+use ways::DATA_SIZE;
 
-// Puts the output of the program for the input at the start of output, as far as output goes, and answers its length, for
-// which 2,883,654 bytes are enough.
+// The bytes of the program's RAM.
+const RAM_SIZE: usize = 65536;
+
+// The bytes of the longest input that is run.
+pub const LONGEST_INPUT: usize = 65536;
+
+// Bytes that are enough for every output.
+pub const LONGEST_OUTPUT: usize = 2883654;
+
+// Puts the output of the program for the input at the start of output, as far as output goes, and answers its length.
 pub fn run(input: &[u8], output: &mut [u8]) -> usize
     ensures { λ r. ⌜ (r ≡ length (outputOf (now (input .entry)))) × (now (output .exit) ≡ sets (now (output .entry)) 0 (outputOf (now (input .entry)))) ⌝ }
-    ensures { λ r. ⌜ r ≤ 2883654 ⌝ }
+    ensures { λ r. ⌜ r ≤ longestOutput ⌝ }
 {
     let at = put_header(output);
-    if 65536 < input.len() {
-        return put_row(output, at, 0, 12, 0, 0);
+    if LONGEST_INPUT < input.len() {
+        return at + put_row(output, at, 0, 12, 0, 0);
     }
     run_lines(input, output, at)
 }
 
 // Puts the rows of the input's lines at a place of output, as far as output goes, and answers the place after them.
 fn run_lines(input: &[u8], output: &mut [u8], from: usize) -> usize
-    requires { ⌜ (length (now input) ≤ 65536) × (from ≤ 65536) ⌝ }
+    requires { ⌜ (length (now input) ≤ longestInput) × (from ≤ length header) ⌝ }
     ensures { λ r. ⌜ (r ≡ from + length (rowsOf start 1 (linesOf (now (input .entry))))) × (now (output .exit) ≡ sets (now (output .entry)) from (rowsOf start 1 (linesOf (now (input .entry))))) ⌝ }
-    ensures { λ r. ⌜ r ≤ from + 2883628 ⌝ }
+    ensures { λ r. ⌜ r ≤ from + 44 * (longestInput + 1) ⌝ }
 {
     let directory = Directory::reset();
     let mut tags = directory.tags;
@@ -36,9 +46,9 @@ fn run_lines(input: &[u8], output: &mut [u8], from: usize) -> usize
     let mut lru = directory.lru;
     let mut cd = directory.cd;
     let mut nw = directory.nw;
-    let mut ram = [0u8; 65536];
-    let mut parity = [0u8; 16384];
-    let mut data = [0u8; 8192];
+    let mut ram = [0u8; RAM_SIZE];
+    let mut parity = [0u8; RAM_SIZE / 4];
+    let mut data = [0u8; DATA_SIZE];
     let mut event: u32 = 1;
     let mut place: usize = 0;
     let mut at = from;
@@ -56,7 +66,7 @@ fn run_lines(input: &[u8], output: &mut [u8], from: usize) -> usize
             &mut data,
             &rest[..end],
         );
-        at = put_row(output, at, event, done.number, done.value, done.cycles);
+        at += put_row(output, at, event, done.number, done.value, done.cycles);
         event += 1;
         place = place + end + 1;
     }

@@ -11,12 +11,14 @@ ghost use Rattle.refusal.specs.Call.{after, lentState, state};
 ghost use Rattle.access.specs.Access.{leaves, readCall, writeCall};
 ghost use Rattle.masters.specs.Masters.{externalCall};
 use access::CallResult;
+use directory::LINES;
+use directory::SETS;
 
 #[no_mangle]
 pub extern "C" fn unit486_read_in_place<'a>(
-    tags: &'a mut [u32; 512],
-    valid: &'a mut [bool; 512],
-    lru: &'a mut [u8; 128],
+    tags: &'a mut [u32; LINES],
+    valid: &'a mut [bool; LINES],
+    lru: &'a mut [u8; SETS],
     cd: bool,
     ram: &[u8],
     parity: &[u8],
@@ -48,9 +50,9 @@ pub extern "C" fn unit486_read_in_place<'a>(
 
 #[no_mangle]
 pub extern "C" fn unit486_write_in_place<'a>(
-    tags: &'a [u32; 512],
-    valid: &'a [bool; 512],
-    lru: &'a mut [u8; 128],
+    tags: &'a [u32; LINES],
+    valid: &'a [bool; LINES],
+    lru: &'a mut [u8; SETS],
     cd: bool,
     nw: bool,
     ram: &mut [u8],
@@ -84,9 +86,9 @@ pub extern "C" fn unit486_write_in_place<'a>(
 
 #[no_mangle]
 pub extern "C" fn unit486_external_write_in_place<'a>(
-    tags: &'a [u32; 512],
-    valid: &'a mut [bool; 512],
-    lru: &'a [u8; 128],
+    tags: &'a [u32; LINES],
+    valid: &'a mut [bool; LINES],
+    lru: &'a [u8; SETS],
     nw: bool,
     ram: &mut [u8],
     parity: &mut [u8],
@@ -101,9 +103,9 @@ pub extern "C" fn unit486_external_write_in_place<'a>(
 
 #[no_mangle]
 pub extern "C" fn unit486_snoop_in_place<'a>(
-    tags: &'a [u32; 512],
-    valid: &'a mut [bool; 512],
-    lru: &'a [u8; 128],
+    tags: &'a [u32; LINES],
+    valid: &'a mut [bool; LINES],
+    lru: &'a [u8; SETS],
     nw: bool,
     address: u32,
 ) -> u32
@@ -114,7 +116,7 @@ pub extern "C" fn unit486_snoop_in_place<'a>(
 }
 
 #[no_mangle]
-pub extern "C" fn unit486_flush_in_place(valid: &mut [bool; 512])
+pub extern "C" fn unit486_flush_in_place(valid: &mut [bool; LINES])
     ensures { λ _. ⌜ ((tags lru : List ℕ) (cd nw : Bool) → directoryOf tags (now (valid .exit)) lru cd nw
         ≡ afterFlush (directoryOf tags (now (valid .entry)) lru cd nw)) ⌝ }
 {
@@ -136,9 +138,9 @@ pub extern "C" fn unit486_control_in_place(
 
 #[no_mangle]
 pub extern "C" fn unit486_reset_in_place(
-    tags: &mut [u32; 512],
-    valid: &mut [bool; 512],
-    lru: &mut [u8; 128],
+    tags: &mut [u32; LINES],
+    valid: &mut [bool; LINES],
+    lru: &mut [u8; SETS],
     cd: &mut bool,
     nw: &mut bool,
 )

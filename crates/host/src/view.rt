@@ -3,13 +3,15 @@ ghost use mathlib.Core.Path.{_≡_};
 ghost use lib.ListN.{length};
 ghost use lib.Seq.{sets};
 ghost use Rattle.views.specs.View.{viewIn, viewNumberIn};
+use directory::LINES;
+use directory::SETS;
 
 // The companion question of a view.
 #[no_mangle]
 pub extern "C" fn unit486_view_number_in_place<'a>(
-    tags: &'a [u32; 512],
-    valid: &'a [bool; 512],
-    lru: &'a [u8; 128],
+    tags: &'a [u32; LINES],
+    valid: &'a [bool; LINES],
+    lru: &'a [u8; SETS],
     ram: &'a [u8],
     data: &'a [u8],
     address: u32,
@@ -23,9 +25,9 @@ pub extern "C" fn unit486_view_number_in_place<'a>(
 // that is not 0 nothing is copied.
 #[no_mangle]
 pub extern "C" fn unit486_view_in_place<'a>(
-    tags: &'a [u32; 512],
-    valid: &'a [bool; 512],
-    lru: &'a [u8; 128],
+    tags: &'a [u32; LINES],
+    valid: &'a [bool; LINES],
+    lru: &'a [u8; SETS],
     ram: &'a [u8],
     data: &'a [u8],
     address: u32,

@@ -83,5 +83,8 @@ eventOf ((letter ∷ []) ∷ fields) = formOf letter fields
 eventOf ((c ∷ d ∷ cs) ∷ fields) = Malformed
 
 -- "lines of at most 80 bytes before the newline"
+abbrev pub longestLine : ℕ
+longestLine = 80
+
 unfoldable pub scanned : List ℕ → Event
-scanned line = cond (ltb 80 (length line)) Malformed (eventOf (fieldsOf line))
+scanned line = cond (ltb longestLine (length line)) Malformed (eventOf (fieldsOf line))

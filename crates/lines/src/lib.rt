@@ -12,6 +12,9 @@ use fields::leading_number;
 use fields::scan_bit;
 use fields::scan_number;
 
+// The bytes of the longest line that asks for anything.
+pub const LONGEST_LINE: usize = 80;
+
 // What a line asks for. An external write names the place in the line where its pairs begin.
 pub enum Event {
     Malformed,
@@ -24,11 +27,11 @@ pub enum Event {
     Reset,
 }
 
-// The event of a line of at most 80 bytes; any other line is malformed.
+// The event of a line of at most LONGEST_LINE bytes; any other line is malformed.
 pub fn scan(line: &[u8]) -> Event
     ensures { λ r. ⌜ r ≡ scanned (now (line .entry)) ⌝ }
 {
-    if 80 < line.len() {
+    if LONGEST_LINE < line.len() {
         return Event::Malformed;
     }
     if line.len() == 0 {

@@ -4,11 +4,13 @@ ghost use mathlib.Core.Path.{_≡_};
 ghost use mathlib.Core.Bool.{Bool};
 ghost use mathlib.Core.List.{List, []};
 ghost use Prim.Native.Nat.{ℕ};
+ghost use Rattle.directory.specs.Outcome.{outcome};
 ghost use Rattle.directory.specs.Steps.{lentDirectory};
 ghost use Rattle.memory.specs.Parity.{lentMemory};
-ghost use Rattle.directory.specs.Outcome.{outcome};
-ghost use Rattle.masters.specs.Masters.{externalCall};
 ghost use Rattle.refusal.specs.Call.{after, state};
+ghost use Rattle.masters.specs.Masters.{externalCall};
+use directory::LINES;
+use directory::SETS;
 use memory::store_bytes;
 use refusal::external_number;
 use refusal::memory_number;
@@ -16,9 +18,9 @@ use refusal::states_number;
 use steps_in_place::invalidate_in_place;
 
 pub fn external_write_in_place<'a>(
-    tags: &'a [u32; 512],
-    valid: &'a mut [bool; 512],
-    lru: &'a [u8; 128],
+    tags: &'a [u32; LINES],
+    valid: &'a mut [bool; LINES],
+    lru: &'a [u8; SETS],
     nw: bool,
     ram: &mut [u8],
     parity: &mut [u8],

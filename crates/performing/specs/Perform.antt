@@ -1,10 +1,10 @@
 -- Document 01, 'Board table and program': the call that the event of a line makes, and what the line does.
-use Prim.Native.Nat.{ℕ, _*_}
+use Prim.Native.Nat.{ℕ}
 use mathlib.Core.Path.{_≡_}
 use mathlib.Core.List.{List, []}
 use mathlib.Core.Option.{Option, none, some}
 use lib.ListN.{drop, replicate}
-use Rattle.bus.specs.Groups.{groupSize, groupCount}
+use Rattle.bus.specs.Groups.{logSize}
 use Rattle.refusal.specs.Call.{State, After, refused}
 use Rattle.access.specs.declared.result.CallResult.{CallResult}
 use Rattle.access.specs.Access.{leaves}
@@ -17,7 +17,7 @@ use Rattle.lines.specs.Scan.{scanned}
 
 -- Each read and write has a log of its own, which no row shows.
 abbrev pub zeroLog : List ℕ
-zeroLog = replicate (3 * (groupSize * groupCount)) 0
+zeroLog = replicate logSize 0
 
 -- "R address width PCD; W address width value; X address bytes ..; S address; F; C CD NW; Z (reset)": the call that an event of a line makes, a read
 -- or a write with the board's answers. A malformed line makes none.

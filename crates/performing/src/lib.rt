@@ -10,25 +10,30 @@ ghost use Rattle.refusal.specs.Call.{lentState, state};
 ghost use Rattle.agreement.specs.Calls.{external, read, step, write};
 ghost use Rattle.board.specs.Board.{boardAnswers};
 ghost use Rattle.fields.specs.Fields.{pairBytes};
+ghost use Rattle.lines.specs.Scan.{longestLine};
 ghost use Rattle.performing.specs.Perform.{Leaves, lineDone, zeroLog};
 use access::CallResult;
 use access::number_only;
 use access::read_in_place;
 use access::write_in_place;
+use bus::LOG_WORDS;
 use fields::pair_bytes;
 use lines::Event;
+use lines::LONGEST_LINE;
 use lines::scan;
 use masters::external_write_in_place;
 use steps_in_place::control_in_place;
 use steps_in_place::flush_in_place;
 use steps_in_place::reset_in_place;
 use steps_in_place::snoop_in_place;
+use ways::LINES;
+use ways::SETS;
 
 // The line's event with the board's answers, on a directory whose fields are lent. A malformed line answers 11.
 pub fn perform<'a>(
-    tags: &'a mut [u32; 512],
-    valid: &'a mut [bool; 512],
-    lru: &'a mut [u8; 128],
+    tags: &'a mut [u32; LINES],
+    valid: &'a mut [bool; LINES],
+    lru: &'a mut [u8; SETS],
     cd: &mut bool,
     nw: &mut bool,
     ram: &mut [u8],
@@ -66,9 +71,9 @@ pub fn perform<'a>(
 
 // A read with the board's answers and a log that is not shown.
 fn perform_read<'a>(
-    tags: &'a mut [u32; 512],
-    valid: &'a mut [bool; 512],
-    lru: &'a mut [u8; 128],
+    tags: &'a mut [u32; LINES],
+    valid: &'a mut [bool; LINES],
+    lru: &'a mut [u8; SETS],
     cd: &bool,
     ram: &[u8],
     parity: &[u8],
@@ -81,7 +86,7 @@ fn perform_read<'a>(
         r (lentState (tags .exit) (valid .exit) (lru .exit) (now (cd .entry)) nw (ram .entry) (parity .entry) («data» .exit))) ⌝ }
 {
     let answers = board::board_answers(address, width);
-    let mut log = [0u32; 96];
+    let mut log = [0u32; LOG_WORDS];
     read_in_place(
         tags,
         valid,
@@ -100,9 +105,9 @@ fn perform_read<'a>(
 
 // A write with the board's answers and a log that is not shown.
 fn perform_write<'a>(
-    tags: &'a [u32; 512],
-    valid: &'a [bool; 512],
-    lru: &'a mut [u8; 128],
+    tags: &'a [u32; LINES],
+    valid: &'a [bool; LINES],
+    lru: &'a mut [u8; SETS],
     cd: &bool,
     nw: &bool,
     ram: &mut [u8],
@@ -116,7 +121,7 @@ fn perform_write<'a>(
         r (lentState (tags .entry) (valid .entry) (lru .exit) (now (cd .entry)) (now (nw .entry)) (ram .exit) (parity .exit) («data» .exit)) ⌝ }
 {
     let answers = board::board_answers(address, width);
-    let mut log = [0u32; 96];
+    let mut log = [0u32; LOG_WORDS];
     write_in_place(
         tags,
         valid,
@@ -136,20 +141,20 @@ fn perform_write<'a>(
 
 // An external write of the bytes that the pairs say.
 fn perform_external<'a>(
-    tags: &'a [u32; 512],
-    valid: &'a mut [bool; 512],
-    lru: &'a [u8; 128],
+    tags: &'a [u32; LINES],
+    valid: &'a mut [bool; LINES],
+    lru: &'a [u8; SETS],
     nw: &bool,
     ram: &mut [u8],
     parity: &mut [u8],
     address: u32,
     pairs: &[u8],
 ) -> CallResult
-    requires { ⌜ length (now pairs) ≤ 80 ⌝ }
+    requires { ⌜ length (now pairs) ≤ longestLine ⌝ }
     ensures { λ r. ⌜ ((cd : Bool) (array : List ℕ) → Leaves (step (state (lentDirectory (tags .entry) (valid .entry) (lru .entry) cd (now (nw .entry))) (lentMemory (ram .entry) (parity .entry)) array) (external address (pairBytes (now (pairs .entry)))))
         r (state (lentDirectory (tags .entry) (valid .exit) (lru .entry) cd (now (nw .entry))) (lentMemory (ram .exit) (parity .exit)) array)) ⌝ }
 {
-    let mut bytes = [0u8; 80];
+    let mut bytes = [0u8; LONGEST_LINE];
     let count = pair_bytes(pairs, &mut bytes);
     number_only(external_write_in_place(
         tags,

@@ -8,6 +8,7 @@ use native.Mathlib.Nat.{add-zero, zero-add}
 use lib.ListN.{length, getD, length-map}
 use lib.Seq.{sets}
 use Rattle.laws.proofs.Tests.{cond-true, cond-false}
+use Rattle.ways.specs.Address.{dataOffset}
 use Rattle.ways.specs.declared.ways.Found.{Found}
 use Rattle.ways.specs.declared.ways.Found.the-variants.{At, Nothing}
 use Rattle.words.specs.Bytes.{bytesAt, valueOf}
@@ -22,7 +23,7 @@ use Rattle.bus.proofs.Runs.{last-answer}
 use Rattle.cycles.proofs.Brought.{OneDoubleword, fill-buffer, wanted-bytes}
 use Rattle.doubleword.specs.declared.change.Change.the-variants.{Unchanged, Use, Fill}
 use Rattle.doubleword.specs.declared.change.Wanted.{Wanted}
-use Rattle.doubleword.specs.Doubleword.{Doubleword, Done, dataOffset, plainCycles}
+use Rattle.doubleword.specs.Doubleword.{Doubleword, Done, plainCycles}
 use Rattle.doubleword.specs.declared.cursor.AccessCursor.{AccessCursor}
 use Rattle.doubleword.specs.DoublewordCode.{DoublewordNeeds}
 use Rattle.doubleword.specs.Cursor.{wantedOf, groupAt}

@@ -5,6 +5,7 @@ use mathlib.Core.Bool.{Bool, false, cond, _&&_}
 use mathlib.Core.List.{List, [], map}
 use lib.ListN.{getD, replicate}
 use lib.Seq.{sets}
+use Rattle.ways.specs.Address.{dataOffset}
 use Rattle.ways.specs.declared.ways.Found.{Found}
 use Rattle.ways.specs.declared.ways.Found.the-variants.{At, Nothing}
 use Rattle.words.specs.Bytes.{bytesAt}
@@ -13,7 +14,7 @@ use Rattle.bus.specs.Bus.{ken, Cycle, cyclesOf, burst, lastAnswer, afterCycles,
 use Rattle.bus.specs.Record.{Record, readRecord, plainKind, fillKind}
 use Rattle.doubleword.specs.declared.change.Change.{Change}
 use Rattle.doubleword.specs.declared.change.Change.the-variants.{Unchanged, Use, Fill}
-use Rattle.doubleword.specs.Doubleword.{Doubleword, dataOffset, Done, plainCycles}
+use Rattle.doubleword.specs.Doubleword.{Doubleword, Done, plainCycles}
 
 -- "Read hit: from the data array, no cycle, whatever CD and PCD are."
 unfoldable pub readHit : ℕ → Memory → List ℕ → Doubleword → Done

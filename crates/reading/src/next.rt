@@ -11,6 +11,8 @@ ghost use Rattle.reading.specs.ReadingCode.{ReadNext};
 use crate::reading::read_doubleword;
 use doubleword::AccessCursor;
 use doubleword::Change;
+use ways::LINES;
+use ways::SETS;
 
 // What the next doubleword did: the directory's change with its line, how many bytes it read and their number, the count of
 // cycles. What is left after it is worked out by the caller, in registers.
@@ -24,9 +26,9 @@ pub struct NextRead {
 
 // The doubleword at a cursor, by lent fields of the directory. may_fill: CD = 0 and PCD = 0.
 pub fn read_next<'a>(
-    tags: &'a [u32; 512],
-    valid: &'a [bool; 512],
-    lru: &'a [u8; 128],
+    tags: &'a [u32; LINES],
+    valid: &'a [bool; LINES],
+    lru: &'a [u8; SETS],
     may_fill: bool,
     ram: &[u8],
     parity: &[u8],

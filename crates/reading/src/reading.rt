@@ -3,11 +3,10 @@ ghost use mathlib.Core.Path.{_≡_};
 ghost use Prim.Native.Nat.{_+_, _≤_};
 ghost use lib.ListN.{length};
 ghost use lib.Seq.{sets};
-ghost use Rattle.ways.specs.Address.{setOf};
+ghost use Rattle.ways.specs.Address.{dataOffset, dataSize, setOf};
 ghost use Rattle.ways.specs.Ways.{lookupIn, victimIn};
 ghost use Rattle.words.specs.Bytes.{bytesAt};
 ghost use Rattle.memory.specs.Parity.{lentMemory};
-ghost use Rattle.doubleword.specs.Doubleword.{dataOffset};
 ghost use Rattle.doubleword.specs.DoublewordCode.{DoublewordNeeds, doublewordOf};
 ghost use Rattle.reading.specs.Reading.{readDone};
 ghost use Rattle.reading.specs.ReadingCode.{Reads};
@@ -15,8 +14,10 @@ use crate::plain::plain_read;
 use cycles::fill_cycles;
 use doubleword::Change;
 use doubleword::Wanted;
-use doubleword::data_offset;
 use ways::Found;
+use ways::LINES;
+use ways::SETS;
+use ways::data_offset;
 use words::copy_line;
 use words::value_at;
 
@@ -30,13 +31,13 @@ pub struct DoublewordRead {
 // A kept fill: RAM's line goes into the data array, in the victim's place. Nothing changes RAM during the cycles, so it is
 // copied once, after the last. Answers the victim.
 pub fn keep_line<'a>(
-    valid: &'a [bool; 512],
-    lru: &'a [u8; 128],
+    valid: &'a [bool; LINES],
+    lru: &'a [u8; SETS],
     ram: &[u8],
     data: &mut [u8],
     line: u32,
 ) -> usize
-    requires { ⌜ (length (now «data») ≡ 8192) × (line + 16 ≤ length (now ram)) ⌝ }
+    requires { ⌜ (length (now «data») ≡ dataSize) × (line + 16 ≤ length (now ram)) ⌝ }
     ensures { λ r. ⌜ (r ≡ victimIn (now (valid .entry)) (now (lru .entry)) (setOf line))
         × (now («data» .exit) ≡ sets (now («data» .entry)) (dataOffset line r) (bytesAt (now (ram .entry)) line 16)) ⌝ }
 {
@@ -48,9 +49,9 @@ pub fn keep_line<'a>(
 
 // One doubleword of a read. may_fill: CD = 0 and PCD = 0. first: the records already in the log.
 pub fn read_doubleword<'a>(
-    tags: &'a [u32; 512],
-    valid: &'a [bool; 512],
-    lru: &'a [u8; 128],
+    tags: &'a [u32; LINES],
+    valid: &'a [bool; LINES],
+    lru: &'a [u8; SETS],
     may_fill: bool,
     ram: &[u8],
     parity: &[u8],
@@ -60,7 +61,7 @@ pub fn read_doubleword<'a>(
     w: Wanted,
     first: usize,
 ) -> DoublewordRead
-    requires { ⌜ DoublewordNeeds w first (length (now ram)) (length (now parity)) (length (now answers)) (length (now log)) × (length (now «data») ≡ 8192) ⌝ }
+    requires { ⌜ DoublewordNeeds w first (length (now ram)) (length (now parity)) (length (now answers)) (length (now log)) × (length (now «data») ≡ dataSize) ⌝ }
     ensures { λ r. ⌜ Reads (readDone (lookupIn (now (tags .entry)) (now (valid .entry)) (w .line)) (victimIn (now (valid .entry)) (now (lru .entry)) (setOf (w .line)))
         «may_fill» (lentMemory (ram .entry) (parity .entry)) (now («data» .entry)) (doublewordOf w (now (answers .entry))))
         (w .count) first (now (log .entry)) (r .change) (r .value) (r .cycles) (now («data» .exit)) (now (log .exit)) ⌝ }

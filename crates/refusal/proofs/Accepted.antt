@@ -8,8 +8,8 @@ use lib.Dec.{eqb, ltb}
 use lib.ListN.{length}
 use borrow.Author.Tests.{eq-eqb, ne-eqb, eqb-true, eqb-false, ltb-true, ltb-false, not-false}
 use Rattle.laws.proofs.Tests.{neither, cond-true, cond-false, same-or, by-test}
-use Rattle.bus.specs.Groups.{groupSize, groupCount}
-use Rattle.refusal.specs.Refusal.{when, orElse, anyAbove, badRam, memoryNumber, lentNumber, badWidth, badAnswers, argumentNumber, ramNumber, arrayNumber, viewInputNumber, externalNumber}
+use Rattle.bus.specs.Groups.{badWidth, groupSize, groupCount}
+use Rattle.refusal.specs.Refusal.{when, orElse, anyAbove, badRam, memoryNumber, lentNumber, badAnswers, argumentNumber, ramNumber, arrayNumber, viewInputNumber, externalNumber}
 
 -- neither of two numbers is met
 pub or-zero : (a b : ℕ) → orElse a b ≡ 0 → (a ≡ 0) × (b ≡ 0)

@@ -1,13 +1,13 @@
 -- Document 01, 'Turned away because of the input' and '.. of the state': the number of each call, 0 where it is accepted.
 use Prim.Native.Nat.{ℕ, _+_, _*_, _-_, _/_, _%_, _^_}
-use mathlib.Core.Bool.{Bool, false, cond, not, _&&_, _||_}
+use mathlib.Core.Bool.{Bool, false, cond, not, _||_}
 use mathlib.Core.List.{List, [], _∷_}
 use lib.Dec.{eqb, ltb}
 use lib.ListN.{length}
 use Rattle.directory.specs.declared.steps.Directory.{Directory}
-use Rattle.ways.specs.Address.{setOf}
+use Rattle.ways.specs.Address.{setOf, dataSize}
 use Rattle.ways.specs.State.{stateNumberIn}
-use Rattle.bus.specs.Groups.{groupSize, groupCount}
+use Rattle.bus.specs.Groups.{badWidth, answerCount, highestAnswer, logSize}
 
 -- A number where a test holds; and "Lowest number first": the first of two that is met.
 abbrev pub when : Bool → ℕ → ℕ
@@ -25,7 +25,7 @@ abbrev pub ramNumber : ℕ → ℕ
 ramNumber ram = when (badRam ram) 1
 
 abbrev pub arrayNumber : ℕ → ℕ
-arrayNumber array = when (not (eqb array 8192)) 3
+arrayNumber array = when (not (eqb array dataSize)) 3
 
 -- 1 and 2, for a call that receives RAM with its parity.
 unfoldable pub memoryNumber : ℕ → ℕ → ℕ
@@ -34,10 +34,6 @@ memoryNumber ram parity = orElse (ramNumber ram) (when (not (eqb parity (ram / 4
 -- 1 to 3, for a call that receives the data array too.
 unfoldable pub lentNumber : ℕ → ℕ → ℕ → ℕ
 lentNumber ram parity array = orElse (memoryNumber ram parity) (arrayNumber array)
-
--- "4. Width not 1, 2, 4."
-abbrev pub badWidth : ℕ → Bool
-badWidth width = not (eqb width 1) && not (eqb width 2) && not (eqb width 4)
 
 -- "(view: address not in RAM)": number 5 of a view, which has no width.
 abbrev pub viewAddressNumber : ℕ → ℕ → ℕ
@@ -54,14 +50,14 @@ anyAbove limit (x ∷ xs) = ltb limit x || anyAbove limit xs
 
 -- "6. Not 32 answers, or one above 7."
 abbrev pub badAnswers : List ℕ → Bool
-badAnswers answers = not (eqb (length answers) (groupSize * groupCount)) || anyAbove 7 answers
+badAnswers answers = not (eqb (length answers) answerCount) || anyAbove highestAnswer answers
 
--- 4 to 7, of a read's or a write's own arguments: "5. Address + width beyond RAM"; "7. Log below 96 words.", three words for each answer.
+-- 4 to 7, of a read's or a write's own arguments: "4. Width not 1, 2, 4." (`badWidth`); "5. Address + width beyond RAM"; "7. Log below 96 words."
 unfoldable pub argumentNumber : ℕ → ℕ → ℕ → List ℕ → ℕ → ℕ
 argumentNumber ram address width answers log =
     orElse (when (badWidth width) 4)
     (orElse (when (ltb ram (address + width)) 5)
-    (orElse (when (badAnswers answers) 6) (when (ltb log (3 * (groupSize * groupCount))) 7)))
+    (orElse (when (badAnswers answers) 6) (when (ltb log logSize) 7)))
 
 -- "8. Value too large for its width."
 unfoldable pub valueNumber : ℕ → ℕ → ℕ

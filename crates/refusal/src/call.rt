@@ -6,12 +6,14 @@ use crate::input::answers_number;
 use crate::input::input_number;
 use crate::input::value_number;
 use crate::state::states_number;
+use ways::LINES;
+use ways::SETS;
 
 // The lowest number that a read meets, or 0.
 pub fn read_number<'a>(
-    tags: &'a [u32; 512],
-    valid: &'a [bool; 512],
-    lru: &'a [u8; 128],
+    tags: &'a [u32; LINES],
+    valid: &'a [bool; LINES],
+    lru: &'a [u8; SETS],
     ram: &[u8],
     parity: &[u8],
     data: &[u8],
@@ -37,9 +39,9 @@ pub fn read_number<'a>(
 
 // The lowest number that a write meets, or 0.
 pub fn write_number<'a>(
-    tags: &'a [u32; 512],
-    valid: &'a [bool; 512],
-    lru: &'a [u8; 128],
+    tags: &'a [u32; LINES],
+    valid: &'a [bool; LINES],
+    lru: &'a [u8; SETS],
     ram: &[u8],
     parity: &[u8],
     data: &[u8],

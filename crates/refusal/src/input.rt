@@ -4,7 +4,13 @@ ghost use mathlib.Core.Bool.{not};
 ghost use Prim.Native.Nat.{_+_, _^_};
 ghost use lib.Dec.{eqb, ltb};
 ghost use lib.ListN.{length};
-ghost use Rattle.refusal.specs.Refusal.{anyAbove, badRam, badWidth, externalNumber, lentNumber, memoryNumber, orElse, valueNumber, viewInputNumber, when};
+ghost use Rattle.bus.specs.Groups.{answerCount, badWidth, highestAnswer, logSize};
+ghost use Rattle.refusal.specs.Refusal.{anyAbove, badRam, externalNumber, lentNumber, memoryNumber, orElse, valueNumber, viewInputNumber, when};
+use bus::ANSWERS;
+use bus::HIGHEST_ANSWER;
+use bus::LOG_WORDS;
+use bus::bad_width;
+use ways::DATA_SIZE;
 
 // The first of two numbers that is met.
 pub fn or_else(number: u32, next: u32) -> u32
@@ -32,12 +38,6 @@ pub fn memory_number(ram: usize, parity: usize) -> u32
     0
 }
 
-pub fn bad_width(width: u32) -> bool
-    ensures { λ r. ⌜ r ≡ badWidth width ⌝ }
-{
-    (width != 1) & (width != 2) & (width != 4)
-}
-
 fn any_above(limit: u8, answers: &[u8]) -> bool
     ensures { λ r. ⌜ r ≡ anyAbove limit (now (answers .entry)) ⌝ }
 {
@@ -61,7 +61,7 @@ pub fn input_number(
     width: u32,
 ) -> u32
     ensures { λ r. ⌜ r ≡ orElse (lentNumber (length (now (ram .entry))) (length (now (parity .entry))) (length (now («data» .entry))))
-        (orElse (when (badWidth width) 4) (orElse (when (ltb (length (now (ram .entry))) (address + width)) 5) (when (not (eqb (length (now (answers .entry))) 32)) 6))) ⌝ }
+        (orElse (when (badWidth width) 4) (orElse (when (ltb (length (now (ram .entry))) (address + width)) 5) (when (not (eqb (length (now (answers .entry))) answerCount)) 6))) ⌝ }
 {
     let n = ram.len();
     if bad_ram(n) {
@@ -70,7 +70,7 @@ pub fn input_number(
     if parity.len() != n / 4 {
         return 2;
     }
-    if data.len() != 8192 {
+    if data.len() != DATA_SIZE {
         return 3;
     }
     if bad_width(width) {
@@ -79,7 +79,7 @@ pub fn input_number(
     if n < address as usize + width as usize {
         return 5;
     }
-    if answers.len() != 32 {
+    if answers.len() != ANSWERS {
         return 6;
     }
     0
@@ -87,12 +87,12 @@ pub fn input_number(
 
 // Number 6 of the answers themselves, then 7.
 pub fn answers_number(answers: &[u8], log: &[u32]) -> u32
-    ensures { λ r. ⌜ r ≡ orElse (when (anyAbove 7 (now (answers .entry))) 6) (when (ltb (length (now (log .entry))) 96) 7) ⌝ }
+    ensures { λ r. ⌜ r ≡ orElse (when (anyAbove highestAnswer (now (answers .entry))) 6) (when (ltb (length (now (log .entry))) logSize) 7) ⌝ }
 {
-    if any_above(7, answers) {
+    if any_above(HIGHEST_ANSWER, answers) {
         return 6;
     }
-    if log.len() < 96 {
+    if log.len() < LOG_WORDS {
         return 7;
     }
     0
@@ -142,7 +142,7 @@ pub fn view_input_number(ram: usize, data: usize, address: u32) -> u32
     if bad_ram(ram) {
         return 1;
     }
-    if data != 8192 {
+    if data != DATA_SIZE {
         return 3;
     }
     if ram <= address as usize {

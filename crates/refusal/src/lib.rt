@@ -5,7 +5,6 @@ mod state;
 
 pub use call::read_number;
 pub use call::write_number;
-pub use input::bad_width;
 pub use input::external_number;
 pub use input::memory_number;
 pub use input::or_else;

@@ -1,24 +1,26 @@
 // The numbers that turn a call away because of the state.
 ghost use mathlib.Core.Path.{_≡_};
 ghost use Prim.Native.Nat.{_+_, _-_, _<_};
-ghost use Rattle.ways.specs.Address.{setOf};
+ghost use Rattle.ways.specs.Address.{setCount, setOf};
 ghost use Rattle.refusal.specs.Refusal.{statesNumberIn};
+use ways::LINES;
+use ways::SETS;
 
 // The set of the last of so many bytes.
 fn last_set(address: u32, count: u32) -> usize
-    ensures { λ r. ⌜ (r ≡ setOf (address + count - 1)) × (r < 128) ⌝ }
+    ensures { λ r. ⌜ (r ≡ setOf (address + count - 1)) × (r < setCount) ⌝ }
 {
     let end = address as usize + count as usize;
     let last = if end == 0 { 0 } else { end - 1 };
-    last / 16 % 128
+    last / 16 % SETS
 }
 
 // Numbers 21 to 23 of every touched set, the lower address's set first. Most accesses touch one set, and the quick
 // test says that it is sound.
 pub fn states_number<'a>(
-    tags: &'a [u32; 512],
-    valid: &'a [bool; 512],
-    lru: &'a [u8; 128],
+    tags: &'a [u32; LINES],
+    valid: &'a [bool; LINES],
+    lru: &'a [u8; SETS],
     address: u32,
     count: u32,
 ) -> u32

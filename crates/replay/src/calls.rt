@@ -10,7 +10,9 @@ use crate::script::letter_of;
 use crate::script::number;
 use crate::stores::store_line;
 use directory::Directory;
+use directory::LINES;
 use directory::Outcome;
+use directory::SETS;
 
 // Address and width of an access, then PCD or the value; and the place after them.
 struct Access {
@@ -191,9 +193,9 @@ fn view_line<'a>(
 
 // The part that a view shows is RAM's or the data array's, so all that it is lent has one lifetime.
 fn view_answer<'a>(
-    tags: &'a [u32; 512],
-    valid: &'a [bool; 512],
-    lru: &'a [u8; 128],
+    tags: &'a [u32; LINES],
+    valid: &'a [bool; LINES],
+    lru: &'a [u8; SETS],
     ram: &'a [u8],
     data: &'a [u8],
     address: u32,

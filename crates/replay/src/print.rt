@@ -1,5 +1,6 @@
 // Rows on standard output. A row is a label, fields with a tab before each, and a newline.
 use crate::digest::Adler;
+use board::ANSWERS;
 use directory::Directory;
 use directory::Outcome;
 use libc::STDOUT_FILENO;
@@ -73,7 +74,7 @@ pub fn end_with_digests(d: Directory, ram: &[u8], parity: &[u8], data: &[u8], lo
 }
 
 // The answers are one field, a digit for each.
-pub fn board_row(answers: &[u8; 32]) {
+pub fn board_row(answers: &[u8; ANSWERS]) {
     label(b"B\t");
     for k in 0..32usize {
         digit(answers[k]);

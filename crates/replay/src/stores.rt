@@ -3,6 +3,8 @@
 use crate::script::letter_of;
 use crate::script::number;
 use directory::Directory;
+use directory::LINES;
+use directory::SETS;
 
 // A line of another letter is passed over.
 pub fn store_line(line: &[u8], d: Directory, parity: &mut [u8]) -> Directory {
@@ -23,7 +25,7 @@ fn store_tag(line: &[u8], mut d: Directory) -> Directory {
     let place = number(line, 1);
     let tag = number(line, place.next);
     let index = place.value as usize;
-    if index < 512 {
+    if index < LINES {
         d.tags[index] = tag.value;
     }
     d
@@ -33,7 +35,7 @@ fn store_mark(line: &[u8], mut d: Directory) -> Directory {
     let place = number(line, 1);
     let mark = number(line, place.next);
     let index = place.value as usize;
-    if index < 512 {
+    if index < LINES {
         d.valid[index] = mark.value == 1;
     }
     d
@@ -43,7 +45,7 @@ fn store_lru(line: &[u8], mut d: Directory) -> Directory {
     let place = number(line, 1);
     let lru = number(line, place.next);
     let set = place.value as usize;
-    if set < 128 {
+    if set < SETS {
         d.lru[set] = (lru.value % 256) as u8;
     }
     d

@@ -5,7 +5,7 @@ use mathlib.Core.List.{List, [], _∷_, _++_}
 use native.Mathlib.Numerals.{add-one}
 use native.Mathlib.Omega.{arith}
 use lib.ListN.{length, drop, getD, set, drop-of-length-le, length-append}
-use lib.Seq.{sets, drop-cons}
+use lib.Seq.{sets, drop-cons, set-out}
 use Rattle.laws.proofs.Lists.{sets-append}
 use Rattle.fields.specs.Fields.{tab, newline}
 use Rattle.rows.specs.Decimal.{decimal}
@@ -76,6 +76,11 @@ row-put out at event number value cycles a b c d o₁ p₁ o₂ p₂ o₃ p₃ o
           ∙ next-put p₂ (b + 1) (decimal value) tab r₄ c o₃ p₃ ec eo₃ ep₃
           ∙ next-put p₃ (c + 1) (decimal cycles) newline [] d o₄ p₄ ed eo₄ ep₄),
     )
+
+-- a text beyond the end is lost
+pub put-beyond : (out : List ℕ) (at : ℕ) (text : List ℕ) → length out ≤ at → sets out at text ≡ out
+put-beyond out at [] h = refl
+put-beyond out at (x ∷ text) h = rw (set-out out at x h) (put-beyond out (suc at) text (omega (arith, h)))
 
 -- the next byte of a text put in its place, and none is left
 pub put-next : (out text : List ℕ) (k : ℕ) → k < length text → sets (set out k (getD text k 0)) (k + 1) (drop (k + 1) text) ≡ sets out k (drop k text)

@@ -1,6 +1,7 @@
 // Numbers and rows as text, printed into a lent buffer.
 ghost use mathlib.Core.Path.{_≡_};
-ghost use Prim.Native.Nat.{_+_, _≤_};
+ghost use mathlib.Core.List.{List};
+ghost use Prim.Native.Nat.{ℕ, _+_, _≤_};
 ghost use lib.ListN.{length, set};
 ghost use lib.Seq.{sets};
 ghost use Rattle.rows.specs.Decimal.{decimal};
@@ -13,6 +14,13 @@ fn put(out: &mut [u8], at: usize, byte: u8)
     if at < out.len() {
         out[at] = byte;
     }
+}
+
+// The place itself, or the end of out where that comes first: a text beyond the end is lost, wherever it begins.
+fn place_in(out: &[u8], at: usize) -> usize
+    ensures { λ r. ⌜ (r ≤ length (now (out .entry))) × ((text : List ℕ) → sets (now (out .entry)) r text ≡ sets (now (out .entry)) at text) ⌝ }
+{
+    if at < out.len() { at } else { out.len() }
 }
 
 // How many decimal digits a number has.
@@ -51,7 +59,7 @@ fn digit_count(n: u32) -> usize
 
 // Puts the decimal text of n at a place of out, the last digit first, as far as out goes, and answers the place after it.
 fn put_number(out: &mut [u8], at: usize, n: u32) -> usize
-    requires { ⌜ at ≤ 8589934592 ⌝ }
+    requires { ⌜ at ≤ length (now out) + 33 ⌝ }
     ensures { λ r. ⌜ (r ≡ at + length (decimal n)) × (now (out .exit) ≡ sets (now (out .entry)) at (decimal n)) ⌝ }
     ensures { λ r. ⌜ r ≤ at + 10 ⌝ }
 {
@@ -67,7 +75,7 @@ fn put_number(out: &mut [u8], at: usize, n: u32) -> usize
     end
 }
 
-// Puts the header line at the start of out, as far as out goes, and answers the place after it.
+// Puts the header line at the start of out, as far as out goes, and answers its length.
 pub fn put_header(out: &mut [u8]) -> usize
     ensures { λ r. ⌜ (r ≡ length header) × (now (out .exit) ≡ sets (now (out .entry)) 0 header) ⌝ }
 {
@@ -80,13 +88,13 @@ pub fn put_header(out: &mut [u8]) -> usize
     k
 }
 
-// Puts a row at a place of out, as far as out goes, and answers the place after it.
+// Puts a row at a place of out, as far as out goes, and answers the row's length.
 pub fn put_row(out: &mut [u8], at: usize, event: u32, number: u32, value: u32, cycles: u32) -> usize
-    requires { ⌜ at ≤ 4294967296 ⌝ }
-    ensures { λ r. ⌜ (r ≡ at + length (rowOf event number value cycles)) × (now (out .exit) ≡ sets (now (out .entry)) at (rowOf event number value cycles)) ⌝ }
-    ensures { λ r. ⌜ r ≤ at + 44 ⌝ }
+    ensures { λ r. ⌜ (r ≡ length (rowOf event number value cycles)) × (now (out .exit) ≡ sets (now (out .entry)) at (rowOf event number value cycles)) ⌝ }
+    ensures { λ r. ⌜ r ≤ 44 ⌝ }
 {
-    let a = put_number(out, at, event);
+    let from = place_in(out, at);
+    let a = put_number(out, from, event);
     put(out, a, b'\t');
     let b = put_number(out, a + 1, number);
     put(out, b, b'\t');
@@ -94,5 +102,5 @@ pub fn put_row(out: &mut [u8], at: usize, event: u32, number: u32, value: u32, c
     put(out, c, b'\t');
     let d = put_number(out, c + 1, cycles);
     put(out, d, b'\n');
-    d + 1
+    d + 1 - from
 }

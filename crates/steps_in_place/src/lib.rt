@@ -4,17 +4,21 @@ ghost use mathlib.Core.Path.{_≡_};
 ghost use mathlib.Core.Bool.{Bool};
 ghost use mathlib.Core.List.{List};
 ghost use Prim.Native.Nat.{ℕ, _<_};
-ghost use Rattle.directory.specs.Steps.{afterFill, afterFlush, afterReset, afterSnoop, afterUse, controlCall, directoryOf, lentDirectory, snoopCall};
+ghost use Rattle.ways.specs.Address.{setCount, wayCount};
 ghost use Rattle.directory.specs.Outcome.{outcome};
+ghost use Rattle.directory.specs.Steps.{afterFill, afterFlush, afterReset, afterSnoop, afterUse, controlCall, directoryOf, lentDirectory, snoopCall};
 use ways::Found;
+use ways::LINES;
+use ways::SETS;
+use ways::WAYS;
 use ways::lookup;
 use ways::lru_after;
 use ways::set_of;
 use ways::state_number;
 
 // A use of a way.
-pub fn use_in_place(lru: &mut [u8; 128], set: usize, way: usize)
-    requires { ⌜ (set < 128) × (way < 4) ⌝ }
+pub fn use_in_place(lru: &mut [u8; SETS], set: usize, way: usize)
+    requires { ⌜ (set < setCount) × (way < wayCount) ⌝ }
     ensures { λ _. ⌜ ((tags : List ℕ) (valid : List Bool) (cd nw : Bool) → directoryOf tags valid (now (lru .exit)) cd nw
         ≡ afterUse (directoryOf tags valid (now (lru .entry)) cd nw) set way) ⌝ }
 {
@@ -24,34 +28,34 @@ pub fn use_in_place(lru: &mut [u8; 128], set: usize, way: usize)
 
 // A kept fill of a way, which is a use of it.
 pub fn fill_in_place(
-    tags: &mut [u32; 512],
-    valid: &mut [bool; 512],
-    lru: &mut [u8; 128],
+    tags: &mut [u32; LINES],
+    valid: &mut [bool; LINES],
+    lru: &mut [u8; SETS],
     set: usize,
     way: usize,
     tag: u32,
 )
-    requires { ⌜ (set < 128) × (way < 4) ⌝ }
+    requires { ⌜ (set < setCount) × (way < wayCount) ⌝ }
     ensures { λ _. ⌜ ((cd nw : Bool) → lentDirectory (tags .exit) (valid .exit) (lru .exit) cd nw
         ≡ afterFill (lentDirectory (tags .entry) (valid .entry) (lru .entry) cd nw) set way tag) ⌝ }
 {
-    let index = set * 4 + way;
+    let index = set * WAYS + way;
     tags[index] = tag;
     valid[index] = true;
     use_in_place(lru, set, way);
 }
 
-pub fn flush_in_place(valid: &mut [bool; 512])
+pub fn flush_in_place(valid: &mut [bool; LINES])
     ensures { λ _. ⌜ ((tags lru : List ℕ) (cd nw : Bool) → directoryOf tags (now (valid .exit)) lru cd nw
         ≡ afterFlush (directoryOf tags (now (valid .entry)) lru cd nw)) ⌝ }
 {
-    *valid = [false; 512];
+    *valid = [false; LINES];
 }
 
 // The plain snoop step.
 pub fn invalidate_in_place<'a>(
-    tags: &'a [u32; 512],
-    valid: &'a mut [bool; 512],
+    tags: &'a [u32; LINES],
+    valid: &'a mut [bool; LINES],
     nw: bool,
     address: u32,
 )
@@ -64,15 +68,15 @@ pub fn invalidate_in_place<'a>(
     let Found::At(way) = lookup(tags, valid, address) else {
         return;
     };
-    let index = set_of(address) * 4 + way;
+    let index = set_of(address) * WAYS + way;
     valid[index] = false;
 }
 
 // The snoop call: the state of the address's set is checked first, whatever NW is.
 pub fn snoop_in_place<'a>(
-    tags: &'a [u32; 512],
-    valid: &'a mut [bool; 512],
-    lru: &'a [u8; 128],
+    tags: &'a [u32; LINES],
+    valid: &'a mut [bool; LINES],
+    lru: &'a [u8; SETS],
     nw: bool,
     address: u32,
 ) -> u32
@@ -101,17 +105,17 @@ pub fn control_in_place(cd: &mut bool, nw: &mut bool, new_cd: bool, new_nw: bool
 }
 
 pub fn reset_in_place(
-    tags: &mut [u32; 512],
-    valid: &mut [bool; 512],
-    lru: &mut [u8; 128],
+    tags: &mut [u32; LINES],
+    valid: &mut [bool; LINES],
+    lru: &mut [u8; SETS],
     cd: &mut bool,
     nw: &mut bool,
 )
     ensures { λ _. ⌜ lentDirectory (tags .exit) (valid .exit) (lru .exit) (now (cd .exit)) (now (nw .exit)) ≡ afterReset ⌝ }
 {
-    *tags = [0u32; 512];
-    *valid = [false; 512];
-    *lru = [0u8; 128];
+    *tags = [0u32; LINES];
+    *valid = [false; LINES];
+    *lru = [0u8; SETS];
     *cd = true;
     *nw = true;
 }

@@ -1,6 +1,10 @@
 // The event program: event lines on standard input, rows on standard output. A read or a write that fails ends it quietly.
 ghost use mathlib.Core.Path.{_≡_};
+ghost use Prim.Native.Nat.{_+_};
 ghost use lib.ListN.{length};
+ghost use Rattle.events.specs.Output.{longestInput, longestOutput};
+use events::LONGEST_INPUT;
+use events::LONGEST_OUTPUT;
 use libc::STDIN_FILENO;
 use libc::STDOUT_FILENO;
 
@@ -39,15 +43,15 @@ fn print_output(input: &[u8]) {
 }
 
 // One byte more than an input may have is enough to know that it is too long.
-fn input_buffer() -> [u8; 65537]
-    ensures { λ r. ⌜ 65537 ≡ length r ⌝ }
+fn input_buffer() -> [u8; LONGEST_INPUT + 1]
+    ensures { λ r. ⌜ longestInput + 1 ≡ length r ⌝ }
 {
-    [0u8; 65537]
+    [0u8; LONGEST_INPUT + 1]
 }
 
 // The longest output fits.
-fn output_buffer() -> [u8; 2883654]
-    ensures { λ r. ⌜ 2883654 ≡ length r ⌝ }
+fn output_buffer() -> [u8; LONGEST_OUTPUT]
+    ensures { λ r. ⌜ longestOutput ≡ length r ⌝ }
 {
-    [0u8; 2883654]
+    [0u8; LONGEST_OUTPUT]
 }

@@ -10,11 +10,10 @@ use borrow.Author.Tests.{eq-eqb, ne-eqb}
 use Rattle.laws.proofs.Tests.{cond-true, cond-false}
 use Rattle.ways.specs.declared.ways.Found.{Found}
 use Rattle.ways.specs.declared.ways.Found.the-variants.{At, Nothing}
-use Rattle.ways.specs.Address.{setOf}
+use Rattle.ways.specs.Address.{setOf, dataOffset}
 use Rattle.ways.specs.State.{stateNumberIn}
 use Rattle.ways.specs.Ways.{lookupIn}
 use Rattle.words.specs.Bytes.{bytesAt}
-use Rattle.doubleword.specs.Doubleword.{dataOffset}
 use Rattle.refusal.specs.Refusal.{viewInputNumber}
 use Rattle.words.proofs.Places.{bytes-length}
 use Rattle.refusal.proofs.Accepted.{or-zero, GoodView, view-accepted}

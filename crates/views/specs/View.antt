@@ -6,11 +6,10 @@ use lib.Dec.{eqb}
 use lib.ListN.{length}
 use Rattle.ways.specs.declared.ways.Found.{Found}
 use Rattle.ways.specs.declared.ways.Found.the-variants.{At, Nothing}
-use Rattle.ways.specs.Address.{setOf}
+use Rattle.ways.specs.Address.{setOf, dataOffset}
 use Rattle.ways.specs.Ways.{lookupIn}
 use Rattle.ways.specs.State.{stateNumberIn}
 use Rattle.words.specs.Bytes.{bytesAt}
-use Rattle.doubleword.specs.Doubleword.{dataOffset}
 use Rattle.refusal.specs.Refusal.{orElse, viewInputNumber}
 
 -- "a companion question on the same inputs gives the view's number": 1, 3 and 5, then the state of its set.

@@ -8,18 +8,20 @@ ghost use Rattle.words.specs.Bytes.{bytesAt};
 ghost use Rattle.ways.specs.Ways.{lookupIn};
 ghost use Rattle.refusal.specs.Refusal.{viewInputNumber};
 ghost use Rattle.views.specs.View.{shown, shownAt, viewAt, viewIn, viewNumberIn};
-use doubleword::data_offset;
 use refusal::view_input_number;
 use ways::Found;
+use ways::LINES;
+use ways::SETS;
+use ways::data_offset;
 use ways::lookup;
 use ways::set_of;
 use ways::state_number;
 
 // The companion question: 0 where the view is accepted, else the number that turns it away.
 pub fn view_number<'a>(
-    tags: &'a [u32; 512],
-    valid: &'a [bool; 512],
-    lru: &'a [u8; 128],
+    tags: &'a [u32; LINES],
+    valid: &'a [bool; LINES],
+    lru: &'a [u8; SETS],
     ram: &'a [u8],
     data: &'a [u8],
     address: u32,
@@ -35,9 +37,9 @@ pub fn view_number<'a>(
 
 // The sixteen bytes around an address, or the empty part at RAM's start where the view is turned away.
 pub fn view<'a>(
-    tags: &'a [u32; 512],
-    valid: &'a [bool; 512],
-    lru: &'a [u8; 128],
+    tags: &'a [u32; LINES],
+    valid: &'a [bool; LINES],
+    lru: &'a [u8; SETS],
     ram: &'a [u8],
     data: &'a [u8],
     address: u32,
@@ -54,8 +56,8 @@ pub fn view<'a>(
 
 // The same where the view's number is known to be 0, so that a caller who has asked for it does not ask again.
 pub fn accepted_view<'a>(
-    tags: &'a [u32; 512],
-    valid: &'a [bool; 512],
+    tags: &'a [u32; LINES],
+    valid: &'a [bool; LINES],
     ram: &'a [u8],
     data: &'a [u8],
     address: u32,

@@ -1,6 +1,9 @@
-// The parts of an address.
+// The parts of an address, and where the data array holds its line.
 ghost use mathlib.Core.Path.{_≡_};
-ghost use Rattle.ways.specs.Address.{setOf, tagOf};
+ghost use Prim.Native.Nat.{_+_, _≤_, _<_};
+ghost use Rattle.ways.specs.Address.{dataOffset, dataSize, setOf, tagOf, wayCount};
+use crate::sizes::SETS;
+use crate::sizes::WAYS;
 
 pub fn tag_of(address: u32) -> u32
     ensures { λ r. ⌜ r ≡ tagOf address ⌝ }
@@ -11,5 +14,13 @@ pub fn tag_of(address: u32) -> u32
 pub fn set_of(address: u32) -> usize
     ensures { λ r. ⌜ r ≡ setOf address ⌝ }
 {
-    (address / 16 % 128) as usize
+    address as usize / 16 % SETS
+}
+
+// Where the data array holds the line of an address, in a way.
+pub fn data_offset(line: u32, way: usize) -> usize
+    requires { ⌜ way < wayCount ⌝ }
+    ensures { λ r. ⌜ (r ≡ dataOffset line way) × (r + 16 ≤ dataSize) ⌝ }
+{
+    (set_of(line) * WAYS + way) * 16
 }

@@ -2,10 +2,11 @@
 ghost use mathlib.Core.Path.{_≡_};
 ghost use Prim.Native.Nat.{_<_};
 ghost use Rattle.ways.specs.Lru.{lruAfter, lruWay};
+ghost use Rattle.ways.specs.Address.{wayCount};
 
 // The LRU number after a use of a way.
 pub fn lru_after(lru: u8, way: usize) -> u8
-    requires { ⌜ way < 4 ⌝ }
+    requires { ⌜ way < wayCount ⌝ }
     ensures { λ r. ⌜ r ≡ lruAfter lru way ⌝ }
 {
     let kept = if way < 2 {

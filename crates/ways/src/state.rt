@@ -5,25 +5,29 @@ ghost use mathlib.Core.List.{List};
 ghost use Prim.Native.Nat.{_<_};
 ghost use Rattle.ways.specs.Ways.{tagIn};
 ghost use Rattle.ways.specs.State.{firstNumber, samePair, sameTags, stateNumberIn, tagAbove, tagsAbove};
+ghost use Rattle.ways.specs.Address.{setCount, wayCount};
+use crate::sizes::LINES;
+use crate::sizes::SETS;
+use crate::sizes::WAYS;
 
 // Whether two ways of a set are valid and have one tag.
 fn same_pair<'a>(
-    tags: &'a [u32; 512],
-    valid: &'a [bool; 512],
+    tags: &'a [u32; LINES],
+    valid: &'a [bool; LINES],
     set: usize,
     way: usize,
     other: usize,
 ) -> bool
-    requires { ⌜ (set < 128) × (way < 4) × (other < 4) ⌝ }
+    requires { ⌜ (set < setCount) × (way < wayCount) × (other < wayCount) ⌝ }
     ensures { λ r. ⌜ r ≡ samePair (now (tags .entry)) (now (valid .entry)) set way other ⌝ }
 {
-    let index = set * 4 + way;
-    let other_index = set * 4 + other;
+    let index = set * WAYS + way;
+    let other_index = set * WAYS + other;
     valid[index] & valid[other_index] & (tags[index] == tags[other_index])
 }
 
-fn same_tags<'a>(tags: &'a [u32; 512], valid: &'a [bool; 512], set: usize) -> bool
-    requires { ⌜ set < 128 ⌝ }
+fn same_tags<'a>(tags: &'a [u32; LINES], valid: &'a [bool; LINES], set: usize) -> bool
+    requires { ⌜ set < setCount ⌝ }
     ensures { λ r. ⌜ r ≡ sameTags (now (tags .entry)) (now (valid .entry)) set ⌝ }
 {
     same_pair(tags, valid, set, 0, 1)
@@ -35,16 +39,16 @@ fn same_tags<'a>(tags: &'a [u32; 512], valid: &'a [bool; 512], set: usize) -> bo
 }
 
 // Whether a way of a set is valid and its tag has more than 21 bits.
-fn tag_above<'a>(tags: &'a [u32; 512], valid: &'a [bool; 512], set: usize, way: usize) -> bool
-    requires { ⌜ (set < 128) × (way < 4) ⌝ }
+fn tag_above<'a>(tags: &'a [u32; LINES], valid: &'a [bool; LINES], set: usize, way: usize) -> bool
+    requires { ⌜ (set < setCount) × (way < wayCount) ⌝ }
     ensures { λ r. ⌜ r ≡ tagAbove (now (tags .entry)) (now (valid .entry)) set way ⌝ }
 {
-    let index = set * 4 + way;
+    let index = set * WAYS + way;
     valid[index] & (2097151 < tags[index])
 }
 
-fn tags_above<'a>(tags: &'a [u32; 512], valid: &'a [bool; 512], set: usize) -> bool
-    requires { ⌜ set < 128 ⌝ }
+fn tags_above<'a>(tags: &'a [u32; LINES], valid: &'a [bool; LINES], set: usize) -> bool
+    requires { ⌜ set < setCount ⌝ }
     ensures { λ r. ⌜ r ≡ tagsAbove (now (tags .entry)) (now (valid .entry)) set ⌝ }
 {
     tag_above(tags, valid, set, 0)
@@ -68,17 +72,17 @@ fn first_number(same: bool, above: bool, lru: u8) -> u32
     0
 }
 
-fn tag_at(tags: &[u32; 512], set: usize, way: usize) -> u32
-    requires { ⌜ (set < 128) × (way < 4) ⌝ }
+fn tag_at(tags: &[u32; LINES], set: usize, way: usize) -> u32
+    requires { ⌜ (set < setCount) × (way < wayCount) ⌝ }
     ensures { λ r. ⌜ r ≡ tagIn (now (tags .entry)) set way ⌝ }
 {
-    let index = set * 4 + way;
+    let index = set * WAYS + way;
     tags[index]
 }
 
 // Whether the four tags of a set differ and are at most the limit, so that no valid mark matters.
-fn sound_tags(tags: &[u32; 512], set: usize) -> bool
-    requires { ⌜ set < 128 ⌝ }
+fn sound_tags(tags: &[u32; LINES], set: usize) -> bool
+    requires { ⌜ set < setCount ⌝ }
     ensures { λ r. ⌜ (r ≡ true → (valid : List Bool) → (sameTags (now (tags .entry)) valid set ≡ false) × (tagsAbove (now (tags .entry)) valid set ≡ false)) ⌝ }
 {
     let tag0 = tag_at(tags, set, 0);
@@ -96,8 +100,8 @@ fn sound_tags(tags: &[u32; 512], set: usize) -> bool
 }
 
 // Whether the tags and the LRU number of a set alone tell that it meets no number.
-pub fn sound_set<'a>(tags: &'a [u32; 512], lru: &'a [u8; 128], set: usize) -> bool
-    requires { ⌜ set < 128 ⌝ }
+pub fn sound_set<'a>(tags: &'a [u32; LINES], lru: &'a [u8; SETS], set: usize) -> bool
+    requires { ⌜ set < setCount ⌝ }
     ensures { λ r. ⌜ (r ≡ true → (valid : List Bool) → stateNumberIn (now (tags .entry)) valid (now (lru .entry)) set ≡ 0) ⌝ }
 {
     sound_tags(tags, set) & (lru[set] <= 7)
@@ -105,12 +109,12 @@ pub fn sound_set<'a>(tags: &'a [u32; 512], lru: &'a [u8; 128], set: usize) -> bo
 
 // The lowest number that a set meets, or 0. Nearly always the quick test tells that it meets none.
 pub fn state_number<'a>(
-    tags: &'a [u32; 512],
-    valid: &'a [bool; 512],
-    lru: &'a [u8; 128],
+    tags: &'a [u32; LINES],
+    valid: &'a [bool; LINES],
+    lru: &'a [u8; SETS],
     set: usize,
 ) -> u32
-    requires { ⌜ set < 128 ⌝ }
+    requires { ⌜ set < setCount ⌝ }
     ensures { λ r. ⌜ r ≡ stateNumberIn (now (tags .entry)) (now (valid .entry)) (now (lru .entry)) set ⌝ }
 {
     if sound_set(tags, lru, set) {

@@ -3,9 +3,13 @@ ghost use mathlib.Core.Path.{_≡_};
 ghost use mathlib.Core.Bool.{cond, not};
 ghost use Prim.Native.Nat.{_+_, _<_, _≤_};
 ghost use Rattle.ways.specs.Ways.{holds, lookupIn, lowest, validIn, victimIn, wayOr};
+ghost use Rattle.ways.specs.Address.{setCount, wayCount};
 use crate::address::set_of;
 use crate::address::tag_of;
 use crate::lru::lru_way;
+use crate::sizes::LINES;
+use crate::sizes::SETS;
+use crate::sizes::WAYS;
 
 // A way of a set that a test singles out.
 pub enum Found {
@@ -15,7 +19,7 @@ pub enum Found {
 
 // The lowest of some ways whose test holds, counted from the first: that one, or else one of those after it.
 fn lowest_from(test: bool, later: usize) -> usize
-    requires { ⌜ later < 4 ⌝ }
+    requires { ⌜ later < wayCount ⌝ }
     ensures { λ r. ⌜ (r ≡ cond test 0 (1 + later)) × (r ≤ 1 + later) ⌝ }
 {
     if test { 0 } else { 1 + later }
@@ -29,7 +33,7 @@ fn lowest_way(test0: bool, test1: bool, test2: bool, test3: bool) -> Found
         test0,
         lowest_from(test1, lowest_from(test2, lowest_from(test3, 0))),
     );
-    if way < 4 {
+    if way < WAYS {
         Found::At(way)
     } else {
         Found::Nothing
@@ -47,21 +51,21 @@ fn way_or(found: Found, other: usize) -> usize
 
 // Whether a way of a set holds a tag.
 fn holds_tag<'a>(
-    tags: &'a [u32; 512],
-    valid: &'a [bool; 512],
+    tags: &'a [u32; LINES],
+    valid: &'a [bool; LINES],
     set: usize,
     way: usize,
     tag: u32,
 ) -> bool
-    requires { ⌜ (set < 128) × (way < 4) ⌝ }
+    requires { ⌜ (set < setCount) × (way < wayCount) ⌝ }
     ensures { λ r. ⌜ r ≡ holds (now (tags .entry)) (now (valid .entry)) set way tag ⌝ }
 {
-    let index = set * 4 + way;
+    let index = set * WAYS + way;
     valid[index] & (tags[index] == tag)
 }
 
 // The way that holds the line of an address.
-pub fn lookup<'a>(tags: &'a [u32; 512], valid: &'a [bool; 512], address: u32) -> Found
+pub fn lookup<'a>(tags: &'a [u32; LINES], valid: &'a [bool; LINES], address: u32) -> Found
     ensures { λ r. ⌜ r ≡ lookupIn (now (tags .entry)) (now (valid .entry)) address ⌝ }
 {
     let set = set_of(address);
@@ -74,17 +78,17 @@ pub fn lookup<'a>(tags: &'a [u32; 512], valid: &'a [bool; 512], address: u32) ->
     )
 }
 
-fn is_invalid(valid: &[bool; 512], set: usize, way: usize) -> bool
-    requires { ⌜ (set < 128) × (way < 4) ⌝ }
+fn is_invalid(valid: &[bool; LINES], set: usize, way: usize) -> bool
+    requires { ⌜ (set < setCount) × (way < wayCount) ⌝ }
     ensures { λ r. ⌜ r ≡ not (validIn (now (valid .entry)) set way) ⌝ }
 {
-    let index = set * 4 + way;
+    let index = set * WAYS + way;
     !valid[index]
 }
 
 // The way of a set that a kept fill replaces.
-pub fn victim<'a>(valid: &'a [bool; 512], lru: &'a [u8; 128], set: usize) -> usize
-    requires { ⌜ set < 128 ⌝ }
+pub fn victim<'a>(valid: &'a [bool; LINES], lru: &'a [u8; SETS], set: usize) -> usize
+    requires { ⌜ set < setCount ⌝ }
     ensures { λ r. ⌜ r ≡ victimIn (now (valid .entry)) (now (lru .entry)) set ⌝ }
 {
     let invalid = lowest_way(

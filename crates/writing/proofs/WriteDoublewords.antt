@@ -7,6 +7,7 @@ use native.Mathlib.Omega.{arith}
 use native.Mathlib.Nat.{add-zero, zero-add, mod-mod, mul-div-cancel}
 use lib.ListN.{length, length-map}
 use lib.Seq.{sets}
+use Rattle.ways.specs.Address.{dataOffset}
 use Rattle.ways.specs.declared.ways.Found.{Found}
 use Rattle.ways.specs.declared.ways.Found.the-variants.{At, Nothing}
 use Rattle.words.specs.Bytes.{bytesAt, bytesOf, lanesValue, lanesWord}
@@ -23,7 +24,7 @@ use Rattle.doubleword.specs.declared.change.Change.{Change}
 use Rattle.doubleword.specs.declared.change.Change.the-variants.{Unchanged, Use}
 use Rattle.doubleword.specs.declared.change.Wanted.{Wanted}
 use Rattle.doubleword.specs.declared.cursor.AccessCursor.{AccessCursor}
-use Rattle.doubleword.specs.Doubleword.{Doubleword, Done, dataOffset, plainCycles}
+use Rattle.doubleword.specs.Doubleword.{Doubleword, Done, plainCycles}
 use Rattle.doubleword.specs.Cursor.{wantedOf, groupAt, AccessNeeds}
 use Rattle.doubleword.specs.DoublewordCode.{BelowFour, NoFill}
 use Rattle.writing.specs.Writing.{writeBuffer, writeThrough, hitArray, writeDone}

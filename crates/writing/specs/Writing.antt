@@ -4,6 +4,7 @@ use mathlib.Core.Bool.{Bool, cond}
 use mathlib.Core.List.{List, [], map}
 use lib.ListN.{replicate}
 use lib.Seq.{sets}
+use Rattle.ways.specs.Address.{dataOffset}
 use Rattle.ways.specs.declared.ways.Found.{Found}
 use Rattle.ways.specs.declared.ways.Found.the-variants.{At, Nothing}
 use Rattle.words.specs.Bytes.{bytesAt}
@@ -12,7 +13,7 @@ use Rattle.bus.specs.Bus.{afterCycles, memoryAfter}
 use Rattle.bus.specs.Record.{writeRecord}
 use Rattle.doubleword.specs.declared.change.Change.{Change}
 use Rattle.doubleword.specs.declared.change.Change.the-variants.{Unchanged, Use}
-use Rattle.doubleword.specs.Doubleword.{Doubleword, dataOffset, Done, plainCycles}
+use Rattle.doubleword.specs.Doubleword.{Doubleword, Done, plainCycles}
 
 -- The bytes of an operand that go into a doubleword, in a line buffer.
 abbrev pub writeBuffer : List ℕ → Doubleword → List ℕ

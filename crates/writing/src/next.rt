@@ -10,6 +10,7 @@ ghost use Rattle.writing.specs.WritingCode.{WriteNext};
 use crate::writing::write_doubleword;
 use doubleword::AccessCursor;
 use doubleword::Change;
+use ways::LINES;
 use words::placed_lanes;
 
 // What the next doubleword did: the directory's change with its line, how many bytes it wrote, the count of cycles. What is left
@@ -23,8 +24,8 @@ pub struct NextWritten {
 
 // The doubleword at a cursor, by lent fields of the directory. stays: CD = NW = 1, where a hit makes no cycle.
 pub fn write_next<'a>(
-    tags: &'a [u32; 512],
-    valid: &'a [bool; 512],
+    tags: &'a [u32; LINES],
+    valid: &'a [bool; LINES],
     stays: bool,
     ram: &mut [u8],
     parity: &mut [u8],

@@ -4,6 +4,7 @@ ghost use mathlib.Core.List.{List, [], _∷_};
 ghost use Prim.Native.Nat.{ℕ, _+_, _%_, _≤_};
 ghost use lib.ListN.{length};
 ghost use Rattle.ways.specs.Ways.{lookupIn};
+ghost use Rattle.ways.specs.Address.{dataSize};
 ghost use Rattle.words.specs.Bytes.{bytesAt, bytesOf, lanesValue, lanesWord};
 ghost use Rattle.memory.specs.Parity.{lentMemory, stored};
 ghost use Rattle.bus.specs.Bus.{cyclesOf, run};
@@ -16,9 +17,10 @@ ghost use Rattle.writing.specs.WritingCode.{Writes};
 use cycles::write_cycles;
 use doubleword::Change;
 use doubleword::Wanted;
-use doubleword::data_offset;
 use memory::store_lanes;
 use ways::Found;
+use ways::LINES;
+use ways::data_offset;
 use words::put_lanes;
 
 // What a doubleword of a write did: the directory's change, the count of cycles.
@@ -50,8 +52,8 @@ fn write_through(
 // One doubleword of a write, whose bytes are given in their lanes, the other lanes 0. stays: CD = NW = 1, where a hit makes no cycle. first: the
 // records already in the log.
 pub fn write_doubleword<'a>(
-    tags: &'a [u32; 512],
-    valid: &'a [bool; 512],
+    tags: &'a [u32; LINES],
+    valid: &'a [bool; LINES],
     stays: bool,
     ram: &mut [u8],
     parity: &mut [u8],
@@ -62,7 +64,7 @@ pub fn write_doubleword<'a>(
     word: u32,
     first: usize,
 ) -> DoublewordWritten
-    requires { ⌜ DoublewordNeeds w first (length (now ram)) (length (now parity)) (length (now answers)) (length (now log)) × (length (now «data») ≡ 8192) × (word ≡ lanesWord word (w .from % 4) (w .count)) ⌝ }
+    requires { ⌜ DoublewordNeeds w first (length (now ram)) (length (now parity)) (length (now answers)) (length (now log)) × (length (now «data») ≡ dataSize) × (word ≡ lanesWord word (w .from % 4) (w .count)) ⌝ }
     ensures { λ r. ⌜ ((operand : List ℕ) → bytesAt operand (w .place) (w .count) ≡ bytesOf (w .count) (lanesValue word (w .from % 4) (w .count)) →
         Writes (writeDone (lookupIn (now (tags .entry)) (now (valid .entry)) (w .line)) stays (lentMemory (ram .entry) (parity .entry)) (now («data» .entry)) operand (doublewordOf w (now (answers .entry))))
         first (now (log .entry)) (r .change) (r .cycles) (lentMemory (ram .exit) (parity .exit)) (now («data» .exit)) (now (log .exit))) ⌝ }

@@ -1,4 +1,5 @@
-use mathlib.Core.Path.{_∙_}
+use Prim.Native.Nat.{ℕ, _+_}
+use mathlib.Core.Path.{ap, _∙_}
 use Rattle.rows.proofs.Printing.{header-length}
 use Rattle.events.proofs.Rest.{output-long, output-lines, after-header}
 use native.Mathlib.Omega.{arith}
@@ -9,7 +10,10 @@ put-header-requires : tie.Need-put-header-requires
 put-header-requires c κs = tt
 
 put-row-requires : tie.Need-put-row-requires
-put-row-requires c κs = omega (arith, c .before .before .before .before .put-header .ensures, header-length)
+put-row-requires c κs = tt
+
+add-result : tie.Need-add-result
+add-result c = omega (arith, c .before .before .put-row .ensures .1, c .before .before .before .before .before .before .before .put-header .ensures .0, header-length)
 
 same-length : tie.Need-same-length
 same-length c = c .before .before .put-row .kept .0 ∙ c .before .before .before .before .before .before .before .put-header .kept .0
@@ -23,12 +27,12 @@ returns c =
     let a = start .args in (
       rw (output-long (a .input .now) (at-if1 .if1 .taken))
           (after-header (a .output .now) _ _ _ _ _ (at-put-header .put-header .ensures .0) (at-put-header .put-header .ensures .1)
-          (at-put-row .put-row .ensures .0 .0) (at-put-row .put-row .ensures .0 .1)),
+          (ap (λ (size : ℕ). at-put-header .put-header .result + size) (at-put-row .put-row .ensures .0 .0)) (at-put-row .put-row .ensures .0 .1)),
       omega (arith, at-put-header .put-header .ensures .0, header-length, at-put-row .put-row .ensures .1),
     )
 
 run-lines-requires : tie.Need-run-lines-requires
-run-lines-requires c κs = (omega arith, omega (arith, c .before .before .before .before .put-header .ensures, header-length))
+run-lines-requires c κs = (omega arith, omega (arith, c .before .before .before .before .put-header .ensures .0))
 
 same-length-2 : tie.Need-same-length-2
 same-length-2 c = c .before .before .run-lines .kept .1 .0 ∙ c .before .before .before .before .before .before .before .put-header .kept .0
@@ -51,6 +55,7 @@ run-spec =
     (tie.spec
     put-header-requires
     put-row-requires
+    add-result
     same-length
     returns
     run-lines-requires

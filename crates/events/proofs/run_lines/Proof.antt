@@ -8,6 +8,7 @@ use Rattle.memory.specs.Parity.{memory}
 use Rattle.refusal.specs.Call.{state}
 use Rattle.fields.specs.Fields.{linesOf}
 use Rattle.events.specs.Output.{rowsOf, start}
+use Rattle.rows.proofs.Printing.{header-length}
 use Rattle.events.proofs.Rest.{rowsLeft, rows-left-none, line-done}
 use denote.Ref.{now}
 use Rattle.directory.specs.Steps.{directoryOf}
@@ -60,10 +61,13 @@ perform-requires : tie.Need-perform-requires Inv-loop μ-loop
 perform-requires c κs = search needs
 
 put-row-requires : tie.Need-put-row-requires Inv-loop μ-loop
-put-row-requires c κs =
-    let c17 = c .before .before .before .before .before .before .before .before .before .before .before .before .before .before .before .before .before in
-    let c24 = c17 .before .before .before .before .before .before .before in
-    omega (arith, c17 .loop .inv .2, c17 .loop .inv .3, c17 .loop .inv .4, c24 .pre)
+put-row-requires c κs = search needs
+
+add-at : tie.Need-add-at Inv-loop μ-loop
+add-at c =
+    let c20 = c .before .before .before .before .before .before .before .before .before .before .before .before .before .before .before .before .before .before .before .before in
+    let c27 = c20 .before .before .before .before .before .before .before in
+    omega (arith, header-length, c .before .before .put-row .ensures .1, c20 .loop .inv .2, c20 .loop .inv .3, c20 .loop .inv .4, c27 .pre)
 
 add-event : tie.Need-add-event Inv-loop μ-loop
 add-event c =
@@ -143,6 +147,7 @@ run-lines-spec =
     slice-aggregate-perform-4
     perform-requires
     put-row-requires
+    add-at
     add-event
     add-place
     add-place-2

@@ -1,0 +1,25 @@
+// The widths of an access, and the sizes of its answers and of its log.
+ghost use mathlib.Core.Path.{_≡_};
+ghost use Rattle.bus.specs.Groups.{badWidth};
+
+// The answers that serve a doubleword.
+pub const GROUP_SIZE: usize = 16;
+
+// The groups of answers: of the lower doubleword and of the upper one.
+const GROUPS: usize = 2;
+
+// The board's answers for an access.
+pub const ANSWERS: usize = GROUP_SIZE * GROUPS;
+
+// The highest answer that is one.
+pub const HIGHEST_ANSWER: u8 = 7;
+
+// The words of a log that an access needs: a record for each answer.
+pub const LOG_WORDS: usize = 3 * ANSWERS;
+
+// Whether an access of so many bytes is none.
+pub fn bad_width(width: u32) -> bool
+    ensures { λ r. ⌜ r ≡ badWidth width ⌝ }
+{
+    (width != 1) & (width != 2) & (width != 4)
+}
