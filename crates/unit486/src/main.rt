@@ -2,6 +2,7 @@
 ghost use mathlib.Core.Path.{_≡_};
 ghost use Prim.Native.Nat.{_+_};
 ghost use lib.ListN.{length};
+ghost use Rattle.libc.specs.Io.{Moved};
 ghost use Rattle.events.specs.Output.{longestInput, longestOutput};
 use events::LONGEST_INPUT;
 use events::LONGEST_OUTPUT;
@@ -20,7 +21,9 @@ fn main() {
 
 // Reads until the input ends or fills the buffer. Answers how many bytes there are, or -1 where a read failed: what was read
 // before it may end within a line.
-fn read_input(buffer: &mut [u8]) -> isize {
+fn read_input(buffer: &mut [u8]) -> isize
+    ensures { λ r. ⌜ Moved (length (now (buffer .entry))) r × (length (now (buffer .exit)) ≡ length (now (buffer .entry))) ⌝ }
+{
     let mut done: usize = 0;
     while done < buffer.len() {
         let got = libc::read(STDIN_FILENO, &mut buffer[done..]);

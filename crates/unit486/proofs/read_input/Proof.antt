@@ -1,8 +1,12 @@
 use lib.ListN.{length}
 use mathlib.Core.Path.{_≡_, refl}
-use Prim.Native.Nat.{_≤_, _-_}
+use Prim.Native.Nat.{ℕ, _^_, _≤_, _<_, _-_}
+use mir.Syntax.{w64}
+use mir.Val.{hbits, toZ}
+use mir.Facts.{toZ-pos}
 use borrow.Author.Needs.{needs}
 use native.Mathlib.Omega.{arith}
+use Rattle.libc.specs.Io.{Moved}
 use Rattle.unit486.proofs.read_input.Statement.{statement}
 use Rattle.unit486.proofs.read_input.Tie as tie
 
@@ -11,6 +15,10 @@ Inv-loop buffer₀ done₀ buffer done = (done ≤ length buffer) × (length buf
 
 abbrev μ-loop : tie.MeasureT-loop
 μ-loop buffer₀ done₀ buffer done = length buffer₀ - done
+
+-- a count that fits is answered as it is
+moved : (n k : ℕ) → k ≤ n → k < 2 ^ hbits w64 → Moved n (toZ w64 k)
+moved n k h s = rw (toZ-pos w64 s) h
 
 loop-holds : tie.Need-loop-holds Inv-loop μ-loop
 loop-holds c = (omega arith, refl)
@@ -52,7 +60,9 @@ same-length-2 : tie.Need-same-length-2 Inv-loop μ-loop
 same-length-2 c = search needs
 
 returns-2 : tie.Need-returns-2 Inv-loop μ-loop
-returns-2 c = search needs
+returns-2 c =
+    let at-loop = c .before .before .before .before .before .before .before .before .before .before in
+    (moved _ (at-loop .loop .done) (omega (arith, at-loop .loop .inv)) (cast-result c .sfits), same-length-2 c)
 
 add-done : tie.Need-add-done Inv-loop μ-loop
 add-done c = search needs
@@ -70,7 +80,7 @@ same-length-3 : tie.Need-same-length-3 Inv-loop μ-loop
 same-length-3 c = c .before .loop .inv .1
 
 returns-3 : tie.Need-returns-3 Inv-loop μ-loop
-returns-3 c = search needs
+returns-3 c = (moved _ (c .before .loop .done) (omega (arith, c .before .loop .inv)) (cast-result-2 c .sfits), c .before .loop .inv .1)
 
 pub read-input-spec : {M : Type 1} → statement M
 read-input-spec =
