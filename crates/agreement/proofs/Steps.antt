@@ -61,17 +61,23 @@ refused-matches s m c n log =
       no-error = none-counted _ refl;
     }
 
+-- the plain memory by its number
+plain-accepted : (m : List ℕ) (x : Call) → plainNumber m x ≡ 0 → plain m x ≡ plainDone m x
+unfolding plain
+plain-accepted m x z = cond-true _ _ _ (eq-eqb _ 0 z)
+
+plain-refused : (m : List ℕ) (x : Call) → (plainNumber m x ≡ 0 → ⊥) → plain m x ≡ plainRefused (plainNumber m x) m
+unfolding plain
+plain-refused m x h = cond-false _ _ _ (ne-eqb _ 0 h)
+
 -- a call by its number: refused and nothing changed, or done
 module _ (s : State) (m : List ℕ) (c : Coherent s m) (x : Call) where
   by-number : (n : ℕ) → n ≡ plainNumber m x → (n ≡ 0 → StepMatches (step s x) (plainDone m x)) → (log : List ℕ) → ((n ≡ 0 → ⊥) → step s x ≡ refused n s log) →
       StepMatches (step s x) (plain m x)
-  unfolding plain
   by-number n e g log f =
       same-or _ n 0
-      (λ z. let k : plainNumber m x ≡ 0 = sym e ∙ z in rw (cond-true _ (plainDone m x) (plainRefused (plainNumber m x) m) (eq-eqb _ 0 k)) (g z))
-      (λ h.
-      let k : plainNumber m x ≡ 0 → ⊥ = λ q. h (e ∙ q) in
-      rw (cond-false _ (plainDone m x) (plainRefused (plainNumber m x) m) (ne-eqb _ 0 k), f h, e) (refused-matches s m c (plainNumber m x) log))
+      (λ z. rw (plain-accepted m x (sym e ∙ z)) (g z))
+      (λ h. rw (plain-refused m x (λ q. h (e ∙ q)), f h, e) (refused-matches s m c (plainNumber m x) log))
 
 module _ (s : State) (m : List ℕ) (c : Coherent s m) where
   whole : length m % 16 ≡ 0
