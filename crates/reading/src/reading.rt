@@ -88,7 +88,8 @@ pub fn read_doubleword<'a>(
     let start = w.from / 4;
     let cycles = fill_cycles(&ram[..], &parity[..], &answers[..], log, line, start, first);
     let value = value_at(&ram[..], line + w.from, w.count);
-    if answers[cycles - 1] % 2 == 1 {
+    let kept = answers[cycles - 1] % 2 == 1;
+    if kept {
         let way = keep_line(valid, lru, &ram[..], data, w.line);
         let change = Change::Fill(way);
         return DoublewordRead {

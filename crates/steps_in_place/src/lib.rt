@@ -114,7 +114,7 @@ pub fn reset_in_place(
     ensures { λ _. ⌜ lentDirectory (tags .exit) (valid .exit) (lru .exit) (now (cd .exit)) (now (nw .exit)) ≡ afterReset ⌝ }
 {
     *tags = [0u32; LINES];
-    *valid = [false; LINES];
+    flush_in_place(valid);
     *lru = [0u8; SETS];
     *cd = true;
     *nw = true;

@@ -1,6 +1,6 @@
 use native.Mathlib.Omega.{arith}
 use mathlib.Core.Path.{sym, _∙_}
-use borrow.Author.Tests.{not-true, not-false, eq-eqb, ne-eqb}
+use borrow.Author.Tests.{not-true, not-false}
 use Rattle.ways.proofs.FourWays.{lookup-below, victim-below}
 use Rattle.reading.proofs.ReadDoublewords.{hit-reads, plain-reads, dropped-reads, kept-reads, one-doubleword}
 use borrow.Author.Needs.{needs}
@@ -97,26 +97,26 @@ value-at-requires-2 : tie.Need-value-at-requires-2
 value-at-requires-2 c κs = search needs
 
 -- src/reading.rt:89:16
-sub-if2 : tie.Need-sub-if2
-sub-if2 c = search needs
+sub-kept : tie.Need-sub-kept
+sub-kept c = search needs
 
 -- src/reading.rt:89:8
-shared-slice-read-if2 : tie.Need-shared-slice-read-if2
-shared-slice-read-if2 c = search needs
+shared-slice-read-kept : tie.Need-shared-slice-read-kept
+shared-slice-read-kept c = search needs
 
 -- src/reading.rt:90:13
 keep-line-requires : tie.Need-keep-line-requires
 keep-line-requires c κs = search needs
 
--- src/reading.rt:92:9
+-- src/reading.rt:93:9
 same-length-3 : tie.Need-same-length-3
 same-length-3 c = search needs
 
--- src/reading.rt:92:9
+-- src/reading.rt:93:9
 same-length-4 : tie.Need-same-length-4
 same-length-4 c = search needs
 
--- src/reading.rt:92:9
+-- src/reading.rt:93:9
 returns-3 : tie.Need-returns-3
 returns-3 c =
     let at-keep-line = c .before .before in
@@ -132,7 +132,7 @@ returns-3 c =
     let r = at-fill-cycles .fill-cycles .ensures in
     kept-reads _ _ _ _ _ _ _ _ (sym (at-lookup .lookup .ensures) ∙ at-enum-told .enum-told .given .1) (one-doubleword _ _ _ _ _ _ p)
     (omega (arith, p .served)) _ (at-value-at2 .value-at2 .ensures) (λ i. omega (arith, at-shared-slice-known .shared-slice-known .given i)) _ _
-    (not-false _ (at-if1 .if1 .left)) (r .0) (r .1) (r .2) (eq-eqb _ 1 (at-if2 .if2 .taken)) _ (at-keep-line .keep-line .ensures .0)
+    (not-false _ (at-if1 .if1 .left)) (r .0) (r .1) (r .2) (at-if2 .if2 .taken) _ (at-keep-line .keep-line .ensures .0)
     (rw (at-keep-line .keep-line .ensures .0) (victim-below _ _ _)) _ (at-keep-line .keep-line .ensures .1)
 
 -- src/reading.rt:49:1
@@ -153,7 +153,7 @@ returns-4 c =
     let r = at-fill-cycles .fill-cycles .ensures in
     dropped-reads _ _ _ _ _ _ _ _ (sym (at-lookup .lookup .ensures) ∙ at-enum-told .enum-told .given .1) (one-doubleword _ _ _ _ _ _ p)
     (omega (arith, p .served)) _ (at-value-at2 .value-at2 .ensures) (λ i. omega (arith, at-shared-slice-known .shared-slice-known .given i)) _ _
-    (not-false _ (at-if1 .if1 .left)) (r .0) (r .1) (r .2) (ne-eqb _ 1 (c .if2 .left))
+    (not-false _ (at-if1 .if1 .left)) (r .0) (r .1) (r .2) (c .if2 .left)
 
 pub read-doubleword-spec : {M : Type 1} → statement M
 read-doubleword-spec =
@@ -175,8 +175,8 @@ read-doubleword-spec =
     fill-cycles-requires
     add-value-at-2
     value-at-requires-2
-    sub-if2
-    shared-slice-read-if2
+    sub-kept
+    shared-slice-read-kept
     keep-line-requires
     same-length-3
     same-length-4
