@@ -13,7 +13,7 @@ use Rattle.bus.specs.Groups.{groupCount}
 use Rattle.doubleword.specs.Doubleword.{Doubleword, doublewordsOf, changed, Done}
 use Rattle.reading.specs.Reading.{readDone}
 use Rattle.writing.specs.Writing.{writeDone}
-use Rattle.access.specs.declared.result.CallResult.{CallResult}
+use Rattle.access.specs.declared.CallResult.{CallResult}
 use Rattle.refusal.specs.Call.{State, state, After, after, refused}
 use Rattle.refusal.specs.Refusal.{orElse, lentNumber, argumentNumber, valueNumber, statesNumberOf}
 

@@ -1,13 +1,22 @@
-// Reads and writes, by value and in place. RAM, parity array, data array, answers and log are lent by the caller.
-mod read_call;
-mod reading_in_place;
-mod result;
-mod write_call;
-mod writing_in_place;
+// The rules of reads and writes in specs/, and what a call in place answers.
+ghost use mathlib.Core.Path.{_≡_};
 
-pub use read_call::read;
-pub use reading_in_place::read_in_place;
-pub use result::CallResult;
-pub use result::number_only;
-pub use write_call::write;
-pub use writing_in_place::write_in_place;
+// What a call answers, apart from the directory: 0 where it was done or the number that refused it, a read's value, the count of
+// cycles.
+#[repr(C)]
+pub struct CallResult {
+    pub number: u32,
+    pub value: u32,
+    pub cycles: u32,
+}
+
+// What a call without value and cycles answers.
+pub fn number_only(number: u32) -> CallResult
+    ensures { λ r. ⌜ r ≡ record { number = number; value = 0; cycles = 0 } ⌝ }
+{
+    CallResult {
+        number,
+        value: 0,
+        cycles: 0,
+    }
+}

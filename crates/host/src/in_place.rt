@@ -32,7 +32,7 @@ pub extern "C" fn unit486_read_in_place<'a>(
     ensures { λ r. ⌜ ((nw : Bool) → leaves r (lentState (tags .exit) (valid .exit) (lru .exit) cd nw (ram .entry) (parity .entry) («data» .exit)) (now (log .exit))
         ≡ readCall (lentState (tags .entry) (valid .entry) (lru .entry) cd nw (ram .entry) (parity .entry) («data» .entry)) address width pcd (now (answers .entry)) (now (log .entry))) ⌝ }
 {
-    access::read_in_place(
+    read_calls::read_in_place(
         tags,
         valid,
         lru,
@@ -67,7 +67,7 @@ pub extern "C" fn unit486_write_in_place<'a>(
     ensures { λ r. ⌜ leaves r (lentState (tags .entry) (valid .entry) (lru .exit) cd nw (ram .exit) (parity .exit) («data» .exit)) (now (log .exit))
         ≡ writeCall (lentState (tags .entry) (valid .entry) (lru .entry) cd nw (ram .entry) (parity .entry) («data» .entry)) address width value (now (answers .entry)) (now (log .entry)) ⌝ }
 {
-    access::write_in_place(
+    write_calls::write_in_place(
         tags,
         valid,
         lru,

@@ -3,7 +3,7 @@ use mathlib.Core.Path.{_≡_, sym, ap, _∙_}
 use mathlib.Core.List.{List}
 use Prim.Native.Nat.{ℕ}
 use Rattle.refusal.specs.Call.{State, After}
-use Rattle.access.specs.declared.result.CallResult.{CallResult}
+use Rattle.access.specs.declared.CallResult.{CallResult}
 use Rattle.access.specs.Access.{leaves}
 use Rattle.performing.specs.Perform.{Leaves}
 

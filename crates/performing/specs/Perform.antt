@@ -6,7 +6,7 @@ use mathlib.Core.Option.{Option, none, some}
 use lib.ListN.{drop, replicate}
 use Rattle.bus.specs.Groups.{logSize}
 use Rattle.refusal.specs.Call.{State, After, refused}
-use Rattle.access.specs.declared.result.CallResult.{CallResult}
+use Rattle.access.specs.declared.CallResult.{CallResult}
 use Rattle.access.specs.Access.{leaves}
 use Rattle.agreement.specs.Calls.{Call, read, write, external, snoop, flush, control, reset, step}
 use Rattle.board.specs.Board.{boardAnswers}

@@ -14,20 +14,20 @@ ghost use Rattle.lines.specs.Scan.{longestLine};
 ghost use Rattle.performing.specs.Perform.{Leaves, lineDone, zeroLog};
 use access::CallResult;
 use access::number_only;
-use access::read_in_place;
-use access::write_in_place;
 use bus::LOG_WORDS;
 use fields::pair_bytes;
 use lines::Event;
 use lines::LONGEST_LINE;
 use lines::scan;
 use masters::external_write_in_place;
+use read_calls::read_in_place;
 use steps_in_place::control_in_place;
 use steps_in_place::flush_in_place;
 use steps_in_place::reset_in_place;
 use steps_in_place::snoop_in_place;
 use ways::LINES;
 use ways::SETS;
+use write_calls::write_in_place;
 
 // The line's event with the board's answers, on a directory whose fields are lent. A malformed line answers 11.
 pub fn perform<'a>(

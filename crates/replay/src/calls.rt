@@ -72,7 +72,7 @@ fn read_line(
     let a = fields_of(line);
     let mut answers = [0u8; 64];
     let n = answers_of(line, a, &mut answers);
-    let done = access::read(
+    let done = read_calls::read(
         d,
         ram,
         parity,
@@ -97,7 +97,7 @@ fn write_line(
     let a = fields_of(line);
     let mut answers = [0u8; 64];
     let n = answers_of(line, a, &mut answers);
-    let done = access::write(
+    let done = write_calls::write(
         d,
         ram,
         parity,

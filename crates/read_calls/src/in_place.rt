@@ -1,0 +1,112 @@
+// The read call on a directory whose arrays are lent: nothing of the directory is copied. A read does not look at NW, so the contract
+// holds for either value.
+ghost use mathlib.Core.Path.{_≡_};
+ghost use mathlib.Core.Bool.{Bool};
+ghost use lib.ListN.{length};
+ghost use Rattle.refusal.specs.Refusal.{argumentNumber, lentNumber, orElse, statesNumberIn};
+ghost use Rattle.refusal.specs.Call.{lentState};
+ghost use Rattle.access.specs.Access.{leaves, readCall};
+use access::CallResult;
+use access::number_only;
+use doubleword::AccessCursor;
+use doubleword::change_in_place;
+use reading::read_next;
+use reading::with_part;
+use refusal::read_number;
+use ways::LINES;
+use ways::SETS;
+
+// The doublewords of a read whose number is 0.
+fn read_accepted<'a>(
+    tags: &'a mut [u32; LINES],
+    valid: &'a mut [bool; LINES],
+    lru: &'a mut [u8; SETS],
+    cd: bool,
+    ram: &[u8],
+    parity: &[u8],
+    data: &mut [u8],
+    address: u32,
+    width: u32,
+    pcd: bool,
+    answers: &[u8],
+    log: &mut [u32],
+) -> CallResult
+    requires { ⌜ orElse (lentNumber (length (now ram)) (length (now parity)) (length (now «data»)))
+        (orElse (argumentNumber (length (now ram)) address width (now answers) (length (now log))) (statesNumberIn (now tags) (now valid) (now lru) address width)) ≡ 0 ⌝ }
+    ensures { λ r. ⌜ ((nw : Bool) → leaves r (lentState (tags .exit) (valid .exit) (lru .exit) cd nw (ram .entry) (parity .entry) («data» .exit)) (now (log .exit))
+        ≡ readCall (lentState (tags .entry) (valid .entry) (lru .entry) cd nw (ram .entry) (parity .entry) («data» .entry)) address width pcd (now (answers .entry)) (now (log .entry))) ⌝ }
+{
+    let mut value: u32 = 0;
+    let mut cursor = AccessCursor::begin(address, width);
+    while 0 < cursor.left {
+        let next = read_next(
+            tags,
+            valid,
+            lru,
+            !cd & !pcd,
+            &ram[..],
+            &parity[..],
+            data,
+            &answers[..],
+            log,
+            cursor,
+        );
+        let change = next.change;
+        change_in_place(tags, valid, lru, next.line, change);
+        value = with_part(value, cursor.place, next.value);
+        cursor = cursor.next(next.count, next.cycles);
+    }
+    CallResult {
+        number: 0,
+        value,
+        cycles: cursor.cycles as u32,
+    }
+}
+
+pub fn read_in_place<'a>(
+    tags: &'a mut [u32; LINES],
+    valid: &'a mut [bool; LINES],
+    lru: &'a mut [u8; SETS],
+    cd: bool,
+    ram: &[u8],
+    parity: &[u8],
+    data: &mut [u8],
+    address: u32,
+    width: u32,
+    pcd: bool,
+    answers: &[u8],
+    log: &mut [u32],
+) -> CallResult
+    ensures { λ r. ⌜ ((nw : Bool) → leaves r (lentState (tags .exit) (valid .exit) (lru .exit) cd nw (ram .entry) (parity .entry) («data» .exit)) (now (log .exit))
+        ≡ readCall (lentState (tags .entry) (valid .entry) (lru .entry) cd nw (ram .entry) (parity .entry) («data» .entry)) address width pcd (now (answers .entry)) (now (log .entry))) ⌝ }
+{
+    let number = read_number(
+        tags,
+        valid,
+        lru,
+        ram,
+        parity,
+        data,
+        address,
+        width,
+        answers,
+        log,
+    );
+    if number != 0 {
+        return number_only(number);
+    }
+    read_accepted(
+        tags,
+        valid,
+        lru,
+        cd,
+        &ram[..],
+        &parity[..],
+        data,
+        address,
+        width,
+        pcd,
+        &answers[..],
+        log,
+    )
+}

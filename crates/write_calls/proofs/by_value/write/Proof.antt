@@ -1,0 +1,68 @@
+use Rattle.access.proofs.Calls.{write-turned}
+use Rattle.memory.specs.Parity.{memory}
+use denote.Ref.{now}
+use borrow.Author.Needs.{needs}
+use Rattle.write_calls.proofs.by_value.write.Statement.{statement}
+use Rattle.write_calls.proofs.by_value.write.Tie as tie
+
+write-number-requires : tie.Need-write-number-requires
+write-number-requires c κs = search needs
+
+answered-requires : tie.Need-answered-requires
+answered-requires c κs = search needs
+
+same-length : tie.Need-same-length
+same-length c = search needs
+
+same-length-2 : tie.Need-same-length-2
+same-length-2 c = search needs
+
+same-length-3 : tie.Need-same-length-3
+same-length-3 c = search needs
+
+same-length-4 : tie.Need-same-length-4
+same-length-4 c = search needs
+
+returns : tie.Need-returns
+returns c =
+    let at-number = c .before .before in
+    let a = at-number .before .before .before .before .before .before .before .before .before .before .before .before .before .before .args in
+    rw (c .answered .ensures)
+    (write-turned (a .t1) (memory (now (a .ram)) (now (a .parity))) (now (a .«data»)) (a .address) (a .width) (now (a .answers)) (now (a .log))
+    (a .value) _ (at-number .write-number .ensures) (c .before .if1 .taken))
+
+write-all-requires : tie.Need-write-all-requires
+write-all-requires c κs = search needs
+
+same-length-5 : tie.Need-same-length-5
+same-length-5 c = search needs
+
+same-length-6 : tie.Need-same-length-6
+same-length-6 c = search needs
+
+same-length-7 : tie.Need-same-length-7
+same-length-7 c = search needs
+
+same-length-8 : tie.Need-same-length-8
+same-length-8 c = search needs
+
+returns-2 : tie.Need-returns-2
+returns-2 c = search needs
+
+pub write-spec : {M : Type 1} → statement M
+write-spec =
+    tie.close
+    (tie.spec
+    write-number-requires
+    answered-requires
+    same-length
+    same-length-2
+    same-length-3
+    same-length-4
+    returns
+    write-all-requires
+    same-length-5
+    same-length-6
+    same-length-7
+    same-length-8
+    returns-2)
