@@ -7,16 +7,26 @@ use lib.Dec.{eqb}
 use borrow.Author.Tests.{eqb-true}
 use Rattle.laws.proofs.Tests.{by-test}
 use Rattle.directory.specs.Steps.{afterReset}
-use Rattle.directory.proofs.Laws.{reset-none, reset-control, reset-apart}
+use Rattle.directory.proofs.Laws.{reset-none, reset-control, reset-limits, reset-apart}
 use Rattle.memory.specs.Parity.{Memory}
 use Rattle.refusal.specs.Call.{State, state, nextState}
-use Rattle.agreement.specs.Calls.{Call, read, write, external, snoop, flush, control, view, reset, step}
-use Rattle.agreement.specs.Plain.{plainNumber, plainDone, plainRefused, plain}
-use Rattle.agreement.specs.Agreement.{AgreesAll, NeverSetsNw, Legal, Demand3, Arises, ArisesAll, NumbersThatArise}
-use Rattle.agreement.proofs.Kept.{start-kept}
-use Rattle.agreement.proofs.Coherence.{Coherent, empty-beside}
-use Rattle.agreement.proofs.Numbers.{plain-arises}
-use Rattle.agreement.proofs.Steps.{call-matches, call-coherent}
+use Rattle.calls.specs.Calls.{Call, read, write, external, snoop, flush, control, view, reset, step}
+use Rattle.calls.specs.Plain.{plainNumber, plainDone, plainRefused, plain}
+use Rattle.calls.specs.Matches.{Arises}
+use Rattle.agreement.specs.Agreement.{AgreesAll, NeverSetsNw, Legal, Demand3, ArisesAll, NumbersThatArise}
+use Rattle.calls.proofs.Kept.{Kept}
+use Rattle.calls.proofs.Coherence.{Coherent, empty-beside}
+use Rattle.calls.proofs.Numbers.{plain-arises}
+use Rattle.calls.proofs.Steps.{call-matches, call-coherent}
+
+pub start-kept : (m : Memory) (array : List ℕ) → Legal m array → Kept (state afterReset m array)
+start-kept m array g =
+    record {
+      limits = reset-limits;
+      lent = record { least = g .least; most = g .most; whole = g .whole; bits = g .parityLength };
+      arrayLength = g .arrayLength;
+      agrees = g .agrees;
+    }
 
 pub start-coherent : (m : Memory) (array : List ℕ) → Legal m array → Coherent (state afterReset m array) (m .ram)
 start-coherent m array g =

@@ -1,4 +1,2 @@
--- Demand 3 by document 01: the calls of a list, one step of the unit, the plain memory, and what is compared.
-pub mod Calls
-pub mod Plain
+-- Demand 3 by document 01, for every list of calls: what a reader must believe of this crate.
 pub mod Agreement

@@ -10,14 +10,14 @@ use Rattle.laws.proofs.Below.{four}
 use Rattle.words.proofs.Places.{zeros-at}
 use Rattle.memory.specs.Parity.{memory, Agrees, dpAt, laneBit, dpOf, onesOf}
 use Rattle.refusal.specs.Call.{State, nextState}
-use Rattle.agreement.specs.Calls.{Call}
+use Rattle.calls.specs.Calls.{Call}
 use Rattle.fields.specs.Fields.{linesOf}
 use Rattle.performing.specs.Perform.{lineCall, callDone, lineDone}
 use Rattle.events.specs.Output.{rowsOf, start, outputOf}
 use Rattle.agreement.specs.Agreement.{Legal}
 use Rattle.columns.specs.Program.{plainCall, plainLine, plainRows, countsOf, plainOutput, lineSetsNw, NoLineSetsNw, Columns}
-use Rattle.agreement.proofs.Coherence.{Coherent}
-use Rattle.agreement.proofs.Steps.{StepMatches, refused-matches, call-matches, call-coherent}
+use Rattle.calls.proofs.Coherence.{Coherent}
+use Rattle.calls.proofs.Steps.{StepMatches, refused-matches, call-matches, call-coherent}
 use Rattle.agreement.proofs.Demand.{start-coherent}
 
 -- a malformed line, and one that makes a call

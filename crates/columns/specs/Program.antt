@@ -7,13 +7,13 @@ use mathlib.Core.Option.{Option, none, some}
 use lib.Dec.{ltb}
 use lib.ListN.{length, getD, drop, replicate}
 use Rattle.refusal.specs.Call.{State, nextState}
-use Rattle.agreement.specs.Calls.{Call}
+use Rattle.calls.specs.Calls.{Call}
 use Rattle.fields.specs.Fields.{linesOf}
 use Rattle.rows.specs.Row.{header, rowOf}
 use Rattle.performing.specs.Perform.{lineCall, lineDone}
 use Rattle.events.specs.Output.{start, outputOf}
-use Rattle.agreement.specs.Plain.{Plain, plain, plainRefused}
-use Rattle.agreement.specs.Agreement.{setsNw}
+use Rattle.calls.specs.Plain.{Plain, plain, plainRefused}
+use Rattle.calls.specs.Matches.{setsNw}
 
 -- The plain memory's answer to a line: to the call that its event makes, and 11 to a malformed line, which "changes nothing".
 unfoldable pub plainCall : List ℕ → Option Call → Plain

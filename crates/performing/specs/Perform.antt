@@ -8,7 +8,7 @@ use Rattle.bus.specs.Groups.{logSize}
 use Rattle.refusal.specs.Call.{State, After, refused}
 use Rattle.access.specs.declared.CallResult.{CallResult}
 use Rattle.access.specs.Access.{leaves}
-use Rattle.agreement.specs.Calls.{Call, read, write, external, snoop, flush, control, reset, step}
+use Rattle.calls.specs.Calls.{Call, read, write, external, snoop, flush, control, reset, step}
 use Rattle.board.specs.Board.{boardAnswers}
 use Rattle.lines.specs.declared.Event.{Event}
 use Rattle.lines.specs.declared.Event.the-variants.{Malformed, Read, Write, External, Snoop, Flush, Control, Reset}

@@ -7,7 +7,7 @@ ghost use lib.ListN.{length};
 ghost use Rattle.directory.specs.Steps.{lentDirectory};
 ghost use Rattle.memory.specs.Parity.{lentMemory};
 ghost use Rattle.refusal.specs.Call.{lentState, state};
-ghost use Rattle.agreement.specs.Calls.{external, read, step, write};
+ghost use Rattle.calls.specs.Calls.{external, read, step, write};
 ghost use Rattle.board.specs.Board.{boardAnswers};
 ghost use Rattle.fields.specs.Fields.{pairBytes};
 ghost use Rattle.lines.specs.Scan.{longestLine};

@@ -1,7 +1,7 @@
 use denote.Ref.{now}
 use native.Mathlib.Omega.{arith}
 use mathlib.Core.Path.{sym, ap, _∙_}
-use Rattle.agreement.specs.Calls.{step}
+use Rattle.calls.specs.Calls.{step}
 use Rattle.refusal.specs.Call.{lentState, onDirectory}
 use Rattle.directory.specs.declared.steps.Directory.{Directory}
 use Rattle.directory.specs.Outcome.{outcome}

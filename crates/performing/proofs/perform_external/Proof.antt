@@ -2,7 +2,7 @@ use mathlib.Core.Path.{_∙_}
 use native.Mathlib.Omega.{arith}
 use Rattle.fields.specs.Fields.{pairBytes}
 use Rattle.fields.proofs.Pairs.{front-count, pairs-length}
-use Rattle.agreement.specs.Calls.{step}
+use Rattle.calls.specs.Calls.{step}
 use Rattle.performing.proofs.Log.{own-log}
 use borrow.Author.Needs.{needs}
 use Rattle.performing.proofs.perform_external.Statement.{statement}

@@ -1,5 +1,5 @@
 use mathlib.Core.Path.{_∙_}
-use Rattle.agreement.specs.Calls.{step}
+use Rattle.calls.specs.Calls.{step}
 use Rattle.performing.proofs.Log.{own-log}
 use borrow.Author.Needs.{needs}
 use Rattle.performing.proofs.perform_read.Statement.{statement}

@@ -19,11 +19,11 @@ use Rattle.doubleword.specs.Doubleword.{Doubleword, Done, changed, plainCycles}
 use Rattle.writing.specs.Writing.{writeBuffer, writeThrough, hitArray, writeDone}
 use Rattle.refusal.specs.Call.{State, state}
 use Rattle.access.specs.Access.{Progress, writeOne, next, allOf}
-use Rattle.agreement.proofs.Cycles.{NoParityErrors, no-error-append, no-error-writes, cycles-within}
-use Rattle.agreement.proofs.Doublewords.{Proper, EachProper, givenOf, given-in-line, given-stored, memoryWritten, allWritten}
-use Rattle.agreement.proofs.Kept.{write-one-kept}
-use Rattle.agreement.proofs.Coherence.{Beside, Coherent, kept-in, beside-stored, line-set, line-tag, stored-miss, stored-hit}
-use Rattle.agreement.proofs.Reading.{use-beside}
+use Rattle.calls.proofs.Cycles.{NoParityErrors, no-error-append, no-error-writes, cycles-within}
+use Rattle.calls.proofs.Doublewords.{Proper, EachProper, givenOf, given-in-line, given-stored, memoryWritten, allWritten}
+use Rattle.calls.proofs.Kept.{write-one-kept}
+use Rattle.calls.proofs.Coherence.{Beside, Coherent, kept-in, beside-stored, line-set, line-tag, stored-miss, stored-hit}
+use Rattle.calls.proofs.Reading.{use-beside}
 
 -- what a doubleword of a write leaves
 record WriteMatches (s : State) (m : List ℕ) (w : Doubleword) (done : Done) : Type 0 where

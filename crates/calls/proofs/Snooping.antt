@@ -14,7 +14,7 @@ use Rattle.directory.proofs.Laws.{snoop-held, snoop-control, snoop-none, snoop-
 use Rattle.memory.specs.Parity.{stored}
 use Rattle.refusal.specs.Call.{State, state}
 use Rattle.refusal.proofs.Accepted.{GoodExternal}
-use Rattle.agreement.proofs.Coherence.{addressOf, Beside, Coherent, fewer-beside, beside-stored, line-set, stored-miss}
+use Rattle.calls.proofs.Coherence.{addressOf, Beside, Coherent, fewer-beside, beside-stored, line-set, stored-miss}
 
 module _ (s : State) (m : List ℕ) (c : Coherent s m) (a : ℕ) where
   abbrev d : Directory

@@ -11,7 +11,7 @@ use Rattle.directory.specs.WellFormed.{WellFormed}
 use Rattle.directory.proofs.Laws.{snoop-accepted, snoop-lookup, flush-lookup, reset-lookup}
 use Rattle.directory.proofs.SetState.{well-formed-zero}
 use Rattle.refusal.specs.Call.{State, nextState}
-use Rattle.agreement.specs.Calls.{Call, snoop, flush, reset, step}
+use Rattle.calls.specs.Calls.{Call, snoop, flush, reset, step}
 
 -- the way in which an address is found after a call
 abbrev foundAfter : State → Call → ℕ → Found

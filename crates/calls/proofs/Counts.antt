@@ -19,7 +19,7 @@ use Rattle.reading.specs.Reading.{readHit, fillMiss, plainMiss, readMiss, settl
 use Rattle.writing.specs.Writing.{writeThrough, writeDone}
 use Rattle.refusal.specs.Call.{State, After}
 use Rattle.access.specs.Access.{next, allOf, readOne, writeOne}
-use Rattle.agreement.specs.Agreement.{NoParityError}
+use Rattle.calls.specs.Matches.{NoParityError}
 
 cycles-most : (xs : List ℕ) (ws : List Run) → length (cyclesOf xs ws) ≤ length xs
 unfolding cyclesOf

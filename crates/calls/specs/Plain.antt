@@ -6,7 +6,7 @@ use lib.Dec.{eqb, ltb}
 use lib.ListN.{length}
 use lib.Seq.{sets}
 use Rattle.words.specs.Bytes.{bytesAt, valueOf, bytesOf}
-use Rattle.agreement.specs.Calls.{Call, read, write, external, snoop, flush, control, view, reset}
+use Rattle.calls.specs.Calls.{Call, read, write, external, snoop, flush, control, view, reset}
 
 -- What it answers to a call, and its bytes afterwards.
 pub record Plain : Type 0 where

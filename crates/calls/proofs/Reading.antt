@@ -26,10 +26,10 @@ use Rattle.access.specs.Access.{Progress, readOne, next, allOf}
 use Rattle.words.proofs.Places.{bytes-at, bytes-length}
 use Rattle.words.proofs.Spans.{bytes-same}
 use Rattle.cycles.proofs.Brought.{burst-each, fill-buffer, wanted-bytes}
-use Rattle.agreement.proofs.Cycles.{NoParityErrors, no-error-append, no-error-reads, cycles-within}
-use Rattle.agreement.proofs.Doublewords.{Proper, EachProper, wantedBytes, allWanted}
-use Rattle.agreement.proofs.Kept.{Kept, read-one-kept}
-use Rattle.agreement.proofs.Coherence.{Beside, Coherent, kept-in, fewer-beside, held-bytes, filled-lines}
+use Rattle.calls.proofs.Cycles.{NoParityErrors, no-error-append, no-error-reads, cycles-within}
+use Rattle.calls.proofs.Doublewords.{Proper, EachProper, wantedBytes, allWanted}
+use Rattle.calls.proofs.Kept.{Kept, read-one-kept}
+use Rattle.calls.proofs.Coherence.{Beside, Coherent, kept-in, fewer-beside, held-bytes, filled-lines}
 
 -- a use of a way
 pub use-beside : (s : State) (m : List ℕ) → Beside s m → (r w : ℕ) → Beside (state (afterUse (s .directory) r w) (s .memory) (s .array)) m

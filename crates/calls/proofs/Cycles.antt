@@ -15,7 +15,7 @@ use Rattle.bus.specs.Record.{Record, flagsOf, readRecord, writeRecord, writeKin
 use Rattle.bus.proofs.Sizing.{size-some, size-most}
 use Rattle.words.proofs.Places.{sets-in}
 use Rattle.cycles.proofs.Brought.{OneDoubleword, Each, left-each}
-use Rattle.agreement.proofs.Memories.{never-wrong}
+use Rattle.calls.proofs.Memories.{never-wrong}
 
 -- RECORDS
 

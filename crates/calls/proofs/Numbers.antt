@@ -19,10 +19,10 @@ use Rattle.bus.specs.Groups.{badWidth}
 use Rattle.refusal.specs.Refusal.{when, orElse, anyAbove, ramNumber, memoryNumber, arrayNumber, lentNumber, badAnswers, argumentNumber, valueNumber, externalNumber, viewAddressNumber, viewInputNumber, statesNumberIn, statesNumberOf}
 use Rattle.refusal.proofs.Accepted.{zero-or, first-or, GoodMemory}
 use Rattle.views.specs.View.{viewNumberIn}
-use Rattle.agreement.specs.Calls.{Call, read, write, external, snoop, flush, control, view, reset, viewNumberOf}
-use Rattle.agreement.specs.Plain.{someAbove, plainNumber}
-use Rattle.agreement.specs.Agreement.{Arises}
-use Rattle.agreement.proofs.Coherence.{Coherent}
+use Rattle.calls.specs.Calls.{Call, read, write, external, snoop, flush, control, view, reset, viewNumberOf}
+use Rattle.calls.specs.Plain.{someAbove, plainNumber}
+use Rattle.calls.specs.Matches.{Arises}
+use Rattle.calls.proofs.Coherence.{Coherent}
 
 -- a second number that is not met
 or-nothing : (a b : ℕ) → b ≡ 0 → orElse a b ≡ a

@@ -11,12 +11,12 @@ use Rattle.directory.specs.declared.steps.Directory.{Directory}
 use Rattle.ways.specs.declared.ways.Found.{Found}
 use Rattle.ways.specs.declared.ways.Found.the-variants.{At, Nothing}
 use Rattle.ways.specs.Address.{setOf, dataOffset}
-use Rattle.directory.specs.Steps.{lookupOf, victimOf, stateNumberOf, afterReset, afterUse, afterSnoop, controlRefused}
+use Rattle.directory.specs.Steps.{lookupOf, victimOf, stateNumberOf, afterUse, afterSnoop, controlRefused}
 use Rattle.directory.specs.WellFormed.{WithinLimits}
 use Rattle.ways.proofs.FourWays.{victim-below}
 use Rattle.directory.proofs.Laws.{lookup-at, reset-limits, use-limits, fill-address-limits, control-limits, control-accepted, control-refused, flush-limits, snoop-limits, snoop-accepted, snoop-refused}
 use Rattle.words.specs.Bytes.{bytesAt}
-use Rattle.memory.specs.Parity.{Memory, Agrees, stored}
+use Rattle.memory.specs.Parity.{Agrees, stored}
 use Rattle.memory.proofs.Bits.{stored-lengths}
 use Rattle.bus.specs.Groups.{groupCount}
 use Rattle.doubleword.specs.Doubleword.{Doubleword, Done, doublewordsOf, changed}
@@ -29,10 +29,9 @@ use Rattle.access.specs.Access.{operandOf, readNumber, writeNumber, readOne, wr
 use Rattle.access.proofs.Calls.{read-refused, read-done, write-refused, write-done}
 use Rattle.masters.specs.Masters.{externalWriteNumber}
 use Rattle.masters.proofs.External.{external-refused, external-done}
-use Rattle.agreement.specs.Calls.{Call, read, write, external, snoop, flush, control, view, reset, step}
-use Rattle.agreement.specs.Agreement.{Legal}
-use Rattle.agreement.proofs.Memories.{stored-agrees}
-use Rattle.agreement.proofs.Doublewords.{Proper, EachProper, givenOf, given-inside, given-stored, access-proper}
+use Rattle.calls.specs.Calls.{Call, read, write, external, snoop, flush, control, view, reset, step}
+use Rattle.calls.proofs.Memories.{stored-agrees}
+use Rattle.calls.proofs.Doublewords.{Proper, EachProper, givenOf, given-inside, given-stored, access-proper}
 
 -- directory and buffers have document 01's lengths, tags and LRU numbers are within their limits, parity agrees
 pub record Kept (s : State) : Type 0 where
@@ -40,15 +39,6 @@ pub record Kept (s : State) : Type 0 where
   pub lent : GoodMemory (length (s .memory .ram)) (length (s .memory .parity))
   pub arrayLength : length (s .array) ≡ 8192
   pub agrees : Agrees (s .memory)
-
-pub start-kept : (m : Memory) (array : List ℕ) → Legal m array → Kept (state afterReset m array)
-start-kept m array g =
-    record {
-      limits = reset-limits;
-      lent = record { least = g .least; most = g .most; whole = g .whole; bits = g .parityLength };
-      arrayLength = g .arrayLength;
-      agrees = g .agrees;
-    }
 
 module _ (s : State) (k : Kept s) where
   -- another directory and data array

@@ -19,8 +19,8 @@ use Rattle.memory.specs.Parity.{stored}
 use Rattle.refusal.specs.Call.{State, state}
 use Rattle.words.proofs.Places.{sets-below, sets-above, sets-in}
 use Rattle.words.proofs.Spans.{bytes-same}
-use Rattle.agreement.proofs.Memories.{stored-ram}
-use Rattle.agreement.proofs.Kept.{Kept, KeptIn}
+use Rattle.calls.proofs.Memories.{stored-ram}
+use Rattle.calls.proofs.Kept.{Kept, KeptIn}
 
 -- the address of a line, by its set and tag
 abbrev pub addressOf : ℕ → ℕ → ℕ

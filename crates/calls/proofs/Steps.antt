@@ -27,20 +27,20 @@ use Rattle.access.proofs.Calls.{read-refused, read-done, write-refused, write-d
 use Rattle.masters.proofs.External.{external-refused, external-done}
 use Rattle.views.specs.View.{shown}
 use Rattle.views.proofs.Viewing.{view-refused, view-done}
-use Rattle.agreement.specs.Calls.{Call, read, write, external, snoop, flush, control, view, reset, step, viewNumberOf}
-use Rattle.agreement.specs.Plain.{Plain, plainAccepted, plainRefused, plainNumber, plainDone, plain}
-use Rattle.agreement.specs.Agreement.{NoParityError, setsNw}
+use Rattle.calls.specs.Calls.{Call, read, write, external, snoop, flush, control, view, reset, step, viewNumberOf}
+use Rattle.calls.specs.Plain.{Plain, plainAccepted, plainRefused, plainNumber, plainDone, plain}
+use Rattle.calls.specs.Matches.{NoParityError, setsNw}
 use Rattle.words.proofs.Spans.{bytes-same}
-use Rattle.agreement.proofs.Bytes.{operand-bytes}
-use Rattle.agreement.proofs.Cycles.{logged-no-error}
-use Rattle.agreement.proofs.Counts.{read-most, write-most, all-most, records-there, none-counted}
-use Rattle.agreement.proofs.Coherence.{Empty, Beside, Coherent, fewer-lines, empty-beside, line-around}
-use Rattle.agreement.proofs.Doublewords.{access-proper, doublewords-wanted, doublewords-written}
-use Rattle.agreement.proofs.Kept.{call-kept}
-use Rattle.agreement.proofs.Reading.{read-all}
-use Rattle.agreement.proofs.Writing.{write-all}
-use Rattle.agreement.proofs.Snooping.{snoop-beside, external-beside}
-use Rattle.agreement.proofs.Numbers.{state-zero, read-number, write-number, external-write-number, view-number, plain-read, plain-write, plain-external, plain-view}
+use Rattle.calls.proofs.Bytes.{operand-bytes}
+use Rattle.calls.proofs.Cycles.{logged-no-error}
+use Rattle.calls.proofs.Counts.{read-most, write-most, all-most, records-there, none-counted}
+use Rattle.calls.proofs.Coherence.{Empty, Beside, Coherent, fewer-lines, empty-beside, line-around}
+use Rattle.calls.proofs.Doublewords.{access-proper, doublewords-wanted, doublewords-written}
+use Rattle.calls.proofs.Kept.{call-kept}
+use Rattle.calls.proofs.Reading.{read-all}
+use Rattle.calls.proofs.Writing.{write-all}
+use Rattle.calls.proofs.Snooping.{snoop-beside, external-beside}
+use Rattle.calls.proofs.Numbers.{state-zero, read-number, write-number, external-write-number, view-number, plain-read, plain-write, plain-external, plain-view}
 
 -- what a step leaves beside what the plain memory answers
 pub record StepMatches (x : After) (p : Plain) : Type 0 where
