@@ -11,13 +11,13 @@ const GROUPS: usize = 2;
 // The board's answers for an access.
 pub const ANSWERS: usize = GROUP_SIZE * GROUPS;
 
-// The highest answer that is one.
+// The highest answer that an access takes.
 pub const HIGHEST_ANSWER: u8 = 7;
 
 // The words of a log that an access needs: a record for each answer.
 pub const LOG_WORDS: usize = 3 * ANSWERS;
 
-// Whether an access of so many bytes is none.
+// Whether so many bytes are no width of an access.
 pub fn bad_width(width: u32) -> bool
     ensures { λ r. ⌜ r ≡ badWidth width ⌝ }
 {

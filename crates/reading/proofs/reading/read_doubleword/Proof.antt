@@ -15,31 +15,24 @@ use Rattle.reading.proofs.reading.keep_line.Reads as keep-line-reads
 use Rattle.ways.proofs.lookup.Reads as lookup-reads
 use Rattle.words.proofs.value_at.Reads as value-at-reads
 
--- src/reading.rt:67:29
 lookup-requires : tie.Need-lookup-requires
 lookup-requires c κs = search needs
 
--- src/reading.rt:67:22
 enum-known-way : tie.Need-enum-known-way
 enum-known-way c = search needs
 
--- src/reading.rt:68:36
 data-offset-requires : tie.Need-data-offset-requires
 data-offset-requires c κs = lookup-below _ _ _ _ (sym (c .before .before .before .before .lookup .ensures) ∙ c .before .before .way .given .1)
 
--- src/reading.rt:68:36
 add-value-at : tie.Need-add-value-at
 add-value-at c = search needs
 
--- src/reading.rt:68:13
 value-at-requires : tie.Need-value-at-requires
 value-at-requires c κs = search needs
 
--- src/reading.rt:71:9
 same-length : tie.Need-same-length
 same-length c = search needs
 
--- src/reading.rt:71:9
 returns : tie.Need-returns
 returns c =
     let at-data-offset = c .before .before in
@@ -53,19 +46,15 @@ returns c =
 enum-told : tie.Need-enum-told
 enum-told c = search needs
 
--- src/reading.rt:77:22
 shared-slice-read-if1 : tie.Need-shared-slice-read-if1
 shared-slice-read-if1 c = search needs
 
--- src/reading.rt:78:13
 plain-read-requires : tie.Need-plain-read-requires
 plain-read-requires c κs = search needs
 
--- src/reading.rt:79:9
 same-length-2 : tie.Need-same-length-2
 same-length-2 c = search needs
 
--- src/reading.rt:79:9
 returns-2 : tie.Need-returns-2
 returns-2 c =
     let at-plain-read = c .before .before in
@@ -80,43 +69,33 @@ returns-2 c =
     (omega (arith, p .served)) _ (r .0) (λ i. omega (arith, at-shared-slice-known .shared-slice-known .given i)) _ _ (not-true _ (at-if1 .if1 .taken))
     (r .1) (r .2)
 
--- src/reading.rt:85:16
 cast-line : tie.Need-cast-line
 cast-line c = search needs
 
--- src/reading.rt:87:9
 fill-cycles-requires : tie.Need-fill-cycles-requires
 fill-cycles-requires c κs = search needs
 
--- src/reading.rt:88:36
 add-value-at-2 : tie.Need-add-value-at-2
 add-value-at-2 c = search needs
 
--- src/reading.rt:88:9
 value-at-requires-2 : tie.Need-value-at-requires-2
 value-at-requires-2 c κs = search needs
 
--- src/reading.rt:89:16
 sub-kept : tie.Need-sub-kept
 sub-kept c = search needs
 
--- src/reading.rt:89:8
 shared-slice-read-kept : tie.Need-shared-slice-read-kept
 shared-slice-read-kept c = search needs
 
--- src/reading.rt:90:13
 keep-line-requires : tie.Need-keep-line-requires
 keep-line-requires c κs = search needs
 
--- src/reading.rt:93:9
 same-length-3 : tie.Need-same-length-3
 same-length-3 c = search needs
 
--- src/reading.rt:93:9
 same-length-4 : tie.Need-same-length-4
 same-length-4 c = search needs
 
--- src/reading.rt:93:9
 returns-3 : tie.Need-returns-3
 returns-3 c =
     let at-keep-line = c .before .before in
@@ -135,11 +114,9 @@ returns-3 c =
     (not-false _ (at-if1 .if1 .left)) (r .0) (r .1) (r .2) (at-if2 .if2 .taken) _ (at-keep-line .keep-line .ensures .0)
     (rw (at-keep-line .keep-line .ensures .0) (victim-below _ _ _)) _ (at-keep-line .keep-line .ensures .1)
 
--- src/reading.rt:49:1
 same-length-5 : tie.Need-same-length-5
 same-length-5 c = search needs
 
--- src/reading.rt:49:1
 returns-4 : tie.Need-returns-4
 returns-4 c =
     let at-value-at2 = c .before .before in
