@@ -9,7 +9,7 @@ use Rattle.bus.specs.Groups.{groupSize, groupCount}
 use Rattle.doubleword.specs.declared.change.Wanted.{Wanted}
 use Rattle.doubleword.specs.declared.cursor.AccessCursor.{AccessCursor}
 use Rattle.doubleword.specs.DoublewordCode.{DoublewordNeeds}
-use Rattle.doubleword.specs.Cursor.{countOf, wantedOf, accessNext, AccessNeeds}
+use Rattle.doubleword.specs.Cursor.{countOf, wantedOf, accessNext, AccessNeeds, NextNeeds}
 
 -- the bytes left fit into the doublewords left: all go into this one, or this one ends at a boundary
 all-here : (left room c : ℕ) → c ≡ min left room → left ≤ room → left - c ≡ 0
@@ -105,16 +105,17 @@ module _ (cursor u : AccessCursor) (count n : ℕ) (some : 0 < cursor .left) (ec
 -- what the code's next cursor needs
 pub cursor-next : (cursor : AccessCursor) (count n ram parity array answers log : ℕ) → count ≡ countOf cursor → n ≤ groupSize →
     AccessNeeds cursor ram parity array answers log →
-    (count ≤ cursor .left) × (cursor .address + cursor .left < 4294967296) × (cursor .group < 64) × (cursor .place < 64) × (cursor .left ≤ 64) × (cursor .cycles ≤ 64) × (n ≤ 64)
-cursor-next cursor count n ram parity array answers log ec l z = (
-  rw ec (omega arith),
-  omega (arith, z .inside, z .small),
-  omega (arith, z .last),
-  omega (arith, z .operands),
-  omega (arith, z .operands),
-  omega (arith, z .made, z .last),
-  omega arith,
-)
+    NextNeeds cursor count n
+cursor-next cursor count n ram parity array answers log ec l z =
+    record {
+      some = rw ec (omega arith);
+      below = omega (arith, z .inside, z .small);
+      bytes = omega (arith, z .operands);
+      groups = omega (arith, z .last);
+      places = omega (arith, z .operands);
+      made = omega (arith, z .made, z .last);
+      more = omega arith;
+    }
 
 -- what the next doubleword's code needs
 pub cursor-doubleword : (cursor : AccessCursor) (w : Wanted) (ram parity array answers log₀ log given : ℕ) → 0 < cursor .left → w ≡ wantedOf cursor →

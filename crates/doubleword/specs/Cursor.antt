@@ -1,5 +1,5 @@
 -- What the code's own cursor between two doublewords of an access stands for.
-use Prim.Native.Nat.{ℕ, _+_, _*_, _-_, _/_, _%_, _≤_, min}
+use Prim.Native.Nat.{ℕ, _+_, _*_, _-_, _/_, _%_, _≤_, _<_, min}
 use mathlib.Core.Path.{_≡_}
 use mathlib.Core.List.{List}
 use lib.ListN.{take, drop}
@@ -61,3 +61,13 @@ pub record AccessNeeds (cursor : AccessCursor) (ram parity array answers log : �
   pub last : cursor .group ≤ groupCount
   pub made : cursor .cycles ≤ cursor .group * groupSize
   pub operands : cursor .place + cursor .left ≤ 4
+
+-- What keeps the numbers of the next cursor in range.
+pub record NextNeeds (cursor : AccessCursor) (count cycles : ℕ) : Type 0 where
+  pub some : count ≤ cursor .left
+  pub below : cursor .address + cursor .left < 4294967296
+  pub bytes : cursor .left ≤ 64
+  pub groups : cursor .group < 64
+  pub places : cursor .place < 64
+  pub made : cursor .cycles ≤ 64
+  pub more : cycles ≤ 64

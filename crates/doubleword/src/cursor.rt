@@ -1,9 +1,9 @@
 // The doublewords of an access, the lowest first.
 ghost use mathlib.Core.Path.{_≡_};
-ghost use Prim.Native.Nat.{_+_, _*_, _≤_, _<_};
+ghost use Prim.Native.Nat.{_+_, _*_, _≤_};
 ghost use lib.ListN.{length};
 ghost use Rattle.bus.specs.Groups.{groupSize};
-ghost use Rattle.doubleword.specs.Cursor.{accessBegin, accessNext, groupAt, wantedOf};
+ghost use Rattle.doubleword.specs.Cursor.{NextNeeds, accessBegin, accessNext, groupAt, wantedOf};
 use crate::change::Wanted;
 use bus::GROUP_SIZE;
 
@@ -57,7 +57,7 @@ impl AccessCursor {
 
     // What is left after a doubleword: so many bytes, and so many cycles.
     pub fn next(self, count: usize, cycles: usize) -> AccessCursor
-        requires { ⌜ (count ≤ self .left) × (self .address + self .left < 4294967296) × (self .group < 64) × (self .place < 64) × (self .left ≤ 64) × (self .cycles ≤ 64) × (cycles ≤ 64) ⌝ }
+        requires { ⌜ NextNeeds self count cycles ⌝ }
         ensures { λ r. ⌜ r ≡ accessNext self count cycles ⌝ }
     {
         AccessCursor {

@@ -1,14 +1,15 @@
 -- Laws of the run: the rows that are left from here give what the whole gives.
-use Prim.Native.Nat.{ℕ, suc, _+_, _-_, _≤_, _<_}
-use mathlib.Core.Path.{_≡_, sym, ap, _∙_}
+use Prim.Native.Nat.{ℕ, suc, _+_, _*_, _-_, _/_, _≤_, _<_}
+use mathlib.Core.Path.{_≡_, refl, sym, ap, _∙_}
 use mathlib.Core.List.{List, [], _++_}
 use native.Mathlib.Numerals.{add-one}
 use native.Mathlib.Omega.{arith}
-use lib.ListN.{length, take, drop, length-append, length-drop, drop-of-length-le}
-use lib.Seq.{sets, drop-drop}
+use lib.ListN.{length, take, drop, length-replicate, length-append, length-drop, drop-of-length-le}
+use lib.Seq.{sets, length-sets, drop-drop}
 use borrow.Author.Tests.{lt-ltb, le-ltb}
 use Rattle.laws.proofs.Lists.{sets-append}
 use Rattle.bytes.specs.Bytes.{indexOf}
+use Rattle.ways.specs.Address.{dataSize}
 use Rattle.memory.specs.Parity.{Memory}
 use Rattle.directory.specs.declared.steps.Outcome.{Outcome}
 use Rattle.refusal.specs.Call.{State, state, after}
@@ -16,13 +17,13 @@ use Rattle.fields.specs.Fields.{newline, linesOf, withoutEmptyEnd, partsOf}
 use Rattle.rows.specs.Row.{header, rowOf}
 use Rattle.fields.proofs.Parts.{drop-part, lines-next}
 use Rattle.performing.specs.Perform.{lineDone}
-use Rattle.events.specs.Output.{rowFor, rowsOf, start, outputOf}
+use Rattle.events.specs.Output.{ramSize, rowFor, rowsOf, start, outputOf}
 
 -- The rows that are left at a place of the input, from a state and the number of the next event.
 abbrev pub rowsLeft : List ℕ → State → ℕ → ℕ → List ℕ
 rowsLeft input s event place = rowsOf s event (linesOf (drop place input))
 
-pub rows-left-none : (input : List ℕ) (s : State) (event place : ℕ) → length input ≤ place → rowsLeft input s event place ≡ []
+rows-left-none : (input : List ℕ) (s : State) (event place : ℕ) → length input ≤ place → rowsLeft input s event place ≡ []
 unfolding rowsOf linesOf withoutEmptyEnd partsOf
 rows-left-none input s event place h = rw (drop-of-length-le input h)
 
@@ -43,25 +44,66 @@ rows-left-next input s event place rest e done m array log h r i d =
     let line : lineDone s (take e (drop place input)) ≡ after done m array log = ap (λ l. lineDone s (take e l)) (sym whole) ∙ sym d in
     rw (lines-next (drop place input) e some at, far, line, add-one event)
 
--- The next line's row put, what is left after it gives what was left before it.
-pub line-done : (input : List ℕ) (s : State) (event place : ℕ) (rest : List ℕ) (e : ℕ) (done : Outcome) (m : Memory) (array log out printed whole : List ℕ) (at size total : ℕ)
-    → place < length input
-    → rest ≡ take (length input - place) (drop place input)
-    → e ≡ indexOf newline rest
-    → after done m array log ≡ lineDone s (take e rest)
-    → size ≡ length (rowFor event done)
-    → printed ≡ sets out at (rowFor event done)
-    → at + length (rowsLeft input s event place) ≡ total
-    → sets out at (rowsLeft input s event place) ≡ whole
-    → (at + size + length (rowsLeft input (state (done .directory) m array) (event + 1) (place + e + 1)) ≡ total)
-    × (sets printed (at + size) (rowsLeft input (state (done .directory) m array) (event + 1) (place + e + 1)) ≡ whole)
-line-done input s event place rest e done m array log out printed whole at size total h r i d n p t w =
-    let row = rowFor event done in
-    let after = rowsLeft input (state (done .directory) m array) (event + 1) (place + e + 1) in
-    let both = rows-left-next input s event place rest e done m array log h r i d in (
-      omega (arith, t, ap length both, length-append row after, n),
-      rw (n, p) (sym (sets-append out at row after) ∙ ap (sets out at) (sym both) ∙ w),
-    )
+-- What the loop over the lines keeps: the rows that are left, put here, give what all rows give.
+module _ (input out₀ : List ℕ) (from : ℕ) where
+  pub record RunInvariant (s : State) (out : List ℕ) (event place at : ℕ) : Type 0 where
+    pub rows : at + length (rowsLeft input s event place) ≡ from + length (rowsOf start 1 (linesOf input))
+    pub printed : sets out at (rowsLeft input s event place) ≡ sets out₀ from (rowsOf start 1 (linesOf input))
+    pub events : event ≤ place + 1
+    pub within : place ≤ length input + 1
+    pub most : at + 44 ≤ from + 44 * event
+    pub outLength : length out ≡ length out₀
+    pub ramLength : length (s .memory .ram) ≡ ramSize
+    pub parityLength : length (s .memory .parity) ≡ ramSize / 4
+    pub arrayLength : length (s .array) ≡ dataSize
+
+  pub run-begin : RunInvariant start out₀ 1 0 from
+  unfolding start
+  run-begin =
+      record {
+        rows = refl;
+        printed = refl;
+        events = omega arith;
+        within = omega arith;
+        most = omega arith;
+        outLength = refl;
+        ramLength = length-replicate {A = ℕ} ramSize 0;
+        parityLength = length-replicate {A = ℕ} (ramSize / 4) 0;
+        arrayLength = length-replicate {A = ℕ} dataSize 0;
+      }
+
+  module _ (s : State) (out : List ℕ) (event place at : ℕ) (inv : RunInvariant s out event place at) where
+    -- the next line is done, and its row put
+    pub run-next : (rest : List ℕ) (e : ℕ) (done : Outcome) (m : Memory) (array log out′ : List ℕ) (size : ℕ)
+        → place < length input
+        → rest ≡ take (length input - place) (drop place input)
+        → (e ≡ indexOf newline rest) × (e ≤ length rest)
+        → after done m array log ≡ lineDone s (take e rest)
+        → (length (m .ram) ≡ length (s .memory .ram)) × (length (m .parity) ≡ length (s .memory .parity)) × (length array ≡ length (s .array))
+        → ((size ≡ length (rowFor event done)) × (out′ ≡ sets out at (rowFor event done))) × (size ≤ 44)
+        → RunInvariant (state (done .directory) m array) out′ (event + 1) (place + e + 1) (at + size)
+    run-next rest e done m array log out′ size h r (i, l) d (lr, lp, la) ((n, p), few) =
+        let row = rowFor event done in
+        let left = rowsLeft input (state (done .directory) m array) (event + 1) (place + e + 1) in
+        let both = rows-left-next input s event place rest e done m array log h r i d in
+        let part : length rest ≡ length input - place = ap length (r ∙ drop-part place input) ∙ length-drop place input in
+        record {
+          rows = omega (arith, inv .rows, ap length both, length-append row left, n);
+          printed = rw (n, p) (sym (sets-append out at row left) ∙ ap (sets out at) (sym both) ∙ inv .printed);
+          events = omega (arith, inv .events);
+          within = omega (arith, l, part);
+          most = omega (arith, inv .most, few);
+          outLength = ap length p ∙ length-sets out at row ∙ inv .outLength;
+          ramLength = lr ∙ inv .ramLength;
+          parityLength = lp ∙ inv .parityLength;
+          arrayLength = la ∙ inv .arrayLength;
+        }
+
+    -- no line is left
+    pub run-end : length input ≤ place → (at ≡ from + length (rowsOf start 1 (linesOf input))) × (out ≡ sets out₀ from (rowsOf start 1 (linesOf input)))
+    run-end h =
+        let none = rows-left-none input s event place h in
+        (omega (arith, inv .rows, ap length none), rw none at (inv .printed))
 
 -- the output of a long input, and of any other
 pub output-long : (input : List ℕ) → 65536 < length input → outputOf input ≡ header ++ rowOf 0 12 0 0
@@ -74,11 +116,9 @@ output-lines input h = rw (le-ltb 65536 (length input) h)
 
 -- the header and what stands after it
 pub after-header : (out rows o p : List ℕ) (at end : ℕ)
-    → at ≡ length header
-    → o ≡ sets out 0 header
-    → end ≡ at + length rows
-    → p ≡ sets o at rows
+    → (at ≡ length header) × (o ≡ sets out 0 header)
+    → (end ≡ at + length rows) × (p ≡ sets o at rows)
     → (end ≡ length (header ++ rows)) × (p ≡ sets out 0 (header ++ rows))
-after-header out rows o p at end ea eo ee ep =
+after-header out rows o p at end (ea, eo) (ee, ep) =
     let zero-at : 0 + length header ≡ at = omega (arith, ea) in
     (omega (arith, ea, ee, length-append header rows), ep ∙ rw (eo, ← zero-at) (sym (sets-append out 0 header rows)))

@@ -14,11 +14,11 @@ use Rattle.fields.specs.declared.numbers.Number.the-variants.{Value, Not
 use Rattle.fields.specs.Number.{isDigit, allAre, valueAfter, decimalValue, isNumber, numberOf, bitOf}
 
 -- one byte more is looked at, and none is left
-pub all-step : (test : ℕ → Bool) (l : List ℕ) (k : ℕ) → k < length l → allAre test (drop k l) ≡ (test (getD l k 0) && allAre test (drop (k + 1) l))
+all-step : (test : ℕ → Bool) (l : List ℕ) (k : ℕ) → k < length l → allAre test (drop k l) ≡ (test (getD l k 0) && allAre test (drop (k + 1) l))
 unfolding allAre
 all-step test l k h = rw (add-one k, drop-cons l k 0)
 
-pub all-end : (test : ℕ → Bool) (l : List ℕ) (k : ℕ) → length l ≤ k → allAre test (drop k l) ≡ true
+all-end : (test : ℕ → Bool) (l : List ℕ) (k : ℕ) → length l ≤ k → allAre test (drop k l) ≡ true
 unfolding allAre
 all-end test l k h = rw (drop-of-length-le l h)
 
@@ -30,11 +30,11 @@ pub all-and-end : (test : ℕ → Bool) (l : List ℕ) (k : ℕ) (found : Bool) 
 all-and-end test l k found h = rw (all-end test l k h) (and-true found)
 
 -- one digit more is read, and none is left
-pub value-step : (n : ℕ) (l : List ℕ) (k : ℕ) → k < length l → valueAfter n (drop k l) ≡ valueAfter (n * 10 + (getD l k 0 - 48)) (drop (k + 1) l)
+value-step : (n : ℕ) (l : List ℕ) (k : ℕ) → k < length l → valueAfter n (drop k l) ≡ valueAfter (n * 10 + (getD l k 0 - 48)) (drop (k + 1) l)
 unfolding valueAfter
 value-step n l k h = rw (add-one k, drop-cons l k 0)
 
-pub value-end : (n : ℕ) (l : List ℕ) (k : ℕ) → length l ≤ k → valueAfter n (drop k l) ≡ n
+value-end : (n : ℕ) (l : List ℕ) (k : ℕ) → length l ≤ k → valueAfter n (drop k l) ≡ n
 unfolding valueAfter
 value-end n l k h = rw (drop-of-length-le l h)
 
@@ -79,10 +79,6 @@ unfolding numberOf isNumber
 number-value field some few digits small =
     simp (le-leb 1 (length field) some, le-leb (length field) 10 few, digits, le-leb (decimalValue field) 4294967295 small)
 
--- a field whose k-th byte is no digit
-pub other-at : (field : List ℕ) (k : ℕ) → k < length field → isDigit (getD field k 0) ≡ false → allAre isDigit (drop k field) ≡ allAre isDigit field → NotANumber ≡ numberOf field
-other-at field k h e same = number-other field (sym same ∙ rw (all-step isDigit field k h, e))
-
 pub low-digit : (c : ℕ) → c < 48 → isDigit c ≡ false
 low-digit c h = rw (lt-leb 48 c h)
 
@@ -98,6 +94,42 @@ power-step value digit k h j = rw (add-one k, pow-suc 10 k) (omega (arith, h, j)
 
 pub power-most : (k : ℕ) → k < 10 → 10 ^ k ≤ 1000000000
 power-most k h = pow-le-pow-right {n = 10} (omega arith) {i = k} {j = 9} (omega (arith, h))
+
+-- What the scanning of a field keeps: what is found of the bytes that are left, after the value, is what is found of all.
+pub record ScanInvariant (field : List ℕ) (value k : ℕ) : Type 0 where
+  pub within : k ≤ length field
+  pub small : value < 10 ^ k
+  pub digits : allAre isDigit (drop k field) ≡ allAre isDigit field
+  pub says : valueAfter value (drop k field) ≡ decimalValue field
+
+pub scan-begin : (field : List ℕ) → ScanInvariant field 0 0
+scan-begin field = record { within = omega arith; small = omega arith; digits = refl; says = refl }
+
+module _ (field : List ℕ) (value k : ℕ) (inv : ScanInvariant field value k) where
+  -- a byte is left: one that is no digit, and a digit
+  module _ (h : k < length field) where
+    pub scan-other : isDigit (getD field k 0) ≡ false → NotANumber ≡ numberOf field
+    scan-other e = number-other field (sym (inv .digits) ∙ rw (all-step isDigit field k h, e))
+
+    pub scan-next : 48 ≤ getD field k 0 → getD field k 0 ≤ 57 → ScanInvariant field (value * 10 + (getD field k 0 - 48)) (k + 1)
+    scan-next low high =
+        record {
+          within = omega arith;
+          small = power-step value (getD field k 0) k (inv .small) high;
+          digits = rw (a-digit (getD field k 0) low high) at (sym (all-step isDigit field k h)) ∙ inv .digits;
+          says = sym (value-step value field k h) ∙ inv .says;
+        }
+
+  -- none is left
+  module _ (h : length field ≤ k) where
+    scan-all : decimalValue field ≡ value
+    scan-all = sym (inv .says) ∙ value-end value field k h
+
+    pub scan-large : 4294967295 < value → NotANumber ≡ numberOf field
+    scan-large n = number-large field (rw scan-all n)
+
+    pub scan-value : 1 ≤ length field → length field ≤ 10 → value ≤ 4294967295 → Value value ≡ numberOf field
+    scan-value some few n = rw scan-all at (number-value field some few (sym (inv .digits) ∙ all-end isDigit field k h) (rw scan-all n))
 
 -- a field of one byte, and one of none or more
 pub bit-one : (field : List ℕ) → length field ≡ 1 → bitOf field ≡ bitOf (getD field 0 0 ∷ [])

@@ -1,8 +1,8 @@
 -- Laws of the number before the first tab of a text: what its scanning finds.
-use Prim.Native.Nat.{ℕ, zero, suc, _+_, _*_, _-_, _≤_, _<_}
+use Prim.Native.Nat.{ℕ, zero, suc, _+_, _*_, _-_, _^_, _≤_, _<_}
 use mathlib.Core.Path.{_≡_, refl, sym, _∙_}
 use mathlib.Core.Bool.{Bool, true, false, cond, _||_, and-false}
-use mathlib.Core.List.{List, [], _∷_}
+use mathlib.Core.List.{List, [], _∷_, _++_}
 use native.Mathlib.Numerals.{add-one}
 use native.Mathlib.Omega.{arith}
 use lib.Dec.{eqb, ltb}
@@ -14,29 +14,51 @@ use Rattle.bytes.specs.Bytes.{indexOf, indexAfter}
 use Rattle.fields.specs.declared.numbers.Number.{Number}
 use Rattle.fields.specs.declared.numbers.Number.the-variants.{Value, NotANumber}
 use Rattle.fields.specs.declared.numbers.Leading.the-variants.{Field, Nothing}
-use Rattle.fields.specs.Number.{isDigit, allAre, decimalValue, numberOf, bitOf}
+use Rattle.fields.specs.Number.{isDigit, allAre, valueAfter, decimalValue, numberOf, bitOf}
 use Rattle.fields.specs.Fields.{tab, fieldsOf, isHex, isPairs, leadingWith, leadingOf}
 use Rattle.fields.proofs.Parts.{drop-part, parts-end, parts-more, index-most}
-use Rattle.fields.proofs.Digits.{all-at, all-snoc, value-snoc, number-empty, number-long, number-large, number-other, number-value, low-digit, high-digit}
+use Rattle.fields.proofs.Digits.{all-at, all-snoc, value-snoc, number-empty, number-long, number-large, number-other, number-value, low-digit, high-digit, a-digit, power-step, power-most}
 
 digit-no-tab : (c : ℕ) → isDigit c ≡ true → eqb c tab ≡ false
 digit-no-tab c d = ne-eqb c tab (λ e. omega (arith, leb-true 48 c (both _ _ d .0), e))
 
--- a byte that is a digit, and not an eleventh one
-pub digit-more : (c k : ℕ) → (ltb c 48 || ltb 57 c || ltb 9 k) ≡ false → (48 ≤ c) × (c ≤ 57) × (k ≤ 9)
-digit-more c k e =
-    let (t, few) = neither (ltb c 48 || ltb 57 c) (ltb 9 k) e in
-    let (low, high) = neither (ltb c 48) (ltb 57 c) t in
-    (ltb-false c 48 low, ltb-false 57 c high, ltb-false 9 k few)
+-- What the scanning keeps: the bytes that it has passed are digits, and their number is the value.
+pub record LeadingInvariant (l : List ℕ) (value k : ℕ) : Type 0 where
+  pub within : k ≤ length l
+  pub few : k ≤ 10
+  pub small : value < 10 ^ k
+  pub digits : allAre isDigit (take k l) ≡ true
+  pub says : decimalValue (take k l) ≡ value
 
--- it goes on what is passed
-pub digit-goes-on : (l : List ℕ) (k value : ℕ) → k < length l → isDigit (getD l k 0) ≡ true → allAre isDigit (take k l) ≡ true → decimalValue (take k l) ≡ value →
-    (allAre isDigit (take (k + 1) l) ≡ true) × (decimalValue (take (k + 1) l) ≡ value * 10 + (getD l k 0 - 48))
-digit-goes-on l k value h d a v =
-    rw (add-one k, take-suc l k 0 h) (
-      all-snoc isDigit (take k l) (getD l k 0) a d,
-      value-snoc 0 (take k l) (getD l k 0) ∙ rw v,
-    )
+pub leading-begin : (l : List ℕ) → LeadingInvariant l 0 0
+unfolding allAre valueAfter
+leading-begin l = record { within = omega arith; few = omega arith; small = omega arith; digits = refl; says = refl }
+
+-- a byte that is a digit, and not an eleventh one: there is room for it
+pub record NextDigit (c value k : ℕ) : Type 0 where
+  pub low : 48 ≤ c
+  pub high : c ≤ 57
+  pub few : k ≤ 9
+  pub room : value < 1000000000
+
+pub digit-more : (l : List ℕ) (c value k : ℕ) → LeadingInvariant l value k → (ltb c 48 || ltb 57 c || ltb 9 k) ≡ false → NextDigit c value k
+digit-more l c value k i e =
+    let (t, more) = neither (ltb c 48 || ltb 57 c) (ltb 9 k) e in
+    let (low, high) = neither (ltb c 48) (ltb 57 c) t in
+    let few : k ≤ 9 = ltb-false 9 k more in
+    record { low = ltb-false c 48 low; high = ltb-false 57 c high; few = few; room = omega (arith, power-most k (omega arith), i .small) }
+
+-- the digit is passed
+pub leading-next : (l : List ℕ) (value k : ℕ) → LeadingInvariant l value k → k < length l → NextDigit (getD l k 0) value k → LeadingInvariant l (value * 10 + (getD l k 0 - 48)) (k + 1)
+leading-next l value k i h n =
+    let next : take (k + 1) l ≡ take k l ++ (getD l k 0 ∷ []) = rw (add-one k) (take-suc l k 0 h) in
+    record {
+      within = omega arith;
+      few = omega (arith, n .few);
+      small = power-step value (getD l k 0) k (i .small) (n .high);
+      digits = rw next (all-snoc isDigit (take k l) (getD l k 0) (i .digits) (a-digit _ (n .low) (n .high)));
+      says = rw next (value-snoc 0 (take k l) (getD l k 0) ∙ rw (i .says));
+    }
 
 -- the first tab lies behind the digits that are passed
 past : (l : List ℕ) (k : ℕ) → allAre isDigit (take k l) ≡ true → k ≤ length l → indexOf tab l ≡ k + indexOf tab (drop k l)
@@ -47,22 +69,22 @@ past (c ∷ cs) (suc k) a h =
     let (d, ds) = both (isDigit c) (allAre isDigit (take k cs)) a in
     rw (digit-no-tab c d) (omega (arith, past cs k ds (omega (arith, h))))
 
-module _ (l : List ℕ) (k : ℕ) (a : allAre isDigit (take k l) ≡ true) where
+module _ (l : List ℕ) (value k : ℕ) (inv : LeadingInvariant l value k) where
   -- no tab at all
-  pub lead-end : k ≤ length l → length l ≤ k → Nothing ≡ leadingOf l
+  pub lead-end : length l ≤ k → Nothing ≡ leadingOf l
   unfolding leadingOf indexOf
-  lead-end m h =
-      let e : indexOf tab l ≡ length l = past l k a m ∙ rw (drop-of-length-le l h) (omega arith) in
+  lead-end h =
+      let e : indexOf tab l ≡ length l = past l k (inv .digits) (inv .within) ∙ rw (drop-of-length-le l h) (omega (arith, inv .within)) in
       rw (e, le-ltb (length l) (length l) (omega arith))
 
   module _ (h : k < length l) where
     at-tab : getD l k 0 ≡ tab → indexOf tab l ≡ k
     unfolding indexOf indexAfter
-    at-tab e = past l k a (omega arith) ∙ rw (drop-cons l k 0 h, eq-eqb (getD l k 0) tab e) (omega arith)
+    at-tab e = past l k (inv .digits) (inv .within) ∙ rw (drop-cons l k 0 h, eq-eqb (getD l k 0) tab e) (omega arith)
 
     after : (getD l k 0 ≡ tab → ⊥) → k < indexOf tab l
     unfolding indexOf indexAfter
-    after n = let e = past l k a (omega arith) in let f = rw (drop-cons l k 0 h, ne-eqb (getD l k 0) tab n) at e in omega (arith, f)
+    after n = let e = past l k (inv .digits) (inv .within) in let f = rw (drop-cons l k 0 h, ne-eqb (getD l k 0) tab n) at e in omega (arith, f)
 
     -- a tab at the k-th place: the field is what is passed
     lead-tab : getD l k 0 ≡ tab → leadingOf l ≡ leadingWith (numberOf (take k l)) (k + 1)
@@ -70,20 +92,21 @@ module _ (l : List ℕ) (k : ℕ) (a : allAre isDigit (take k l) ≡ true) where
     lead-tab e = rw (at-tab e, lt-ltb k (length l) h)
 
     size : length (take k l) ≡ k
-    size = length-take-le k l (omega arith)
+    size = length-take-le k l (inv .within)
 
     pub lead-empty : getD l k 0 ≡ tab → k ≡ 0 → Nothing ≡ leadingOf l
     unfolding leadingWith
     lead-empty e z = sym (lead-tab e ∙ rw (← number-empty (take k l) (size ∙ z)))
 
-    pub lead-large : getD l k 0 ≡ tab → 4294967295 < decimalValue (take k l) → Nothing ≡ leadingOf l
+    pub lead-large : getD l k 0 ≡ tab → 4294967295 < value → Nothing ≡ leadingOf l
     unfolding leadingWith
-    lead-large e n = sym (lead-tab e ∙ rw (← number-large (take k l) n))
+    lead-large e n = sym (lead-tab e ∙ rw (← number-large (take k l) (rw (inv .says) n)))
 
-    pub lead-field : getD l k 0 ≡ tab → 1 ≤ k → k ≤ 10 → decimalValue (take k l) ≤ 4294967295 → Field (decimalValue (take k l)) (k + 1) ≡ leadingOf l
+    pub lead-field : getD l k 0 ≡ tab → 1 ≤ k → value ≤ 4294967295 → Field value (k + 1) ≡ leadingOf l
     unfolding leadingWith
-    lead-field e some few n =
-        sym (lead-tab e ∙ rw (← number-value (take k l) (omega (arith, size)) (omega (arith, size)) a n))
+    lead-field e some n =
+        let number : Value value ≡ numberOf (take k l) = rw (inv .says) at (number-value (take k l) (omega (arith, size)) (omega (arith, size, inv .few)) (inv .digits) (rw (inv .says) n)) in
+        sym (lead-tab e ∙ rw (← number))
 
     -- a byte that is neither a digit nor a tab, or an eleventh one: the field is no number, if it ends at all
     no-number : (e : ℕ) → k < e → e ≤ length l → (ltb (getD l k 0) 48 || ltb 57 (getD l k 0) || ltb 9 k) ≡ true → NotANumber ≡ numberOf (take e l)

@@ -3,6 +3,7 @@ use Prim.Native.Nat.{ℕ, zero, suc, _+_, _*_, _-_, _%_, _/_, _^_, _≤_, _<_}
 use mathlib.Core.Path.{_≡_, refl, sym, _∙_, ap}
 use mathlib.Core.Bool.{true, _&&_}
 use mathlib.Core.List.{List, [], _∷_}
+use native.Mathlib.Numerals.{unary-clauses}
 use native.Mathlib.Omega.{arith}
 use native.Mathlib.Nat.{add-zero, pow-suc}
 use lib.Count.{ones, ones-step}
@@ -50,15 +51,36 @@ stored-parts src m s a (suc n) k =
     let g : suc n + k ≡ suc (n + k) = omega arith in
     rw (e, f, g) (stored-parts src (put m a (getD src s 0)) (suc s) (suc a) n k)
 
--- a store goes on: from the k-th byte on j are stored, the others are left
-pub stored-on : (src : List ℕ) (m : Memory) (s a n k j : ℕ) → j ≤ n - k →
-    stored (stored m (a + k) (bytesAt src (s + k) j)) (a + (k + j)) (bytesAt src (s + (k + j)) (n - (k + j)))
-    ≡ stored m (a + k) (bytesAt src (s + k) (n - k))
-stored-on src m s a n k j h =
-    let e : a + (k + j) ≡ a + k + j = omega arith in
-    let f : s + (k + j) ≡ s + k + j = omega arith in
-    let g : n - k ≡ j + (n - (k + j)) = omega arith in
-    rw (e, f, g) (stored-parts src m (s + k) (a + k) j (n - (k + j)))
+-- What the loop that stores bytes keeps: the bytes that are left, stored, give what all give.
+module _ (src : List ℕ) (m₀ : Memory) (s a count : ℕ) where
+  pub record StoreInvariant (m : Memory) (k : ℕ) : Type 0 where
+    pub rest : stored m (a + k) (bytesAt src (s + k) (count - k)) ≡ stored m₀ a (bytesAt src s count)
+    pub within : k ≤ count
+    pub ram : length (m .ram) ≡ length (m₀ .ram)
+    pub parity : length (m .parity) ≡ length (m₀ .parity)
+
+  pub storing-begin : StoreInvariant m₀ 0
+  storing-begin = record { rest = simp unary-clauses; within = omega arith; ram = refl; parity = refl }
+
+  -- the next j bytes are stored
+  pub storing-next : (m m′ : Memory) (k j : ℕ) → StoreInvariant m k → j ≤ count - k → m′ ≡ stored m (a + k) (bytesAt src (s + k) j) → StoreInvariant m′ (k + j)
+  storing-next m m′ k j inv h e =
+      let bytes = bytesAt src (s + k) j in
+      let lengths = stored-lengths m (a + k) bytes in
+      let at-a : a + (k + j) ≡ a + k + j = omega arith in
+      let at-s : s + (k + j) ≡ s + k + j = omega arith in
+      let left : count - k ≡ j + (count - (k + j)) = omega arith in
+      record {
+        rest = rw (e, at-a, at-s) (stored-parts src m (s + k) (a + k) j (count - (k + j)) ∙ rw left at (inv .rest));
+        within = omega (arith, inv .within);
+        ram = ap (λ (m : Memory). length (m .ram)) e ∙ lengths .0 ∙ inv .ram;
+        parity = ap (λ (m : Memory). length (m .parity)) e ∙ lengths .1 ∙ inv .parity;
+      }
+
+  -- none is left
+  pub storing-end : (m : Memory) (k : ℕ) → StoreInvariant m k → count ≤ k → m ≡ stored m₀ a (bytesAt src s count)
+  unfolding bytesAt stored
+  storing-end m k inv h = let none : count - k ≡ 0 = omega arith in rw none at (inv .rest)
 
 -- a line stored by doublewords
 pub line-stored : (src : List ℕ) (m : Memory) (s a : ℕ) →

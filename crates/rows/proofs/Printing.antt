@@ -1,10 +1,10 @@
 -- Laws of text put into a buffer: digits, rows, the header.
 use Prim.Native.Nat.{ℕ, zero, suc, _+_, _/_, _%_, _≤_, _<_}
-use mathlib.Core.Path.{_≡_, refl, sym, _∙_}
+use mathlib.Core.Path.{_≡_, refl, sym, ap, _∙_}
 use mathlib.Core.List.{List, [], _∷_, _++_}
 use native.Mathlib.Numerals.{add-one}
 use native.Mathlib.Omega.{arith}
-use lib.ListN.{length, drop, getD, set, drop-of-length-le, length-append}
+use lib.ListN.{length, drop, getD, set, length-set, drop-of-length-le, length-append}
 use lib.Seq.{sets, drop-cons, set-out}
 use Rattle.laws.proofs.Lists.{sets-append}
 use Rattle.fields.specs.Fields.{tab, newline}
@@ -82,14 +82,34 @@ pub put-beyond : (out : List ℕ) (at : ℕ) (text : List ℕ) → length out �
 put-beyond out at [] h = refl
 put-beyond out at (x ∷ text) h = rw (set-out out at x h) (put-beyond out (suc at) text (omega (arith, h)))
 
--- the next byte of a text put in its place, and none is left
-pub put-next : (out text : List ℕ) (k : ℕ) → k < length text → sets (set out k (getD text k 0)) (k + 1) (drop (k + 1) text) ≡ sets out k (drop k text)
-put-next out text k h = rw (add-one k, drop-cons text k 0)
-
-pub put-none : (out text : List ℕ) (k : ℕ) → length text ≤ k → sets out k (drop k text) ≡ out
-put-none out text k h = rw (drop-of-length-le text h)
-
 -- how long the header is
 pub header-length : length header ≡ 26
 unfolding header
 header-length = refl
+
+-- What the loop that puts the header keeps: the bytes that are left, put, give what all give.
+pub record HeaderInvariant (out₀ text out : List ℕ) (k : ℕ) : Type 0 where
+  pub within : k ≤ 26
+  pub says : text ≡ header
+  pub rest : sets out k (drop k header) ≡ sets out₀ 0 header
+  pub lengths : length out ≡ length out₀
+
+pub header-begin : (out text : List ℕ) → text ≡ header → HeaderInvariant out text out 0
+header-begin out text e = record { within = omega arith; says = e; rest = refl; lengths = refl }
+
+module _ (out₀ text out : List ℕ) (k : ℕ) (inv : HeaderInvariant out₀ text out k) where
+  -- the next byte is put
+  pub header-next : (out′ : List ℕ) → k < 26 → out′ ≡ set out k (getD text k 0) → HeaderInvariant out₀ text out′ (k + 1)
+  header-next out′ h e =
+      record {
+        within = omega arith;
+        says = inv .says;
+        rest = rw (e, inv .says) (rw (add-one k) (rw (drop-cons header k 0 (omega (arith, header-length))) at (inv .rest)));
+        lengths = ap length e ∙ length-set out k (getD text k 0) ∙ inv .lengths;
+      }
+
+  -- none is left
+  pub header-end : 26 ≤ k → (k ≡ length header) × (out ≡ sets out₀ 0 header)
+  header-end h =
+      let past : length header ≤ k = omega (arith, header-length) in
+      (omega (arith, header-length, inv .within), rw (drop-of-length-le header past) at (inv .rest))

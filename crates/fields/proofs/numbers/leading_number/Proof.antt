@@ -1,41 +1,30 @@
-use Prim.Native.Nat.{_-_, _^_, _≤_, _<_}
-use mathlib.Core.Path.{_≡_, refl}
-use mathlib.Core.Bool.{true}
+use Prim.Native.Nat.{_-_}
 use native.Mathlib.Omega.{arith}
-use lib.ListN.{length, take, getD}
-use Rattle.fields.specs.Number.{isDigit, allAre, valueAfter, decimalValue}
-use Rattle.fields.proofs.Digits.{a-digit, power-step, power-most}
-use Rattle.fields.proofs.Leading.{digit-more, digit-goes-on, lead-end, lead-empty, lead-large, lead-field, lead-other}
+use lib.ListN.{length, getD}
+use Rattle.fields.proofs.Leading.{LeadingInvariant, NextDigit, leading-begin, digit-more, leading-next, lead-end, lead-empty, lead-large, lead-field, lead-other}
 use Rattle.fields.proofs.numbers.leading_number.Statement.{statement}
 use Rattle.fields.proofs.numbers.leading_number.Tie as tie
 
 abbrev Inv-loop : tie.InvT-loop
-Inv-loop text value₀ k₀ value k = (k ≤ length text) × (k ≤ 10) × (value < 10 ^ k) × (allAre isDigit (take k text) ≡ true) × (decimalValue (take k text) ≡ value)
+Inv-loop text value₀ k₀ value k = LeadingInvariant text value k
 
 abbrev μ-loop : tie.MeasureT-loop
 μ-loop text value₀ k₀ value k = length text - k
 
 loop-holds : tie.Need-loop-holds Inv-loop μ-loop
-unfolding allAre valueAfter
-loop-holds c = (omega arith, omega arith, omega arith, refl, refl)
+loop-holds c = leading-begin _
 
 shared-slice-read-digit : tie.Need-shared-slice-read-digit Inv-loop μ-loop
 shared-slice-read-digit c = omega arith
 
 returns : tie.Need-returns Inv-loop μ-loop
-returns c =
-    let loop = c .before .before .before .before .loop in
-    lead-other (c .before .before .before .before .before .args .text .now) (loop .k) (loop .inv .3) (omega arith) (c .if2 .taken) (c .before .if1 .taken)
+returns c = lead-other _ _ _ (c .before .before .before .before .loop .inv) (omega arith) (c .if2 .taken) (c .before .if1 .taken)
 
 returns-2 : tie.Need-returns-2 Inv-loop μ-loop
-returns-2 c =
-    let loop = c .before .before .before .before .before .loop in
-    lead-empty (c .before .before .before .before .before .before .args .text .now) (loop .k) (loop .inv .3) (omega arith) (c .before .if2 .left) (c .if3 .taken)
+returns-2 c = lead-empty _ _ _ (c .before .before .before .before .before .loop .inv) (omega arith) (c .before .if2 .left) (c .if3 .taken)
 
 returns-3 : tie.Need-returns-3 Inv-loop μ-loop
-returns-3 c =
-    let loop = c .before .before .before .before .before .before .loop in
-    lead-large (c .before .before .before .before .before .before .before .args .text .now) (loop .k) (loop .inv .3) (omega arith) (c .before .before .if2 .left) (rw (loop .inv .4) (c .if4 .taken))
+returns-3 c = lead-large _ _ _ (c .before .before .before .before .before .before .loop .inv) (omega arith) (c .before .before .if2 .left) (c .if4 .taken)
 
 cast-t14 : tie.Need-cast-t14 Inv-loop μ-loop
 cast-t14 c = omega arith
@@ -44,31 +33,24 @@ add-t15 : tie.Need-add-t15 Inv-loop μ-loop
 add-t15 c = omega arith
 
 returns-4 : tie.Need-returns-4 Inv-loop μ-loop
-returns-4 c =
-    let loop = c .before .before .before .before .before .before .loop in
-    let text = c .before .before .before .before .before .before .before .args .text .now in
-    let small : decimalValue (take (loop .k) text) ≤ 4294967295 = rw (loop .inv .4) (omega arith) in
-    rw (← loop .inv .4) (lead-field text (loop .k) (loop .inv .3) (omega arith) (c .before .before .if2 .left) (omega arith) (omega arith) small)
+returns-4 c = lead-field _ _ _ (c .before .before .before .before .before .before .loop .inv) (omega arith) (c .before .before .if2 .left) (omega arith) (omega arith)
 
 -- the byte is a digit, and the number has room for it
-known : (c : tie.Else1 Inv-loop μ-loop) → let loop = c .before .before .before .loop in let digit = getD (c .before .before .before .before .args .text .now) (loop .k) 0 in
-    (48 ≤ digit) × (digit ≤ 57) × (loop .k ≤ 9) × (loop .value < 1000000000)
-known c =
-    let loop = c .before .before .before .loop in
-    let (low, high, few) = digit-more _ (loop .k) (c .if1 .left) in
-    (low, high, few, omega (arith, power-most (loop .k) (omega arith), loop .inv .2))
+known : (c : tie.Else1 Inv-loop μ-loop) → let at-loop = c .before .before .before in
+    NextDigit (getD (at-loop .before .args .text .now) (at-loop .loop .k) 0) (at-loop .loop .value) (at-loop .loop .k)
+known c = digit-more _ _ _ _ (c .before .before .before .loop .inv) (c .if1 .left)
 
 mul-value : tie.Need-mul-value Inv-loop μ-loop
-mul-value c = omega (arith, known c)
+mul-value c = let n = known c in omega arith
 
 sub-value : tie.Need-sub-value Inv-loop μ-loop
-sub-value c = omega (arith, known c)
+sub-value c = let n = known c in omega arith
 
 cast-value : tie.Need-cast-value Inv-loop μ-loop
-cast-value c = omega (arith, known c)
+cast-value c = let n = known c in omega arith
 
 add-value : tie.Need-add-value Inv-loop μ-loop
-add-value c = omega (arith, known c)
+add-value c = let n = known c in omega arith
 
 add-k : tie.Need-add-k Inv-loop μ-loop
 add-k c = omega arith
@@ -77,15 +59,10 @@ loop-less : tie.Need-loop-less Inv-loop μ-loop
 loop-less c = omega arith
 
 loop-again : tie.Need-loop-again Inv-loop μ-loop
-loop-again c =
-    let loop = c .before .before .before .loop in
-    let text = c .before .before .before .before .args .text .now in
-    let (low, high, few, small) = known c in
-    let next = digit-goes-on text (loop .k) (loop .value) (omega arith) (a-digit _ low high) (loop .inv .3) (loop .inv .4) in
-    (omega arith, omega arith, power-step (loop .value) (getD text (loop .k) 0) (loop .k) (loop .inv .2) high, next .0, next .1)
+loop-again c = leading-next _ _ _ (c .before .before .before .loop .inv) (omega arith) (known c)
 
 returns-5 : tie.Need-returns-5 Inv-loop μ-loop
-returns-5 c = lead-end (c .before .before .args .text .now) (c .before .loop .k) (c .before .loop .inv .3) (omega arith) (omega arith)
+returns-5 c = lead-end _ _ _ (c .before .loop .inv) (omega arith)
 
 pub leading-number-spec : {M : Type 1} → statement M
 leading-number-spec =

@@ -1,23 +1,19 @@
-use native.Mathlib.Numerals.{unary-clauses}
 use native.Mathlib.Omega.{arith}
-use Prim.Native.Nat.{_+_, _-_, _≤_}
-use mathlib.Core.Path.{_≡_, refl, _∙_, ap}
-use lib.ListN.{length}
+use Prim.Native.Nat.{_-_}
 use borrow.Author.Needs.{needs}
-use Rattle.words.specs.Bytes.{bytesAt}
-use Rattle.memory.specs.Parity.{Memory, memory, stored}
-use Rattle.memory.proofs.Bits.{stored-on, stored-lengths}
+use Rattle.memory.specs.Parity.{memory}
+use Rattle.memory.proofs.Bits.{StoreInvariant, storing-begin, storing-next, storing-end}
 use Rattle.memory.proofs.parity.store_each.Statement.{statement}
 use Rattle.memory.proofs.parity.store_each.Tie as tie
 
 abbrev Inv-loop : tie.InvT-loop
-Inv-loop src s ram₀ parity₀ a count k₀ ram parity k = (stored (memory ram parity) (a + k) (bytesAt src (s + k) (count - k)) ≡ stored (memory ram₀ parity₀) a (bytesAt src s count)) × (k ≤ count) × (length ram ≡ length ram₀) × (length parity ≡ length parity₀)
+Inv-loop src s ram₀ parity₀ a count k₀ ram parity k = StoreInvariant src (memory ram₀ parity₀) s a count (memory ram parity) k
 
 abbrev μ-loop : tie.MeasureT-loop
 μ-loop src s ram₀ parity₀ a count k₀ ram parity k = count - k
 
 loop-holds : tie.Need-loop-holds Inv-loop μ-loop
-loop-holds c = (simp unary-clauses, omega arith, refl, refl)
+loop-holds c = storing-begin _ _ _ _ _
 
 add-store-next : tie.Need-add-store-next Inv-loop μ-loop
 add-store-next c = search needs
@@ -39,19 +35,19 @@ loop-less c = search needs
 
 loop-again : tie.Need-loop-again Inv-loop μ-loop
 loop-again c =
-    let n = c .before .before .before .before .store-next .ensures in
-    let i = c .before .before .before .before .before .before .before .before .loop .inv in
-    (rw (n .1) (stored-on _ _ _ _ _ _ _ (n .0 .1) ∙ i .0), omega arith, ap (λ (m : Memory). length (m .ram)) (n .1) ∙ stored-lengths _ _ _ .0 ∙ i .2, ap (λ (m : Memory). length (m .parity)) (n .1) ∙ stored-lengths _ _ _ .1 ∙ i .3)
+    let at-store-next = c .before .before .before .before in
+    let at-loop = at-store-next .before .before .before .before in
+    let ((_, most), stored) = at-store-next .store-next .ensures in
+    storing-next _ _ _ _ _ _ _ _ _ (at-loop .loop .inv) most stored
 
 same-length : tie.Need-same-length Inv-loop μ-loop
-same-length c = c .before .loop .inv .2
+same-length c = c .before .loop .inv .ram
 
 same-length-2 : tie.Need-same-length-2 Inv-loop μ-loop
-same-length-2 c = c .before .loop .inv .3
+same-length-2 c = c .before .loop .inv .parity
 
 returns : tie.Need-returns Inv-loop μ-loop
-unfolding bytesAt stored
-returns c = let e : c .before .before .before .before .before .args .count - c .before .loop .k ≡ 0 = omega arith in rw e at (c .before .loop .inv .0)
+returns c = storing-end _ _ _ _ _ _ _ (c .before .loop .inv) (omega arith)
 
 pub store-each-spec : {M : Type 1} → statement M
 store-each-spec =

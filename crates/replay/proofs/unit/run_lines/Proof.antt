@@ -1,12 +1,12 @@
 use borrow.Author.Needs.{needs}
-use Prim.Native.Nat.{_≤_, _-_}
+use Prim.Native.Nat.{_-_}
 use lib.ListN.{length}
-use mathlib.Core.Path.{_≡_}
+use Rattle.replay.proofs.Lines.{LinesInvariant}
 use Rattle.replay.proofs.unit.run_lines.Statement.{statement}
 use Rattle.replay.proofs.unit.run_lines.Tie as tie
 
 abbrev Inv-loop : tie.InvT-loop
-Inv-loop script begin ram₀ parity₀ data₀ log₀ d₀ at₀ ram parity «data» log d at = (begin ≤ at) × (length ram ≡ length ram₀) × (length parity ≡ length parity₀) × (length «data» ≡ length data₀) × (length log ≡ length log₀)
+Inv-loop script begin ram₀ parity₀ data₀ log₀ d₀ at₀ ram parity «data» log d at = LinesInvariant begin at ram₀ parity₀ data₀ log₀ ram parity «data» log
 
 abbrev μ-loop : tie.MeasureT-loop
 μ-loop script begin ram₀ parity₀ data₀ log₀ d₀ at₀ ram parity «data» log d at = length script - at

@@ -1,0 +1,2 @@
+-- What a loop keeps.
+mod Lines
