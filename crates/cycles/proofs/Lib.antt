@@ -1,7 +1,5 @@
 -- Laws that several proofs cite.
 pub mod Parity
-pub mod Masks
-pub mod Made
 pub mod Records
 pub mod Loops
 pub mod Brought

@@ -12,7 +12,7 @@ use Rattle.laws.proofs.Below.{four}
 use Rattle.laws.proofs.Tests.{same-or}
 use Rattle.memory.specs.Parity.{Memory, memory, dpOf, laneBit, dpAt, wrongAt, wrongIn}
 use Rattle.memory.proofs.Bits.{dp-below}
-use Rattle.cycles.specs.Parts.{dueBits, bitsIn}
+use Rattle.parts.specs.Parts.{dueBits, bitsIn}
 
 -- the lowest bit of a number, and the others
 mod-step : (x n : ℕ) → x % (2 * n) ≡ x % 2 + 2 * (x / 2 % n)

@@ -1,4 +1,2 @@
--- No rule: what the code of cycles needs, the records that it makes from numbers, and what it leaves.
-pub mod Parts
-pub mod Made
+-- No rule: what the code of cycles sends.
 pub mod Sent

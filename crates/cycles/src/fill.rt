@@ -7,10 +7,10 @@ ghost use Rattle.bus.specs.Bus.{burst, cyclesOf};
 ghost use Rattle.bus.specs.Record.{fillKind, readRecord};
 ghost use Rattle.bus.specs.Runs.{offsets};
 ghost use Rattle.bus.specs.Groups.{groupSize};
-ghost use Rattle.cycles.specs.Made.{CyclesMade};
-ghost use Rattle.cycles.specs.Parts.{LineNeeds};
-use crate::lanes::due_bits;
-use crate::whole::whole_cycles;
+ghost use Rattle.parts.specs.Made.{CyclesMade};
+ghost use Rattle.parts.specs.Parts.{LineNeeds};
+use parts::due_bits;
+use parts::whole_cycles;
 use words::word_at;
 
 // The burst order: the offsets of the doublewords of a line, by the one that it starts with.

@@ -5,11 +5,11 @@ ghost use lib.ListN.{length};
 ghost use Rattle.memory.specs.Parity.{lentMemory};
 ghost use Rattle.bus.specs.Bus.{cyclesOf, run};
 ghost use Rattle.bus.specs.Record.{plainKind, readRecord};
-ghost use Rattle.cycles.specs.Made.{CyclesMade};
-ghost use Rattle.cycles.specs.Parts.{LineNeeds};
-use crate::lanes::due_bits;
-use crate::lanes::put_part;
-use crate::part::sized_cycles;
+ghost use Rattle.parts.specs.Made.{CyclesMade};
+ghost use Rattle.parts.specs.Parts.{LineNeeds};
+use parts::due_bits;
+use parts::put_part;
+use parts::sized_cycles;
 use words::lanes_mask;
 use words::word_at;
 

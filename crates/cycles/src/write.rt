@@ -6,11 +6,11 @@ ghost use lib.ListN.{length};
 ghost use Rattle.words.specs.Bytes.{bytesOf, lanesValue, lanesWord};
 ghost use Rattle.bus.specs.Bus.{cyclesOf, run};
 ghost use Rattle.bus.specs.Record.{writeRecord};
-ghost use Rattle.cycles.specs.Made.{CyclesMade};
+ghost use Rattle.parts.specs.Made.{CyclesMade};
 ghost use Rattle.cycles.specs.Sent.{sentLine};
-use crate::part::sized_cycles;
 use bus::flags_of;
 use bus::put_record;
+use parts::sized_cycles;
 use words::lanes_mask;
 
 // The cycles that send so many lanes of a doubleword, from an offset of a line on: no parity is checked. The other lanes are 0. first:

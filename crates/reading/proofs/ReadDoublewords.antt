@@ -18,7 +18,7 @@ use Rattle.words.proofs.Places.{bytes-length}
 use Rattle.memory.specs.Parity.{Memory}
 use Rattle.bus.specs.Bus.{run, ken, burst, lastAnswer}
 use Rattle.bus.specs.Record.{readRecord, plainKind, fillKind, wordsOf}
-use Rattle.cycles.specs.Made.{CyclesMade}
+use Rattle.parts.specs.Made.{CyclesMade}
 use Rattle.bus.proofs.Runs.{last-answer}
 use Rattle.cycles.proofs.Brought.{OneDoubleword, fill-buffer, wanted-bytes}
 use Rattle.doubleword.specs.declared.change.Change.the-variants.{Unchanged, Use, Fill}

@@ -7,7 +7,7 @@ ghost use Rattle.words.specs.Bytes.{bytesAt, valueOf};
 ghost use Rattle.memory.specs.Parity.{lentMemory};
 ghost use Rattle.bus.specs.Bus.{cyclesOf, run};
 ghost use Rattle.bus.specs.Record.{plainKind, readRecord};
-ghost use Rattle.cycles.specs.Made.{CyclesMade};
+ghost use Rattle.parts.specs.Made.{CyclesMade};
 ghost use Rattle.doubleword.specs.DoublewordCode.{DoublewordNeeds};
 use cycles::plain_cycles;
 use doubleword::Wanted;

@@ -16,7 +16,7 @@ use Rattle.words.proofs.Parts.{powers-some}
 use Rattle.words.proofs.Places.{bytes-length}
 use Rattle.memory.specs.Parity.{Memory, stored}
 use Rattle.bus.specs.Record.{writeRecord, wordsOf}
-use Rattle.cycles.specs.Made.{CyclesMade}
+use Rattle.parts.specs.Made.{CyclesMade}
 use Rattle.cycles.proofs.Brought.{OneDoubleword}
 use Rattle.cycles.specs.Sent.{sentLine}
 use Rattle.cycles.proofs.Stored.{wanted-stored}

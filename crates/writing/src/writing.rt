@@ -9,7 +9,7 @@ ghost use Rattle.words.specs.Bytes.{bytesAt, bytesOf, lanesValue, lanesWord};
 ghost use Rattle.memory.specs.Parity.{lentMemory, stored};
 ghost use Rattle.bus.specs.Bus.{cyclesOf, run};
 ghost use Rattle.bus.specs.Record.{writeRecord};
-ghost use Rattle.cycles.specs.Made.{CyclesMade};
+ghost use Rattle.parts.specs.Made.{CyclesMade};
 ghost use Rattle.cycles.specs.Sent.{sentLine};
 ghost use Rattle.doubleword.specs.DoublewordCode.{DoublewordNeeds, doublewordOf};
 ghost use Rattle.writing.specs.Writing.{writeDone};

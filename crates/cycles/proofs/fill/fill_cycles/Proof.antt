@@ -6,7 +6,7 @@ use lib.ListN.{length, getD}
 use denote.Ref.{now}
 use Rattle.memory.specs.Parity.{memory}
 use Rattle.bus.specs.Record.{readRecord, fillKind}
-use Rattle.cycles.specs.Parts.{LineNeeds}
+use Rattle.parts.specs.Parts.{LineNeeds}
 use Rattle.cycles.proofs.Records.{read-made}
 use Rattle.cycles.proofs.Loops.{FillInvariant, fill-begin, turn-offset, fill-next, fill-end}
 use borrow.Author.Needs.{needs}

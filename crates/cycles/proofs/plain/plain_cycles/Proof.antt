@@ -3,7 +3,8 @@ use mathlib.Core.Path.{refl}
 use native.Mathlib.Omega.{arith}
 use denote.Ref.{now}
 use Rattle.bus.specs.Record.{plainKind}
-use Rattle.cycles.proofs.Records.{part-whole, read-alone}
+use Rattle.parts.proofs.Records.{part-whole}
+use Rattle.cycles.proofs.Records.{read-alone}
 use borrow.Author.Needs.{needs}
 use Rattle.cycles.proofs.plain.plain_cycles.Statement.{statement}
 use Rattle.cycles.proofs.plain.plain_cycles.Tie as tie

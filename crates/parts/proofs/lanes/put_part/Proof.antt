@@ -2,11 +2,11 @@ use Prim.Native.Nat.{_≤_, _+_, _%_}
 use mathlib.Core.Path.{_∙_}
 use native.Mathlib.Omega.{arith}
 use denote.Ref.{now}
-use Rattle.cycles.proofs.Masks.{mask-lane, masked-same}
-use Rattle.cycles.proofs.Records.{part-left}
+use Rattle.parts.proofs.Masks.{mask-lane, masked-same}
+use Rattle.parts.proofs.Records.{part-left}
 use borrow.Author.Needs.{needs}
-use Rattle.cycles.proofs.lanes.put_part.Statement.{statement}
-use Rattle.cycles.proofs.lanes.put_part.Tie as tie
+use Rattle.parts.proofs.lanes.put_part.Statement.{statement}
+use Rattle.parts.proofs.lanes.put_part.Tie as tie
 
 cast-bits : tie.Need-cast-bits
 cast-bits c = search needs

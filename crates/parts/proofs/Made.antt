@@ -12,8 +12,8 @@ use Rattle.bus.specs.Record.{Record, wordsOf, logged}
 use Rattle.bus.specs.Runs.{runCycles}
 use Rattle.bus.proofs.Flags.{logged-append}
 use Rattle.bus.proofs.Runs.{step-one, step-then, cycles-none, cycles-run}
-use Rattle.cycles.specs.Parts.{moving}
-use Rattle.cycles.specs.Made.{CyclesMade}
+use Rattle.parts.specs.Parts.{moving}
+use Rattle.parts.specs.Made.{CyclesMade}
 
 -- what the code leaves: the last cycle of a run, or one cycle and then the others. No record tells a cycle's answer.
 module _ (make : Cycle → Record) (blind : (w : Run) (x : ℕ) (b : Bool) → make (record { moved = w; answer = x; last = b }) ≡ make (moving (w .from) (w .count) b))

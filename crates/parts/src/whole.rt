@@ -4,8 +4,8 @@ ghost use lib.ListN.{drop, length};
 ghost use Rattle.bus.specs.Bus.{run};
 ghost use Rattle.bus.specs.Record.{fillKind};
 ghost use Rattle.bus.specs.Runs.{runCycles};
-ghost use Rattle.cycles.specs.Made.{CyclesMade};
-ghost use Rattle.cycles.specs.Parts.{partRecord};
+ghost use Rattle.parts.specs.Made.{CyclesMade};
+ghost use Rattle.parts.specs.Parts.{partRecord};
 use crate::lanes::put_part;
 
 // The cycles of lanes 2 and 3. base, word, held and due: as for put_part; used: the answers that are used already; first: the

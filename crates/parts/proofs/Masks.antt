@@ -8,7 +8,7 @@ use lib.Pow.{pow-mono, pow-lt, shl-shr}
 use borrow.Author.Tests.{eq-eqb, ne-eqb}
 use Rattle.laws.proofs.Tests.{same-or}
 use Rattle.words.specs.Bytes.{lanesMask}
-use Rattle.cycles.specs.Parts.{bitsIn}
+use Rattle.parts.specs.Parts.{bitsIn}
 
 -- two numbers are the same where as many powers of two of them are
 same-scaled : (x y lane : ℕ) → eqb (x * 2 ^ lane) (y * 2 ^ lane) ≡ eqb x y

@@ -5,7 +5,7 @@ ghost use Prim.Native.Nat.{ℕ, _+_, _*_, _≤_};
 ghost use lib.ListN.{length};
 ghost use Rattle.words.specs.Bytes.{lanesMask};
 ghost use Rattle.bus.specs.Record.{logged};
-ghost use Rattle.cycles.specs.Parts.{dueBits, moving, partRecord};
+ghost use Rattle.parts.specs.Parts.{dueBits, moving, partRecord};
 use bus::flags_of;
 use bus::put_record;
 use memory::dp_bits;

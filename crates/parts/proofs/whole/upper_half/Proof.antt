@@ -2,11 +2,11 @@ use mathlib.Core.Path.{refl}
 use native.Mathlib.Omega.{arith}
 use Rattle.words.specs.Bytes.{lanesMask}
 use Rattle.bus.proofs.Sizing.{size-upper, size-byte, size-one}
-use Rattle.cycles.proofs.Made.{made-one, made-then}
-use Rattle.cycles.proofs.Records.{part-blind}
+use Rattle.parts.proofs.Made.{made-one, made-then}
+use Rattle.parts.proofs.Records.{part-blind}
 use borrow.Author.Needs.{needs}
-use Rattle.cycles.proofs.whole.upper_half.Statement.{statement}
-use Rattle.cycles.proofs.whole.upper_half.Tie as tie
+use Rattle.parts.proofs.whole.upper_half.Statement.{statement}
+use Rattle.parts.proofs.whole.upper_half.Tie as tie
 
 add-next : tie.Need-add-next
 add-next c = search needs

@@ -2,12 +2,12 @@ use Prim.Native.Nat.{_-_}
 use mathlib.Core.Path.{_∙_}
 use native.Mathlib.Omega.{arith}
 use Rattle.words.proofs.Masks.{one-shl}
-use Rattle.cycles.specs.Parts.{partRecord}
-use Rattle.cycles.proofs.Records.{part-blind}
-use Rattle.cycles.proofs.Loops.{SizedInvariant, sized-begin, mask-small, mask-wanted, lowest-small, sized-next, sized-end}
+use Rattle.parts.specs.Parts.{partRecord}
+use Rattle.parts.proofs.Records.{part-blind}
+use Rattle.parts.proofs.Sized.{SizedInvariant, sized-begin, mask-small, mask-wanted, lowest-small, sized-next, sized-end}
 use borrow.Author.Needs.{needs}
-use Rattle.cycles.proofs.part.sized_cycles.Statement.{statement}
-use Rattle.cycles.proofs.part.sized_cycles.Tie as tie
+use Rattle.parts.proofs.part.sized_cycles.Statement.{statement}
+use Rattle.parts.proofs.part.sized_cycles.Tie as tie
 
 abbrev Inv-loop : tie.InvT-loop
 Inv-loop answers log₀ base word held due lane count first kind lowest₀ wanted₀ used₀ log lowest wanted used =

@@ -2,11 +2,11 @@ use mathlib.Core.Path.{refl, _∙_}
 use native.Mathlib.Omega.{arith}
 use Rattle.words.specs.Bytes.{lanesMask}
 use Rattle.bus.proofs.Sizing.{size-whole, size-half, size-byte, size-odd}
-use Rattle.cycles.proofs.Made.{made-one, made-then}
-use Rattle.cycles.proofs.Records.{part-blind}
+use Rattle.parts.proofs.Made.{made-one, made-then}
+use Rattle.parts.proofs.Records.{part-blind}
 use borrow.Author.Needs.{needs}
-use Rattle.cycles.proofs.whole.whole_cycles.Statement.{statement}
-use Rattle.cycles.proofs.whole.whole_cycles.Tie as tie
+use Rattle.parts.proofs.whole.whole_cycles.Statement.{statement}
+use Rattle.parts.proofs.whole.whole_cycles.Tie as tie
 
 shared-slice-read-answer : tie.Need-shared-slice-read-answer
 shared-slice-read-answer c = search needs

@@ -1,0 +1,3 @@
+-- No rule: the records that the code makes from numbers, and what it leaves.
+pub mod Parts
+pub mod Made
