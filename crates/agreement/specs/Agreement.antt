@@ -22,7 +22,7 @@ NeverSetsNw [] = Unit {0}
 NeverSetsNw (c ∷ cs) = (setsNw c ≡ false) × NeverSetsNw cs
 
 -- Demand 3's premise on the start: document 01's lengths, "RAM has 16 to 16,777,216 bytes, a multiple of 16.", "The parity array has one byte for each
--- four RAM bytes", "The data array has 8,192 bytes", and parity agrees.
+-- four RAM bytes", the data array 8,192 ("3. Data array is not 8,192 bytes."), and parity agrees.
 pub record Legal (m : Memory) (array : List ℕ) : Type 0 where
   pub least : 16 ≤ length (m .ram)
   pub most : length (m .ram) ≤ 16777216

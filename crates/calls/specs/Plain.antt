@@ -38,7 +38,7 @@ accessTests ram address width answers log =
 abbrev pub valueTest : ℕ → ℕ → Bool × ℕ
 valueTest width value = (not (ltb value (256 ^ width)), 8)
 
--- "9. Control with CD = 0 and NW = 1."
+-- "9. A control call with CD = 0 and NW = 1"
 abbrev pub controlTest : Bool → Bool → Bool × ℕ
 controlTest cd nw = (not cd && nw, 9)
 
