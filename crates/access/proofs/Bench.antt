@@ -3,7 +3,7 @@ use mathlib.Core.Path.{refl}
 use Rattle.ways.specs.Lru.{lruAfter, lruWay}
 use Rattle.ways.specs.Ways.{lowest, lookupIn, victimIn}
 use Rattle.ways.specs.State.{sameTags, tagsAbove, firstNumber, stateNumberIn}
-use Rattle.directory.specs.Steps.{afterUse, afterFill, afterReset, afterControl}
+use Rattle.directory.specs.Steps.{afterUse, withLine, afterFill, afterReset, afterControl}
 use Rattle.words.specs.Bytes.{bytesAt, valueOf, bytesOf}
 use Rattle.memory.specs.Parity.{onesOf, dpOf, laneBit, dpAt, withDp, put, stored, wrongAt, wrongIn}
 use Rattle.bus.specs.Bus.{sizeLimit, sizeOf, wantedAfter, cyclesOf, burst, lastAnswer, afterCycles}
@@ -16,7 +16,7 @@ use Rattle.access.specs.Access.{readOne, writeOne, allOf, readNumber, wr
 use Rattle.access.specs.Bench.{BenchTable}
 
 pub bench-table : BenchTable
-unfolding lruAfter lruWay lowest lookupIn victimIn sameTags tagsAbove firstNumber stateNumberIn afterUse afterFill afterReset afterControl
+unfolding lruAfter lruWay lowest lookupIn victimIn sameTags tagsAbove firstNumber stateNumberIn afterUse withLine afterFill afterReset afterControl
     bytesAt valueOf bytesOf onesOf dpOf laneBit dpAt withDp put stored wrongAt wrongIn sizeLimit sizeOf wantedAfter cyclesOf burst
     lastAnswer afterCycles lanesOf flagsOf readRecord writeRecord wordsOf doublewordsOf changed readHit plainMiss fillMiss readMiss settled
     readDone writeThrough hitArray writeDone memoryNumber lentNumber anyAbove argumentNumber valueNumber statesNumberIn readOne writeOne

@@ -16,7 +16,7 @@ use Rattle.ways.specs.Lru.{lruAfter}
 use Rattle.ways.specs.Ways.{holds, lookupIn}
 use Rattle.directory.specs.declared.steps.Outcome.{Outcome}
 use Rattle.directory.specs.Outcome.{outcome}
-use Rattle.directory.specs.Steps.{validAt, tagAt, lruAt, lookupOf, stateNumberOf, afterUse, afterFill, afterReset, afterControl, controlRefused, controlCall, afterFlush, invalidated, afterSnoop, snoopCall}
+use Rattle.directory.specs.Steps.{validAt, tagAt, lruAt, lookupOf, stateNumberOf, afterUse, withLine, afterFill, afterReset, afterControl, controlRefused, controlCall, afterFlush, invalidated, afterSnoop, snoopCall}
 use Rattle.directory.specs.WellFormed.{Held, Same, SetApart, Sized, WithinLimits, Apart}
 use Rattle.laws.proofs.Tests.{both, refuted, differ, cond-true, cond-false, by-test, same-or}
 use Rattle.ways.proofs.FourWays.{lru-after-below, lowest-at, lowest-nothing, none-lowest, one-lowest}
@@ -121,60 +121,87 @@ use-limits d g s w sl wl =
 pub use-apart : (d : Directory) → Apart d → (s w : ℕ) → Apart (afterUse d s w)
 use-apart d g s w = fewer-apart d (afterUse d s w) (λ r v tag rl vl. use-held d s w r v tag) g
 
--- FILL: one line becomes the new one, and every other stays as it was
+-- A LINE: one line gets a tag and a mark, every other stays as it was, and no LRU number changes
+
+module _ (d : Directory) (s w tag : ℕ) (mark : Bool) where
+  pub line-control : (withLine d s w tag mark .cd ≡ d .cd) × (withLine d s w tag mark .nw ≡ d .nw)
+  unfolding withLine
+  line-control = (refl, refl)
+
+  pub line-lru : (r : ℕ) → lruAt (withLine d s w tag mark) r ≡ lruAt d r
+  unfolding withLine
+  line-lru r = refl
+
+  line-sized : Sized d → Sized (withLine d s w tag mark)
+  unfolding withLine
+  line-sized z = record { tags = rw length-set (z .tags); valid = rw length-set (z .valid); lru = z .lru }
+
+  module _ (z : Sized d) (sl : s < 128) (wl : w < 4) where
+    -- the line itself
+    pub line-new : (validAt (withLine d s w tag mark) s w ≡ mark) × (tagAt (withLine d s w tag mark) s w ≡ tag)
+    unfolding withLine
+    line-new = (stored-line (d .valid) mark false s w (z .valid) sl wl, stored-line (d .tags) tag 0 s w (z .tags) sl wl)
+
+    line-other : (r v : ℕ) → v < 4 → (Same r v s w → ⊥) →
+        (validAt (withLine d s w tag mark) r v ≡ validAt d r v) × (tagAt (withLine d s w tag mark) r v ≡ tagAt d r v)
+    unfolding withLine
+    line-other r v vl n = (stored-other s w r v wl vl (d .valid) mark false n, stored-other s w r v wl vl (d .tags) tag 0 n)
+
+    pub line-kept : (r v t : ℕ) → v < 4 → (Same r v s w → ⊥) → Held d r v t → Held (withLine d s w tag mark) r v t
+    line-kept r v t vl n h = let o = line-other r v vl n in (o .0 ∙ h .0, o .1 ∙ h .1)
+
+    -- a line that is held afterwards is the new one, or another that was held before
+    pub line-held : (r v t : ℕ) → v < 4 → Held (withLine d s w tag mark) r v t → (Same r v s w × (t ≡ tag)) ⊎ ((Same r v s w → ⊥) × Held d r v t)
+    line-held r v t vl h =
+        same-line s w r v wl vl _
+        (λ e. inl (e, sym (h .1) ∙ rw (e .0, e .1) (line-new .1)))
+        (λ n. let o = line-other r v vl n in inr (n, (sym (o .0) ∙ h .0, sym (o .1) ∙ h .1)))
+
+-- whatever the set holds
+pub line-limits : (d : Directory) → WithinLimits d → (s w tag : ℕ) (mark : Bool) → s < 128 → w < 4 → tag ≤ 2097151 → WithinLimits (withLine d s w tag mark)
+line-limits d g s w tag mark sl wl tl =
+    record {
+      sized = line-sized d s w tag mark (g .sized);
+      sets = λ r rl.
+          record {
+            tags = λ x t xl h. ⊎-elim (λ m. rw (m .1) tl) (λ m. g .sets r rl .tags x t xl (m .1)) (line-held d s w tag mark (g .sized) sl wl r x t xl h);
+            lru = rw (line-lru d s w tag mark r) (g .sets r rl .lru);
+          };
+    }
+
+-- FILL: a valid line, and a use of it
 
 module _ (d : Directory) (s w tag : ℕ) where
   pub fill-control : (afterFill d s w tag .cd ≡ d .cd) × (afterFill d s w tag .nw ≡ d .nw)
   unfolding afterFill
-  fill-control = (refl, refl)
-
-  fill-sized : Sized d → Sized (afterFill d s w tag)
-  unfolding afterFill
-  fill-sized z = record { tags = rw length-set (z .tags); valid = rw length-set (z .valid); lru = rw length-set (z .lru) }
+  fill-control =
+      let u = use-control (withLine d s w tag true) s w in
+      let k = line-control d s w tag true in
+      (u .0 ∙ k .0, u .1 ∙ k .1)
 
   -- a kept fill is a use
   pub fill-lru : (r : ℕ) → lruAt (afterFill d s w tag) r ≡ lruAt (afterUse d s w) r
-  unfolding afterFill afterUse
+  unfolding afterFill afterUse withLine
   fill-lru r = refl
 
   module _ (z : Sized d) (sl : s < 128) (wl : w < 4) where
     pub fill-new : Held (afterFill d s w tag) s w tag
     unfolding afterFill
-    fill-new = (stored-line (d .valid) true false s w (z .valid) sl wl, stored-line (d .tags) tag 0 s w (z .tags) sl wl)
+    fill-new = use-kept (withLine d s w tag true) s w s w tag (line-new d s w tag true z sl wl)
 
     pub fill-kept : (r v t : ℕ) → v < 4 → (Same r v s w → ⊥) → Held d r v t → Held (afterFill d s w tag) r v t
     unfolding afterFill
-    fill-kept r v t vl n h = (
-      stored-other s w r v wl vl (d .valid) true false n ∙ h .0,
-      stored-other s w r v wl vl (d .tags) tag 0 n ∙ h .1,
-    )
-
-    other-held : (r v t : ℕ) → v < 4 → (Same r v s w → ⊥) → Held (afterFill d s w tag) r v t → Held d r v t
-    unfolding afterFill
-    other-held r v t vl n h = (
-      sym (stored-other s w r v wl vl (d .valid) true false n) ∙ h .0,
-      sym (stored-other s w r v wl vl (d .tags) tag 0 n) ∙ h .1,
-    )
+    fill-kept r v t vl n h = use-kept (withLine d s w tag true) s w r v t (line-kept d s w tag true z sl wl r v t vl n h)
 
     -- a line that is held after a fill is the new one, or another that was held before
     pub fill-held : (r v t : ℕ) → v < 4 → Held (afterFill d s w tag) r v t →
         (Same r v s w × (t ≡ tag)) ⊎ ((Same r v s w → ⊥) × Held d r v t)
-    fill-held r v t vl h =
-        same-line s w r v wl vl _
-        (λ e. inl (e, sym (h .1) ∙ rw (e .0, e .1) (fill-new .1)))
-        (λ n. inr (n, other-held r v t vl n h))
+    unfolding afterFill
+    fill-held r v t vl h = line-held d s w tag true z sl wl r v t vl (use-held (withLine d s w tag true) s w r v t h)
 
--- whatever the set holds
 pub fill-limits : (d : Directory) → WithinLimits d → (s w tag : ℕ) → s < 128 → w < 4 → tag ≤ 2097151 → WithinLimits (afterFill d s w tag)
-fill-limits d g s w tag sl wl tl =
-    record {
-      sized = fill-sized d s w tag (g .sized);
-      sets = λ r rl.
-          record {
-            tags = λ x t xl h. ⊎-elim (λ m. rw (m .1) tl) (λ m. g .sets r rl .tags x t xl (m .1)) (fill-held d s w tag (g .sized) sl wl r x t xl h);
-            lru = rw (fill-lru d s w tag r) (use-lru-below d s w (g .sized) sl wl r (g .sets r rl .lru));
-          };
-    }
+unfolding afterFill
+fill-limits d g s w tag sl wl tl = use-limits (withLine d s w tag true) (line-limits d g s w tag true sl wl tl) s w sl wl
 
 -- a fill of a tag that no way of its set holds
 pub fill-apart : (d : Directory) → Sized d → Apart d → (s w tag : ℕ) → s < 128 → w < 4 → ((v : ℕ) → v < 4 → Held d s v tag → ⊥) → Apart (afterFill d s w tag)
@@ -205,6 +232,10 @@ module _ (d : Directory) (a w : ℕ) (wl : w < 4) where
 
 -- CONTROL: no line changes
 
+disabled : (cd nw : Bool) → controlRefused cd nw ≡ false → nw ≡ true → cd ≡ true
+disabled true nw e h = refl
+disabled false nw e h = sym e ∙ h
+
 module _ (d : Directory) (cd nw : Bool) where
   pub control-held : (r v tag : ℕ) → Held (afterControl d cd nw) r v tag → Held d r v tag
   unfolding afterControl
@@ -232,6 +263,11 @@ module _ (d : Directory) (cd nw : Bool) where
 
   pub control-apart : Apart d → Apart (afterControl d cd nw)
   control-apart = fewer-apart d (afterControl d cd nw) (λ r v tag rl vl. control-held r v tag)
+
+  -- a pair that is not refused has NW = 1 only with CD = 1
+  pub control-disabled : controlRefused cd nw ≡ false → afterControl d cd nw .nw ≡ true → afterControl d cd nw .cd ≡ true
+  unfolding afterControl
+  control-disabled = disabled cd nw
 
   pub control-accepted : controlRefused cd nw ≡ false → controlCall d cd nw ≡ outcome (afterControl d cd nw) 0 0 0
   unfolding controlCall

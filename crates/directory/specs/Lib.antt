@@ -1,4 +1,4 @@
--- The directory by document 01, in its order: what a reader must believe of this crate.
+-- The directory by document 01, in its order, with a test write's step by document 02: what a reader must believe of this crate.
 pub mod Outcome
 pub mod Steps
 pub mod WellFormed

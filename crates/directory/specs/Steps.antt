@@ -53,16 +53,21 @@ afterUse d s w =
       nw = d .nw;
     }
 
--- "A kept fill writes the victim's bytes, tag and valid mark", and is a use; the bytes are the data array's.
-unfoldable pub afterFill : Directory → ℕ → ℕ → ℕ → Directory
-afterFill d s w tag =
+-- Document 02, C-11: "a test write, which puts a tag, a valid mark and sixteen bytes in a given set and way"; the bytes are the data array's. It is no
+-- use: "Neither changes the LRU number".
+unfoldable pub withLine : Directory → ℕ → ℕ → ℕ → Bool → Directory
+withLine d s w tag mark =
     record {
       tags = set (d .tags) (lineIndex s w) tag;
-      valid = set (d .valid) (lineIndex s w) true;
-      lru = set (d .lru) s (lruAfter (lruAt d s) w);
+      valid = set (d .valid) (lineIndex s w) mark;
+      lru = d .lru;
       cd = d .cd;
       nw = d .nw;
     }
+
+-- "A kept fill writes the victim's bytes, tag and valid mark", and is a use; the bytes are the data array's.
+unfoldable pub afterFill : Directory → ℕ → ℕ → ℕ → Directory
+afterFill d s w tag = afterUse (withLine d s w tag true) s w
 
 -- "After reset all 512 lines are invalid, tags and LRU numbers are 0, and CD = NW = 1." (002: all invalid, CD = NW = 1)
 unfoldable pub afterReset : Directory

@@ -3,7 +3,7 @@ ghost use mathlib.Core.Path.{_≡_};
 ghost use Prim.Native.Nat.{_<_};
 ghost use Rattle.directory.specs.Outcome.{outcome};
 ghost use Rattle.ways.specs.Address.{setCount, wayCount};
-ghost use Rattle.directory.specs.Steps.{afterControl, afterFill, afterFlush, afterReset, afterSnoop, afterUse, controlCall, snoopCall};
+ghost use Rattle.directory.specs.Steps.{afterControl, afterFill, afterFlush, afterReset, afterSnoop, afterUse, controlCall, snoopCall, withLine};
 use ways::Found;
 use ways::LINES;
 use ways::SETS;
@@ -59,15 +59,23 @@ impl Directory {
         self
     }
 
+    // The plain step of a test write: any tag and either mark, and no use of the way.
+    pub fn with_line(mut self, set: usize, way: usize, tag: u32, valid: bool) -> Self
+        requires { ⌜ (set < setCount) × (way < wayCount) ⌝ }
+        ensures { λ r. ⌜ r ≡ withLine self set way tag valid ⌝ }
+    {
+        let index = set * WAYS + way;
+        self.tags[index] = tag;
+        self.valid[index] = valid;
+        self
+    }
+
     // A kept fill of a way, which is a use of it.
     pub fn filled(mut self, set: usize, way: usize, tag: u32) -> Self
         requires { ⌜ (set < setCount) × (way < wayCount) ⌝ }
         ensures { λ r. ⌜ r ≡ afterFill self set way tag ⌝ }
     {
-        let index = set * WAYS + way;
-        self.tags[index] = tag;
-        self.valid[index] = true;
-        self.used(set, way)
+        self.with_line(set, way, tag, true).used(set, way)
     }
 
     // The plain step: sets any pair, also the one that the control call refuses.

@@ -6,7 +6,7 @@ ghost use mathlib.Core.List.{List};
 ghost use Prim.Native.Nat.{ℕ, _<_};
 ghost use Rattle.ways.specs.Address.{setCount, wayCount};
 ghost use Rattle.directory.specs.Outcome.{outcome};
-ghost use Rattle.directory.specs.Steps.{afterFill, afterFlush, afterReset, afterSnoop, afterUse, controlCall, directoryOf, lentDirectory, snoopCall};
+ghost use Rattle.directory.specs.Steps.{afterFill, afterFlush, afterReset, afterSnoop, afterUse, controlCall, directoryOf, lentDirectory, snoopCall, withLine};
 use ways::Found;
 use ways::LINES;
 use ways::SETS;
@@ -26,6 +26,24 @@ pub fn use_in_place(lru: &mut [u8; SETS], set: usize, way: usize)
     lru[set] = lru_after(old, way);
 }
 
+// The plain step of a test write: any tag and either mark, and no use of the way.
+pub fn line_in_place(
+    tags: &mut [u32; LINES],
+    valid: &mut [bool; LINES],
+    set: usize,
+    way: usize,
+    tag: u32,
+    mark: bool,
+)
+    requires { ⌜ (set < setCount) × (way < wayCount) ⌝ }
+    ensures { λ _. ⌜ ((lru : List ℕ) (cd nw : Bool) → directoryOf (now (tags .exit)) (now (valid .exit)) lru cd nw
+        ≡ withLine (directoryOf (now (tags .entry)) (now (valid .entry)) lru cd nw) set way tag mark) ⌝ }
+{
+    let index = set * WAYS + way;
+    tags[index] = tag;
+    valid[index] = mark;
+}
+
 // A kept fill of a way, which is a use of it.
 pub fn fill_in_place(
     tags: &mut [u32; LINES],
@@ -39,9 +57,7 @@ pub fn fill_in_place(
     ensures { λ _. ⌜ ((cd nw : Bool) → lentDirectory (tags .exit) (valid .exit) (lru .exit) cd nw
         ≡ afterFill (lentDirectory (tags .entry) (valid .entry) (lru .entry) cd nw) set way tag) ⌝ }
 {
-    let index = set * WAYS + way;
-    tags[index] = tag;
-    valid[index] = true;
+    line_in_place(tags, valid, set, way, tag, true);
     use_in_place(lru, set, way);
 }
 

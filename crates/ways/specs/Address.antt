@@ -30,5 +30,9 @@ abbrev pub lineIndex : ℕ → ℕ → ℕ
 lineIndex set way = set * wayCount + way
 
 -- "Its bytes stand in the lent data array from (set × 4 + way) × 16 (H)."
+abbrev pub lineOffset : ℕ → ℕ → ℕ
+lineOffset set way = lineIndex set way * 16
+
+-- The same for the line of an address, in a way.
 abbrev pub dataOffset : ℕ → ℕ → ℕ
-dataOffset line way = lineIndex (setOf line) way * 16
+dataOffset line way = lineOffset (setOf line) way

@@ -1,7 +1,7 @@
 // The parts of an address, and where the data array holds its line.
 ghost use mathlib.Core.Path.{_≡_};
 ghost use Prim.Native.Nat.{_+_, _≤_, _<_};
-ghost use Rattle.ways.specs.Address.{dataOffset, dataSize, setOf, tagOf, wayCount};
+ghost use Rattle.ways.specs.Address.{dataOffset, dataSize, lineOffset, setCount, setOf, tagOf, wayCount};
 use crate::sizes::SETS;
 use crate::sizes::WAYS;
 
@@ -17,10 +17,18 @@ pub fn set_of(address: u32) -> usize
     address as usize / 16 % SETS
 }
 
+// Where the data array holds the line of a set and a way.
+pub fn line_offset(set: usize, way: usize) -> usize
+    requires { ⌜ (set < setCount) × (way < wayCount) ⌝ }
+    ensures { λ r. ⌜ (r ≡ lineOffset set way) × (r + 16 ≤ dataSize) ⌝ }
+{
+    (set * WAYS + way) * 16
+}
+
 // Where the data array holds the line of an address, in a way.
 pub fn data_offset(line: u32, way: usize) -> usize
     requires { ⌜ way < wayCount ⌝ }
     ensures { λ r. ⌜ (r ≡ dataOffset line way) × (r + 16 ≤ dataSize) ⌝ }
 {
-    (set_of(line) * WAYS + way) * 16
+    line_offset(set_of(line), way)
 }

@@ -7,6 +7,7 @@ mod state;
 mod ways;
 
 pub use address::data_offset;
+pub use address::line_offset;
 pub use address::set_of;
 pub use address::tag_of;
 pub use lru::lru_after;

@@ -1,38 +1,21 @@
-use Rattle.directory.specs.Steps.{afterFill, afterUse}
+use mathlib.Core.Path.{_∙_, ap}
+use Rattle.directory.specs.declared.steps.Directory.{Directory}
+use Rattle.directory.specs.Steps.{afterUse, afterFill}
 use borrow.Author.Needs.{needs}
 use Rattle.steps_in_place.proofs.fill_in_place.Statement.{statement}
 use Rattle.steps_in_place.proofs.fill_in_place.Tie as tie
 
-mul-index : tie.Need-mul-index
-mul-index c = search needs
-
-add-index : tie.Need-add-index
-add-index c = search needs
-
-mul-tags : tie.Need-mul-tags
-mul-tags c = search needs
-
-element-write-tags : tie.Need-element-write-tags
-element-write-tags c = search needs
-
-element-write-valid : tie.Need-element-write-valid
-element-write-valid c = search needs
+line-in-place-requires : tie.Need-line-in-place-requires
+line-in-place-requires c κs = search needs
 
 use-in-place-requires : tie.Need-use-in-place-requires
 use-in-place-requires c κs = search needs
 
 returns : tie.Need-returns
-unfolding afterFill afterUse
-returns c cd nw = c .use-in-place .ensures _ _ cd nw
+unfolding afterFill
+returns c cd nw =
+    let a = c .before .before .before .before .before .args in
+    c .use-in-place .ensures _ _ cd nw ∙ ap (λ (d : Directory). afterUse d (a .set) (a .way)) (c .before .before .line-in-place .ensures _ cd nw)
 
 pub fill-in-place-spec : {M : Type 1} → statement M
-fill-in-place-spec =
-    tie.close
-    (tie.spec
-    mul-index
-    add-index
-    mul-tags
-    element-write-tags
-    element-write-valid
-    use-in-place-requires
-    returns)
+fill-in-place-spec = tie.close (tie.spec line-in-place-requires use-in-place-requires returns)
