@@ -1,28 +1,30 @@
--- Demand 3: every list of calls from a reset agrees with the plain memory. By induction over the list, with `Coherent` as the invariant.
+-- Demand 3: every list of calls from a reset agrees with the plain memory, but from an accepted test write to the next flush or reset. By induction
+-- over the list; the invariant is `Coherent` where calls are compared, and `Kept` where they are not.
 use Prim.Native.Nat.{ℕ}
 use mathlib.Core.Path.{_≡_, refl, sym, _∙_}
-use mathlib.Core.Bool.{cond}
+use mathlib.Core.Bool.{false, cond}
 use mathlib.Core.List.{List, [], _∷_}
 use lib.Dec.{eqb}
-use borrow.Author.Tests.{eqb-true}
+use borrow.Author.Tests.{eqb-true, ne-eqb}
 use Rattle.laws.proofs.Tests.{by-test}
 use Rattle.directory.specs.Steps.{afterReset}
 use Rattle.directory.proofs.Laws.{reset-none, reset-control, reset-limits, reset-apart}
 use Rattle.memory.specs.Parity.{Memory}
 use Rattle.refusal.specs.Call.{State, state, nextState}
-use Rattle.calls.specs.Calls.{Call, read, write, external, snoop, flush, control, view, reset, step}
+use Rattle.calls.specs.Calls.{Call, read, write, external, snoop, flush, control, view, reset, testWrite, testRead, step}
 use Rattle.calls.specs.Plain.{plainNumber, plainDone, plainRefused, plain}
-use Rattle.calls.specs.Matches.{Arises}
-use Rattle.agreement.specs.Agreement.{AgreesAll, NeverSetsNw, Legal, Demand3, ArisesAll, NumbersThatArise}
-use Rattle.calls.proofs.Kept.{Kept}
+use Rattle.calls.specs.Matches.{kindOf, plants, empties, Matches, setsNw, ZeroOr, Arises}
+use Rattle.agreement.specs.Agreement.{Comparison, beside, suspended, begun, ended, IfCompared, EachCompared, NeverSetsNw, Legal, Demand3, GoesOn, BegunAnew, NumbersThatArise}
+use Rattle.calls.proofs.Kept.{Kept, call-kept}
 use Rattle.calls.proofs.Coherence.{Coherent, empty-beside}
-use Rattle.calls.proofs.Numbers.{plain-arises}
-use Rattle.calls.proofs.Steps.{call-matches, call-coherent}
+use Rattle.calls.proofs.Numbers.{plain-arises, test-write-arises, test-read-arises}
+use Rattle.calls.proofs.Steps.{CallMatches, emptying-matches, call-matches}
 
 pub start-kept : (m : Memory) (array : List ℕ) → Legal m array → Kept (state afterReset m array)
 start-kept m array g =
     record {
       limits = reset-limits;
+      control = λ _. reset-control .0;
       lent = record { least = g .least; most = g .most; whole = g .whole; bits = g .parityLength };
       arrayLength = g .arrayLength;
       agrees = g .agrees;
@@ -32,21 +34,79 @@ pub start-coherent : (m : Memory) (array : List ℕ) → Legal m array → Coher
 start-coherent m array g =
     record {
       kept = start-kept m array g;
-      beside = empty-beside (state afterReset m array) (m .ram) refl reset-apart reset-none (λ _. reset-control .0);
+      beside = empty-beside (state afterReset m array) (m .ram) refl reset-apart reset-none;
     }
 
-agrees-from : (cs : List Call) (s : State) (m : List ℕ) → Coherent s m → NeverSetsNw cs → AgreesAll s m cs
-unfolding AgreesAll
-agrees-from [] s m c n = tt
-agrees-from (x ∷ cs) s m c n =
-    let g = call-matches s m c x (n .0) in
-    let h = call-coherent s m c x (n .0) in (
-      record { numbers = g .numbers; values = g .values; views = g .views; rams = h .beside .rams; no-parity-error = g .no-error },
-      agrees-from cs (nextState (step s x)) (plain m x .memory) h (n .1),
-    )
+-- THE INVARIANT, by what stands beside the unit
+
+abbrev Invariant : State → Comparison → Type 0
+Invariant s (beside m) = Coherent s m
+Invariant s suspended = Kept s
+
+-- after a call that is compared
+compared-kept : (s : State) (m : List ℕ) (x : Call) → Kept s → CallMatches x (step s x) (plain m x) → Invariant (nextState (step s x)) (ended (beside m) s x)
+compared-kept s m x k g =
+    let number = step s x .outcome .number in
+    by-test (λ p. plants (kindOf x) number ≡ p → Invariant (nextState (step s x)) (cond p suspended (beside (plain m x .memory)))) (plants (kindOf x) number)
+    (λ _ e. call-kept s k x)
+    (λ _ e. record { kept = call-kept s k x; beside = g .beside e })
+    refl
+
+-- what is known of a call that is compared
+abbrev Known : State → List ℕ → Call → Type 0
+Known s m c = Kept s × Matches c (step s c) (plain m c)
+
+abbrev KeepsNw : State → List ℕ → Call → Type 0
+KeepsNw s m c = setsNw c ≡ false
+
+-- one call, whatever stands beside it
+one : (s : State) (b : Comparison) (x : Call) → Invariant s b → IfCompared KeepsNw s (begun b s x) x →
+    IfCompared Known s (begun b s x) x × Invariant (nextState (step s x)) (ended (begun b s x) s x)
+one s (beside m) x c n =
+    let g = call-matches s m c x n in
+    ((c .kept, g .matches), compared-kept s m x (c .kept) g)
+one s suspended x k n =
+    let ram = s .memory .ram in
+    by-test
+    (λ e. empties (kindOf x) ≡ e → IfCompared Known s (cond e (beside ram) suspended) x × Invariant (nextState (step s x)) (ended (cond e (beside ram) suspended) s x))
+    (empties (kindOf x))
+    (λ _ e. let g = emptying-matches s ram refl x e in ((k, g .matches), compared-kept s ram x k g))
+    (λ _ e. (tt, call-kept s k x))
+    refl
+
+-- a fact of a call that follows from what is known of it
+module _ (P : State → List ℕ → Call → Type 0) (known : (s : State) (m : List ℕ) (c : Call) → Known s m c → P s m c) where
+  if-compared : (s : State) (b : Comparison) (c : Call) → IfCompared Known s b c → IfCompared P s b c
+  if-compared s (beside m) c h = known s m c h
+  if-compared s suspended c h = tt
+
+  each-compared : (cs : List Call) (s : State) (b : Comparison) → Invariant s b → NeverSetsNw s b cs → EachCompared P s b cs
+  unfolding EachCompared
+  each-compared [] s b i n = tt
+  each-compared (x ∷ cs) s b i n =
+      let h = one s b x i (n .0) in
+      (if-compared s (begun b s x) x (h .0), each-compared cs (nextState (step s x)) (ended (begun b s x) s x) (h .1) (n .1))
 
 pub demand3 : Demand3
-demand3 m array cs g n = agrees-from cs (state afterReset m array) (m .ram) (start-coherent m array g) n
+demand3 m array cs g n =
+    each-compared _ (λ s b c h. h .1) cs (state afterReset m array) (beside (m .ram)) (start-coherent m array g) n
+
+pub goes-on : GoesOn
+unfolding EachCompared
+goes-on s m (read a w pcd xs log) cs n h = h .1
+goes-on s m (write a w v xs log) cs n h = h .1
+goes-on s m (external a x) cs n h = h .1
+goes-on s m (snoop a) cs n h = h .1
+goes-on s m flush cs n h = h .1
+goes-on s m (control cd nw) cs n h = h .1
+goes-on s m (view a) cs n h = h .1
+goes-on s m reset cs n h = h .1
+goes-on s m (testWrite r w tag mark x) cs n h = rw (ne-eqb (step s (testWrite r w tag mark x) .outcome .number) 0 (n r w tag mark x refl)) at (h .1)
+goes-on s m (testRead r w) cs n h = h .1
+
+pub begun-anew : BegunAnew
+unfolding EachCompared
+begun-anew = record { at-flush = λ s cs h. h; at-reset = λ s cs h. h }
 
 -- 1 to 3 and 21 to 23 never arise
 done-number : (m : List ℕ) (x : Call) → plainDone m x .number ≡ 0
@@ -59,6 +119,8 @@ done-number m flush = refl
 done-number m (control cd nw) = refl
 done-number m (view a) = refl
 done-number m reset = refl
+done-number m (testWrite r w tag mark x) = refl
+done-number m (testRead r w) = refl
 
 answer-number : (m : List ℕ) (x : Call) → plain m x .number ≡ plainNumber m x
 unfolding plain
@@ -69,15 +131,21 @@ answer-number m x =
     (λ _ _. refl)
     refl
 
-answer-arises : (m : List ℕ) (x : Call) → Arises (plain m x .number)
+answer-arises : (m : List ℕ) (x : Call) → ZeroOr 4 10 (plain m x .number)
 answer-arises m x = rw (answer-number m x) (plain-arises m x)
 
-arises-from : (cs : List Call) (s : State) (m : List ℕ) → Coherent s m → NeverSetsNw cs → ArisesAll s cs
-unfolding ArisesAll
-arises-from [] s m c n = tt
-arises-from (x ∷ cs) s m c n =
-    let g = call-matches s m c x (n .0) in
-    (rw (g .numbers) (answer-arises m x), arises-from cs (nextState (step s x)) (plain m x .memory) (call-coherent s m c x (n .0)) (n .1))
+known-arises : (s : State) (m : List ℕ) (c : Call) → Known s m c → Arises (kindOf c) (step s c .outcome .number)
+known-arises s m (read a w pcd xs log) h = rw (h .1 .results refl .numbers) (answer-arises m (read a w pcd xs log))
+known-arises s m (write a w v xs log) h = rw (h .1 .results refl .numbers) (answer-arises m (write a w v xs log))
+known-arises s m (external a x) h = rw (h .1 .results refl .numbers) (answer-arises m (external a x))
+known-arises s m (snoop a) h = rw (h .1 .results refl .numbers) (answer-arises m (snoop a))
+known-arises s m flush h = rw (h .1 .results refl .numbers) (answer-arises m flush)
+known-arises s m (control cd nw) h = rw (h .1 .results refl .numbers) (answer-arises m (control cd nw))
+known-arises s m (view a) h = rw (h .1 .results refl .numbers) (answer-arises m (view a))
+known-arises s m reset h = rw (h .1 .results refl .numbers) (answer-arises m reset)
+known-arises s m (testWrite r w tag mark x) h = test-write-arises s (h .0) r w tag mark x
+known-arises s m (testRead r w) h = test-read-arises s (h .0) r w
 
 pub numbers-that-arise : NumbersThatArise
-numbers-that-arise m array cs g n = arises-from cs (state afterReset m array) (m .ram) (start-coherent m array g) n
+numbers-that-arise m array cs g n =
+    each-compared _ known-arises cs (state afterReset m array) (beside (m .ram)) (start-coherent m array g) n

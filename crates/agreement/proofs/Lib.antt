@@ -1,2 +1,2 @@
--- The theorems are `demand3` and `numbers-that-arise`.
+-- The theorems are `demand3` with `goes-on` and `begun-anew`, and `numbers-that-arise`.
 pub mod Demand

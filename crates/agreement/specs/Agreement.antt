@@ -1,25 +1,48 @@
 -- Demand 3: what is compared after each call of a list, the premises, and the claim.
 use Prim.Native.Nat.{ℕ, _/_, _%_, _≤_}
 use mathlib.Core.Path.{_≡_}
-use mathlib.Core.Bool.{false}
+use mathlib.Core.Bool.{Bool, false, cond}
 use mathlib.Core.List.{List, [], _∷_}
 use lib.ListN.{length}
 use Rattle.directory.specs.Steps.{afterReset}
 use Rattle.memory.specs.Parity.{Memory, Agrees}
 use Rattle.refusal.specs.Call.{State, state, nextState}
-use Rattle.calls.specs.Calls.{Call, step}
+use Rattle.calls.specs.Calls.{Call, flush, reset, testWrite, step}
 use Rattle.calls.specs.Plain.{plain}
-use Rattle.calls.specs.Matches.{Matches, setsNw, Arises}
+use Rattle.calls.specs.Matches.{kindOf, plants, empties, Matches, setsNw, Arises}
 
--- After each call of a list, of the unit in a state and the plain memory beside it.
-unfoldable pub AgreesAll : State → List ℕ → List Call → Type 0
-AgreesAll s m [] = Unit {0}
-AgreesAll s m (c ∷ cs) = Matches (step s c) (plain m c) × AgreesAll (nextState (step s c)) (plain m c .memory) cs
+-- What stands beside the unit: a plain memory; or none, while the comparison is suspended.
+pub data Comparison : Type 0 where
+  beside : (m : List ℕ) → Comparison
+  suspended : Comparison
 
--- Demand 3's premise on the list: "no accepted control call sets NW to 1".
-abbrev pub NeverSetsNw : List Call → Type 0
-NeverSetsNw [] = Unit {0}
-NeverSetsNw (c ∷ cs) = (setsNw c ≡ false) × NeverSetsNw cs
+-- "From the next flush or reset on it matches a plain memory begun anew from RAM as it then is": what stands beside a call.
+abbrev pub begun : Comparison → State → Call → Comparison
+begun (beside m) s c = beside m
+begun suspended s c = cond (empties (kindOf c)) (beside (s .memory .ram)) suspended
+
+-- "up to its first accepted test write", and then "up to another test write": what stands beside the unit after a call.
+abbrev pub ended : Comparison → State → Call → Comparison
+ended (beside m) s c = cond (plants (kindOf c) (step s c .outcome .number)) suspended (beside (plain m c .memory))
+ended suspended s c = suspended
+
+-- A fact of a call that is compared, and of each such call of a list.
+abbrev pub IfCompared : (State → List ℕ → Call → Type 0) → State → Comparison → Call → Type 0
+IfCompared P s (beside m) c = P s m c
+IfCompared P s suspended c = Unit {0}
+
+unfoldable pub EachCompared : (State → List ℕ → Call → Type 0) → State → Comparison → List Call → Type 0
+EachCompared P s b [] = Unit {0}
+EachCompared P s b (c ∷ cs) =
+    IfCompared P s (begun b s c) c × EachCompared P (nextState (step s c)) (ended (begun b s c) s c) cs
+
+-- After each call of a list that is compared, of the unit in a state and what stands beside it.
+abbrev pub AgreesAll : State → Comparison → List Call → Type 0
+AgreesAll = EachCompared (λ s m c. Matches c (step s c) (plain m c))
+
+-- Demand 3's premise on the list: "no accepted control call sets NW to 1", for the calls that are compared.
+abbrev pub NeverSetsNw : State → Comparison → List Call → Type 0
+NeverSetsNw = EachCompared (λ s m c. setsNw c ≡ false)
 
 -- Demand 3's premise on the start: document 01's lengths, "RAM has 16 to 16,777,216 bytes, a multiple of 16.", "The parity array has one byte for each
 -- four RAM bytes", the data array 8,192 ("3. Data array is not 8,192 bytes."), and parity agrees.
@@ -34,15 +57,29 @@ pub record Legal (m : Memory) (array : List ℕ) : Type 0 where
 -- "The list starts from the directory that a reset gives, any RAM with which parity agrees, and any bytes in the data array."
 abbrev pub Demand3 : Type 0
 Demand3 =
-    (m : Memory) (array : List ℕ) (cs : List Call) → Legal m array → NeverSetsNw cs →
-    AgreesAll (state afterReset m array) (m .ram) cs
+    (m : Memory) (array : List ℕ) (cs : List Call) → Legal m array →
+    NeverSetsNw (state afterReset m array) (beside (m .ram)) cs →
+    AgreesAll (state afterReset m array) (beside (m .ram)) cs
 
--- After each call of a list.
-unfoldable pub ArisesAll : State → List Call → Type 0
-ArisesAll s [] = Unit {0}
-ArisesAll s (c ∷ cs) = Arises (step s c .outcome .number) × ArisesAll (nextState (step s c)) cs
+-- What is claimed of a list goes on over every call that is no accepted test write.
+abbrev pub GoesOn : Type 0
+GoesOn =
+    (s : State) (m : List ℕ) (c : Call) (cs : List Call) →
+    ((set way tag : ℕ) (mark : Bool) (bytes : List ℕ) → c ≡ testWrite set way tag mark bytes → step s c .outcome .number ≡ 0 → ⊥) →
+    AgreesAll s (beside m) (c ∷ cs) → AgreesAll (nextState (step s c)) (beside (plain m c .memory)) cs
+
+-- From a flush or a reset on, what is claimed of a list whose comparison is suspended is what is claimed of one that begins there.
+pub record BegunAnew : Type 0 where
+  pub at-flush : (s : State) (cs : List Call) → AgreesAll s suspended (flush ∷ cs) → AgreesAll s (beside (s .memory .ram)) (flush ∷ cs)
+  pub at-reset : (s : State) (cs : List Call) → AgreesAll s suspended (reset ∷ cs) → AgreesAll s (beside (s .memory .ram)) (reset ∷ cs)
+
+-- After each call of a list that is compared.
+abbrev pub ArisesAll : State → Comparison → List Call → Type 0
+ArisesAll = EachCompared (λ s m c. Arises (kindOf c) (step s c .outcome .number))
 
 -- The claim, for every list with demand 3's premises.
 abbrev pub NumbersThatArise : Type 0
 NumbersThatArise =
-    (m : Memory) (array : List ℕ) (cs : List Call) → Legal m array → NeverSetsNw cs → ArisesAll (state afterReset m array) cs
+    (m : Memory) (array : List ℕ) (cs : List Call) → Legal m array →
+    NeverSetsNw (state afterReset m array) (beside (m .ram)) cs →
+    ArisesAll (state afterReset m array) (beside (m .ram)) cs

@@ -36,17 +36,12 @@ pub record Lines (d : Directory) (m array : List ℕ) : Type 0 where
 abbrev pub Empty : Directory → Type 0
 Empty d = (s w tag : ℕ) → s < 128 → w < 4 → Held d s w tag → ⊥
 
--- NW = 1 only with CD = 1, and while no line is held
-pub record NwInvariant (d : Directory) : Type 0 where
-  pub disabled : d .nw ≡ true → d .cd ≡ true
-  pub empty : d .nw ≡ true → Empty d
-
--- what agreement needs on top of what every list keeps, beside the plain memory
+-- what agreement needs on top of what every list keeps, beside the plain memory; NW = 1 only while no line is held
 pub record Beside (s : State) (m : List ℕ) : Type 0 where
   pub rams : s .memory .ram ≡ m
   pub apart : Apart (s .directory)
   pub lines : Lines (s .directory) m (s .array)
-  pub nw : NwInvariant (s .directory)
+  pub nw : s .directory .nw ≡ true → Empty (s .directory)
 
 -- the state of the unit beside the plain memory
 pub record Coherent (s : State) (m : List ℕ) : Type 0 where
@@ -72,25 +67,20 @@ no-lines d m array n =
       same = λ s w tag sl wl h. absurd (n s w tag sl wl h);
     }
 
--- another directory with the same CD and NW, and no line that the first doesn't hold
+-- another directory with the same NW, and no line that the first doesn't hold
 pub fewer-beside : (s : State) (m : List ℕ) → Beside s m → (d : Directory) → ((r w tag : ℕ) → r < 128 → w < 4 → Held d r w tag → Held (s .directory) r w tag) →
-    (d .cd ≡ s .directory .cd) × (d .nw ≡ s .directory .nw) → Apart d → Beside (state d (s .memory) (s .array)) m
+    d .nw ≡ s .directory .nw → Apart d → Beside (state d (s .memory) (s .array)) m
 fewer-beside s m b d f k g =
     record {
       rams = b .rams;
       apart = g;
       lines = fewer-lines (s .directory) d m (s .array) f (b .lines);
-      nw =
-          record {
-            disabled = λ h. k .0 ∙ b .nw .disabled (sym (k .1) ∙ h);
-            empty = λ h r w tag rl wl q. b .nw .empty (sym (k .1) ∙ h) r w tag rl wl (f r w tag rl wl q);
-          };
+      nw = λ h r w tag rl wl q. b .nw (sym k ∙ h) r w tag rl wl (f r w tag rl wl q);
     }
 
 -- a directory that holds no line, whatever was held before
-pub empty-beside : (s : State) (m : List ℕ) → s .memory .ram ≡ m → Apart (s .directory) → Empty (s .directory) → (s .directory .nw ≡ true → s .directory .cd ≡ true) → Beside s m
-empty-beside s m e g n o =
-    record { rams = e; apart = g; lines = no-lines (s .directory) m (s .array) n; nw = record { disabled = o; empty = λ _. n } }
+pub empty-beside : (s : State) (m : List ℕ) → s .memory .ram ≡ m → Apart (s .directory) → Empty (s .directory) → Beside s m
+empty-beside s m e g n = record { rams = e; apart = g; lines = no-lines (s .directory) m (s .array) n; nw = λ _. n }
 
 -- bytes stored in RAM with their parity, and in the plain memory, where the lines have them
 pub beside-stored : (s : State) (m : List ℕ) → Beside s m → (a : ℕ) (x array : List ℕ) → Lines (s .directory) (sets m a x) array →

@@ -1,7 +1,7 @@
 -- What every list of calls keeps, whatever it does to CD and NW and whatever tags stand in a set: lengths, limits, parity that agrees.
 use Prim.Native.Nat.{ℕ, _+_, _≤_}
-use mathlib.Core.Path.{_≡_, refl, _∙_}
-use mathlib.Core.Bool.{Bool, _&&_}
+use mathlib.Core.Path.{_≡_, refl, sym, _∙_}
+use mathlib.Core.Bool.{Bool, true, _&&_}
 use mathlib.Core.List.{List, [], _∷_}
 use native.Mathlib.Omega.{arith}
 use lib.ListN.{length}
@@ -10,11 +10,11 @@ use Rattle.laws.proofs.Tests.{by-test, same-or}
 use Rattle.directory.specs.declared.steps.Directory.{Directory}
 use Rattle.ways.specs.declared.ways.Found.{Found}
 use Rattle.ways.specs.declared.ways.Found.the-variants.{At, Nothing}
-use Rattle.ways.specs.Address.{setOf, dataOffset}
+use Rattle.ways.specs.Address.{setOf, tagOf, lineOffset, dataOffset}
 use Rattle.directory.specs.Steps.{lookupOf, victimOf, stateNumberOf, afterUse, afterSnoop, controlRefused}
 use Rattle.directory.specs.WellFormed.{WithinLimits}
 use Rattle.ways.proofs.FourWays.{victim-below}
-use Rattle.directory.proofs.Laws.{lookup-at, reset-limits, use-limits, fill-address-limits, control-limits, control-accepted, control-refused, flush-limits, snoop-limits, snoop-accepted, snoop-refused}
+use Rattle.directory.proofs.Laws.{lookup-at, reset-control, reset-limits, use-control, use-limits, line-control, line-limits, fill-control, fill-address-limits, control-limits, control-disabled, control-accepted, control-refused, flush-control, flush-limits, snoop-control, snoop-limits, snoop-accepted, snoop-refused}
 use Rattle.words.specs.Bytes.{bytesAt}
 use Rattle.memory.specs.Parity.{Agrees, stored}
 use Rattle.memory.proofs.Bits.{stored-lengths}
@@ -29,21 +29,36 @@ use Rattle.access.specs.Access.{operandOf, readNumber, writeNumber, readOne, wr
 use Rattle.access.proofs.Calls.{read-refused, read-done, write-refused, write-done}
 use Rattle.masters.specs.Masters.{externalWriteNumber}
 use Rattle.masters.proofs.External.{external-refused, external-done}
-use Rattle.calls.specs.Calls.{Call, read, write, external, snoop, flush, control, view, reset, step}
+use Rattle.diagnostics.specs.Diagnostics.{testWriteNumber}
+use Rattle.diagnostics.proofs.Laws.{test-write-done, test-write-refused, test-write-place}
+use Rattle.calls.specs.Calls.{Call, read, write, external, snoop, flush, control, view, reset, testWrite, testRead, step}
 use Rattle.calls.proofs.Memories.{stored-agrees}
 use Rattle.calls.proofs.Doublewords.{Proper, EachProper, givenOf, given-inside, given-stored, access-proper}
 
--- directory and buffers have document 01's lengths, tags and LRU numbers are within their limits, parity agrees
+-- directory and buffers have document 01's lengths, tags and LRU numbers are within their limits, NW = 1 only with CD = 1, parity agrees
 pub record Kept (s : State) : Type 0 where
   pub limits : WithinLimits (s .directory)
+  pub control : s .directory .nw ≡ true → s .directory .cd ≡ true
   pub lent : GoodMemory (length (s .memory .ram)) (length (s .memory .parity))
   pub arrayLength : length (s .array) ≡ 8192
   pub agrees : Agrees (s .memory)
 
 module _ (s : State) (k : Kept s) where
-  -- another directory and data array
-  kept-with : (d : Directory) → WithinLimits d → (array : List ℕ) → length array ≡ length (s .array) → Kept (state d (s .memory) array)
-  kept-with d g array e = record { limits = g; lent = k .lent; arrayLength = e ∙ k .arrayLength; agrees = k .agrees }
+  -- another directory
+  kept-changed : (d : Directory) → WithinLimits d → (d .nw ≡ true → d .cd ≡ true) → Kept (state d (s .memory) (s .array))
+  kept-changed d g h = record { limits = g; control = h; lent = k .lent; arrayLength = k .arrayLength; agrees = k .agrees }
+
+  -- one with the same CD and NW, and another data array
+  kept-with : (d : Directory) → WithinLimits d → (d .cd ≡ s .directory .cd) × (d .nw ≡ s .directory .nw) →
+      (array : List ℕ) → length array ≡ length (s .array) → Kept (state d (s .memory) array)
+  kept-with d g c array e =
+      record {
+        limits = g;
+        control = λ h. c .0 ∙ k .control (sym (c .1) ∙ h);
+        lent = k .lent;
+        arrayLength = e ∙ k .arrayLength;
+        agrees = k .agrees;
+      }
 
   -- bytes stored in RAM with their parity
   kept-stored : (a : ℕ) (x : List ℕ) → a + length x ≤ length (s .memory .ram) → Kept (state (s .directory) (stored (s .memory) a x) (s .array))
@@ -51,6 +66,7 @@ module _ (s : State) (k : Kept s) where
       let l = stored-lengths (s .memory) a x in
       record {
         limits = k .limits;
+        control = k .control;
         lent = rw (l .0, l .1) (k .lent);
         arrayLength = k .arrayLength;
         agrees = stored-agrees (s .memory) a x fits (omega (arith, k .lent .whole, k .lent .bits)) (k .agrees);
@@ -67,24 +83,29 @@ module _ (size : ℕ) (s : State) (k : KeptIn size s) (w : Doubleword) (ok : Pro
   abbrev d : Directory
   d = s .directory
 
-  changed-kept : (d′ : Directory) → WithinLimits d′ → (array : List ℕ) → length array ≡ length (s .array) → KeptIn size (state d′ (s .memory) array)
-  changed-kept d′ g array e = record { kept = kept-with s (k .kept) d′ g array e; ramLength = k .ramLength }
+  changed-kept : (d′ : Directory) → WithinLimits d′ → (d′ .cd ≡ d .cd) × (d′ .nw ≡ d .nw) →
+      (array : List ℕ) → length array ≡ length (s .array) → KeptIn size (state d′ (s .memory) array)
+  changed-kept d′ g c array e = record { kept = kept-with s (k .kept) d′ g c array e; ramLength = k .ramLength }
 
-  used-limits : (way : ℕ) → lookupOf d (w .line) ≡ At way → WithinLimits (afterUse d (setOf (w .line)) way)
-  used-limits way e = use-limits d (k .kept .limits) (setOf (w .line)) way (omega arith) (lookup-at d (w .line) way e .0)
+  used-kept : (way : ℕ) → lookupOf d (w .line) ≡ At way →
+      (array : List ℕ) → length array ≡ length (s .array) → KeptIn size (state (afterUse d (setOf (w .line)) way) (s .memory) array)
+  used-kept way e =
+      let r = setOf (w .line) in
+      changed-kept (afterUse d r way) (use-limits d (k .kept .limits) r way (omega arith) (lookup-at d (w .line) way e .0)) (use-control d r way)
 
   abbrev victim : ℕ
   victim = victimOf d (setOf (w .line))
 
   read-found : (mayFill : Bool) (f : Found) → lookupOf d (w .line) ≡ f → KeptIn size (next s w (readDone f victim mayFill (s .memory) (s .array) w))
   unfolding readDone readHit settled changed
-  read-found mayFill (At way) e = changed-kept _ (used-limits way e) (s .array) refl
+  read-found mayFill (At way) e = used-kept way e (s .array) refl
   read-found mayFill Nothing e =
       let missed = readMiss mayFill (s .memory) w in
       by-test (λ b. KeptIn size (state (changed d (w .line) (keptChange b victim)) (s .memory) (keptArray b victim (w .line) (missed .buffer) (s .array)))) (missed .kept)
       (λ _.
       changed-kept _
       (fill-address-limits d (w .line) victim (victim-below (d .valid) (d .lru) (setOf (w .line))) (k .kept .limits) (omega (arith, ok .inside, k .ramLength, k .kept .lent .most)))
+      (fill-control d (setOf (w .line)) victim (tagOf (w .line)))
       _ (length-sets (s .array) (dataOffset (w .line) victim) (bytesAt (missed .buffer) 0 16)))
       (λ _. k)
 
@@ -96,7 +117,7 @@ module _ (size : ℕ) (s : State) (k : KeptIn size s) (w : Doubleword) (ok : Pro
     hit-kept : (way : ℕ) → lookupOf d (w .line) ≡ At way → KeptIn size (state (afterUse d (setOf (w .line)) way) (s .memory) (hitArray way (s .array) operand w))
     unfolding hitArray
     hit-kept way e =
-        changed-kept _ (used-limits way e) _ (length-sets (s .array) (dataOffset (w .line) way + w .wanted .from) (givenOf operand w))
+        used-kept way e _ (length-sets (s .array) (dataOffset (w .line) way + w .wanted .from) (givenOf operand w))
 
     -- RAM with the bytes that a doubleword is given
     through-kept : (t : State) → KeptIn size t → KeptIn size (state (t .directory) (stored (t .memory) (w .line + w .wanted .from) (givenOf operand w)) (t .array))
@@ -157,21 +178,25 @@ module _ (s : State) (k : Kept s) where
       (λ z. rw (write-done s a w v xs log z) (all-kept size (writeOne (operandOf v)) (λ t kt u ok. write-one-kept size t kt u ok (operandOf v)) (doublewordsOf groupCount xs a w 0) s here (proper a w xs log _ z) .kept))
       (λ h. rw (write-refused s a w v xs log h) k)
 
+  snooped-kept : (a : ℕ) → Kept (state (afterSnoop (s .directory) a) (s .memory) (s .array))
+  snooped-kept a =
+      let d = s .directory in
+      kept-with s k (afterSnoop d a) (snoop-limits d (k .limits) a) (snoop-control d (k .limits .sized) a) (s .array) refl
+
   external-kept : (a : ℕ) (x : List ℕ) → Kept (nextState (step s (external a x)))
   unfolding step externalWriteNumber
   external-kept a x =
       same-or _ (externalWriteNumber (s .directory) (s .memory) a x) 0
       (λ z.
       let own = or-zero (externalNumber size a (length x)) _ (or-zero (memoryNumber size (length (s .memory .parity))) _ z .1) .0 in
-      let snooped = kept-with s k (afterSnoop (s .directory) a) (snoop-limits (s .directory) (k .limits) a) (s .array) refl in
-      rw (external-done s a x z) (kept-stored _ snooped a x (external-accepted size a (length x) own .inside)))
+      rw (external-done s a x z) (kept-stored _ (snooped-kept a) a x (external-accepted size a (length x) own .inside)))
       (λ h. rw (external-refused s a x _ refl h) k)
 
   snoop-kept : (a : ℕ) → Kept (nextState (step s (snoop a)))
   unfolding step
   snoop-kept a =
       same-or _ (stateNumberOf (s .directory) (setOf a)) 0
-      (λ z. rw (snoop-accepted (s .directory) a z) (kept-with s k _ (snoop-limits (s .directory) (k .limits) a) (s .array) refl))
+      (λ z. rw (snoop-accepted (s .directory) a z) (snooped-kept a))
       (λ h. rw (snoop-refused (s .directory) a h) k)
 
   control-kept : (cd nw : Bool) → Kept (nextState (step s (control cd nw)))
@@ -179,8 +204,19 @@ module _ (s : State) (k : Kept s) where
   control-kept cd nw =
       by-test (λ b. controlRefused cd nw ≡ b → Kept (nextState (step s (control cd nw)))) (controlRefused cd nw)
       (λ _ e. rw (control-refused (s .directory) cd nw e) k)
-      (λ _ e. rw (control-accepted (s .directory) cd nw e) (kept-with s k _ (control-limits (s .directory) cd nw (k .limits)) (s .array) refl))
+      (λ _ e. rw (control-accepted (s .directory) cd nw e) (kept-changed s k _ (control-limits (s .directory) cd nw (k .limits)) (control-disabled (s .directory) cd nw e)))
       refl
+
+  -- lines are planted within the limits of tags
+  test-write-kept : (r w tag : ℕ) (mark : Bool) (x : List ℕ) → Kept (nextState (step s (testWrite r w tag mark x)))
+  unfolding step
+  test-write-kept r w tag mark x =
+      same-or _ (testWriteNumber (length (s .array)) (s .directory .cd) r w tag) 0
+      (λ z.
+      let p = test-write-place (length (s .array)) (s .directory .cd) r w tag z in
+      let g = line-limits (s .directory) (k .limits) r w tag mark (p .0) (p .1) (p .2) in
+      rw (test-write-done s r w tag mark x z) (kept-with s k _ g (line-control (s .directory) r w tag mark) _ (length-sets (s .array) (lineOffset r w) x)))
+      (λ h. rw (test-write-refused s r w tag mark x h) k)
 
 -- every call, refused or done
 pub call-kept : (s : State) → Kept s → (c : Call) → Kept (nextState (step s c))
@@ -189,10 +225,12 @@ call-kept s k (read a w pcd xs log) = read-kept s k a w pcd xs log
 call-kept s k (write a w v xs log) = write-kept s k a w v xs log
 call-kept s k (external a x) = external-kept s k a x
 call-kept s k (snoop a) = snoop-kept s k a
-call-kept s k flush = kept-with s k _ (flush-limits (s .directory) (k .limits)) (s .array) refl
+call-kept s k flush = kept-with s k _ (flush-limits (s .directory) (k .limits)) (flush-control (s .directory)) (s .array) refl
 call-kept s k (control cd nw) = control-kept s k cd nw
 call-kept s k (view a) = k
-call-kept s k reset = kept-with s k _ reset-limits (s .array) refl
+call-kept s k reset = kept-changed s k _ reset-limits (λ _. reset-control .0)
+call-kept s k (testWrite r w tag mark x) = test-write-kept s k r w tag mark x
+call-kept s k (testRead r w) = k
 
 -- A LIST
 

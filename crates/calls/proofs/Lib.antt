@@ -1,4 +1,4 @@
--- That each call keeps the invariant of demand 3 and matches the plain memory (`call-coherent` and `call-matches` in `Steps`), from the bytes
+-- That each call keeps the invariant of demand 3 and matches the plain memory (`call-matches`, and `emptying-matches` where nothing was compared before, in `Steps`), from the bytes
 -- up. `Kept` has what any list keeps, whatever it sets; the laws of `Drops` say what demand 3 cannot see.
 mod Bytes
 mod Memories

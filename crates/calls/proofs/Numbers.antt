@@ -19,9 +19,12 @@ use Rattle.bus.specs.Groups.{badWidth}
 use Rattle.refusal.specs.Refusal.{when, orElse, anyAbove, ramNumber, memoryNumber, arrayNumber, lentNumber, badAnswers, argumentNumber, valueNumber, externalNumber, viewAddressNumber, viewInputNumber, statesNumberIn, statesNumberOf}
 use Rattle.refusal.proofs.Accepted.{zero-or, first-or, GoodMemory}
 use Rattle.views.specs.View.{viewNumberIn}
-use Rattle.calls.specs.Calls.{Call, read, write, external, snoop, flush, control, view, reset, viewNumberOf}
+use Rattle.diagnostics.specs.Diagnostics.{testNumber, testWriteNumber}
+use Rattle.diagnostics.proofs.Laws.{test-write-done, test-write-refused, test-number-arises, test-read-number}
+use Rattle.calls.specs.Calls.{Call, read, write, external, snoop, flush, control, view, reset, testWrite, testRead, step, viewNumberOf}
 use Rattle.calls.specs.Plain.{someAbove, plainNumber}
-use Rattle.calls.specs.Matches.{Arises}
+use Rattle.calls.specs.Matches.{ZeroOr}
+use Rattle.calls.proofs.Kept.{Kept}
 use Rattle.calls.proofs.Coherence.{Coherent}
 
 -- a second number that is not met
@@ -129,21 +132,21 @@ module _ (m : List ℕ) where
   plain-view a = refl
 
 -- the plain memory's numbers are 0 and 4 to 10
-when-arises : (b : Bool) (n : ℕ) → 4 ≤ n → n ≤ 10 → Arises (when b n)
+when-arises : (b : Bool) (n : ℕ) → 4 ≤ n → n ≤ 10 → ZeroOr 4 10 (when b n)
 when-arises true n l h = inr (l, h)
 when-arises false n l h = inl refl
 
-or-arises : (a b : ℕ) → Arises a → Arises b → Arises (orElse a b)
+or-arises : (a b : ℕ) → ZeroOr 4 10 a → ZeroOr 4 10 b → ZeroOr 4 10 (orElse a b)
 or-arises a b h k = same-or _ a 0 (λ e. rw (zero-or a b e) k) (λ n. rw (first-or a b n) h)
 
-argument-arises : (ram a w : ℕ) (xs : List ℕ) (log : ℕ) → Arises (argumentNumber ram a w xs log)
+argument-arises : (ram a w : ℕ) (xs : List ℕ) (log : ℕ) → ZeroOr 4 10 (argumentNumber ram a w xs log)
 unfolding argumentNumber
 argument-arises ram a w xs log =
     or-arises (when (badWidth w) 4) _ (when-arises (badWidth w) 4 (omega arith) (omega arith))
     (or-arises (when (ltb ram (a + w)) 5) _ (when-arises (ltb ram (a + w)) 5 (omega arith) (omega arith))
     (or-arises (when (badAnswers xs) 6) _ (when-arises (badAnswers xs) 6 (omega arith) (omega arith)) (when-arises (ltb log 96) 7 (omega arith) (omega arith))))
 
-pub plain-arises : (m : List ℕ) (c : Call) → Arises (plainNumber m c)
+pub plain-arises : (m : List ℕ) (c : Call) → ZeroOr 4 10 (plainNumber m c)
 unfolding plainNumber valueNumber
 plain-arises m (read a w pcd xs log) = rw (plain-read m a w pcd xs log) (argument-arises (length m) a w xs (length log))
 plain-arises m (write a w v xs log) =
@@ -158,3 +161,22 @@ plain-arises m flush = inl refl
 plain-arises m (control cd nw) = when-arises (controlRefused cd nw) 9 (omega arith) (omega arith)
 plain-arises m (view a) = when-arises (not (ltb a (length m))) 5 (omega arith) (omega arith)
 plain-arises m reset = inl refl
+plain-arises m (testWrite r w tag mark x) = inl refl
+plain-arises m (testRead r w) = inl refl
+
+-- TEST CALLS: 3 is not met, so their numbers are 0, 31 and 32
+
+module _ (s : State) (k : Kept s) where
+  test-arises : (outside : Bool) → ZeroOr 31 32 (testNumber (length (s .array)) (s .directory .cd) outside)
+  test-arises outside = test-number-arises (length (s .array)) (s .directory .cd) outside (k .arrayLength)
+
+  pub test-write-arises : (r w tag : ℕ) (mark : Bool) (x : List ℕ) → ZeroOr 31 32 (step s (testWrite r w tag mark x) .outcome .number)
+  unfolding step
+  test-write-arises r w tag mark x =
+      same-or _ (testWriteNumber (length (s .array)) (s .directory .cd) r w tag) 0
+      (λ z. rw (test-write-done s r w tag mark x z) (inl refl))
+      (λ h. rw (test-write-refused s r w tag mark x h) (test-arises _))
+
+  pub test-read-arises : (r w : ℕ) → ZeroOr 31 32 (step s (testRead r w) .outcome .number)
+  unfolding step
+  test-read-arises r w = rw (test-read-number (s .directory) (s .array) r w) (test-arises _)

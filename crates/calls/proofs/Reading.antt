@@ -35,7 +35,7 @@ use Rattle.calls.proofs.Coherence.{Beside, Coherent, kept-in, fewer-bes
 pub use-beside : (s : State) (m : List ℕ) → Beside s m → (r w : ℕ) → Beside (state (afterUse (s .directory) r w) (s .memory) (s .array)) m
 use-beside s m b r w =
     let d = s .directory in
-    fewer-beside s m b (afterUse d r w) (λ q v tag ql vl. use-held d r w q v tag) (use-control d r w) (use-apart d (b .apart) r w)
+    fewer-beside s m b (afterUse d r w) (λ q v tag ql vl. use-held d r w q v tag) (use-control d r w .1) (use-apart d (b .apart) r w)
 
 -- what a doubleword of a read leaves
 record ReadMatches (s : State) (m : List ℕ) (w : Doubleword) (done : Done) : Type 0 where
@@ -94,13 +94,13 @@ module _ (s : State) (m : List ℕ) (c : Coherent s m) (w : Doubleword) (ok : Pr
       let z = k .limits .sized in
       let vl = victim-below (d .valid) (d .lru) (setOf (w .line)) in
       let control = fill-control d (setOf (w .line)) victim (tagOf (w .line)) in
-      let never : afterFill d (setOf (w .line)) victim (tagOf (w .line)) .nw ≡ true → ⊥ = λ h. differ (b .nw .disabled (sym (control .1) ∙ h)) enabled in
+      let never : afterFill d (setOf (w .line)) victim (tagOf (w .line)) .nw ≡ true → ⊥ = λ h. differ (k .control (sym (control .1) ∙ h)) enabled in
       record {
         rams = b .rams;
         apart = fill-address-apart d (w .line) victim vl z (b .apart) e;
         lines = filled-lines d z m (s .array) (b .lines) (w .line) victim (ok .aligned) (ok .inside) (k .arrayLength) vl (bytesAt buffer 0 16) (bytes-length buffer 0 16)
             (λ o l. bytes-at buffer 0 16 o l ∙ buffer-is (0 + o) (omega arith) ∙ ap (λ (i : ℕ). getD m (w .line + i) 0) (omega arith));
-        nw = record { disabled = λ h. absurd (never h); empty = λ h. absurd (never h) };
+        nw = λ h. absurd (never h);
       }
 
   read-fill : lookupOf d (w .line) ≡ Nothing → d .cd ≡ false → ReadMatches s m w (settled victim (s .memory) (s .array) w (fillMiss (s .memory) w))

@@ -31,7 +31,7 @@ module _ (s : State) (m : List ℕ) (c : Coherent s m) (a : ℕ) where
 
   pub snoop-beside : Beside snooped m
   snoop-beside =
-      fewer-beside s m b (afterSnoop d a) (λ r v tag rl vl. snoop-held d z a r v tag vl) (snoop-control d z a) (snoop-apart d z (b .apart) a)
+      fewer-beside s m b (afterSnoop d a) (λ r v tag rl vl. snoop-held d z a r v tag vl) (snoop-control d z a .1) (snoop-apart d z (b .apart) a)
 
   same-tag : (tag r : ℕ) → r < 128 → addressOf r tag ≡ a / 16 * 16 → tag ≡ tagOf a
   same-tag tag r l e = omega arith
@@ -43,7 +43,7 @@ module _ (s : State) (m : List ℕ) (c : Coherent s m) (a : ℕ) where
   snooped-none : (r v tag : ℕ) → r < 128 → v < 4 → Held (afterSnoop d a) r v tag → addressOf r tag ≡ a / 16 * 16 → ⊥
   snooped-none r v tag rl vl h e =
       by-test (λ on. d .nw ≡ on → ⊥) (d .nw)
-      (λ _ n. snoop-beside .nw .empty (snoop-control d z a .1 ∙ n) r v tag rl vl h)
+      (λ _ n. snoop-beside .nw (snoop-control d z a .1 ∙ n) r v tag rl vl h)
       (λ _ n. snoop-none d z a (b .apart .sets (setOf a) (omega arith)) n v vl (rw (same-set tag r rl e, same-tag tag r rl e) at h))
       refl
 

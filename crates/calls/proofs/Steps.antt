@@ -1,7 +1,7 @@
 -- Each call keeps the invariant and matches the plain memory.
 use Prim.Native.Nat.{ℕ, _*_, _-_, _/_, _%_, _≤_}
 use mathlib.Core.Path.{_≡_, refl, sym, _∙_, ap}
-use mathlib.Core.Bool.{Bool, true, false}
+use mathlib.Core.Bool.{Bool, true, false, true≢false}
 use mathlib.Core.List.{List, []}
 use native.Mathlib.Omega.{arith}
 use lib.ListN.{length}
@@ -13,7 +13,7 @@ use Rattle.ways.specs.declared.ways.Found.the-variants.{At, Nothing}
 use Rattle.ways.specs.Address.{setOf, tagOf, dataOffset}
 use Rattle.directory.specs.Steps.{lookupOf, afterReset, afterFlush, afterControl, afterSnoop, controlRefused}
 use Rattle.directory.specs.WellFormed.{Apart}
-use Rattle.directory.proofs.Laws.{lookup-at, reset-none, reset-control, reset-apart, flush-none, flush-control, flush-apart, control-held, control-set, control-apart, control-accepted, control-refused, snoop-accepted}
+use Rattle.directory.proofs.Laws.{lookup-at, reset-none, reset-apart, flush-none, flush-apart, control-held, control-set, control-apart, control-accepted, control-refused, snoop-accepted}
 use Rattle.words.specs.Bytes.{bytesAt, valueOf}
 use Rattle.bus.specs.Groups.{groupCount}
 use Rattle.doubleword.specs.Doubleword.{doublewordsOf}
@@ -25,18 +25,19 @@ use Rattle.refusal.specs.Refusal.{argumentNumber, valueNumber}
 use Rattle.refusal.proofs.Accepted.{or-zero, arguments-accepted, external-accepted}
 use Rattle.access.proofs.Calls.{read-refused, read-done, write-refused, write-done}
 use Rattle.masters.proofs.External.{external-refused, external-done}
+use Rattle.diagnostics.specs.Diagnostics.{testWriteNumber}
+use Rattle.diagnostics.proofs.Laws.{test-write-done, test-write-refused}
 use Rattle.views.specs.View.{shown}
 use Rattle.views.proofs.Viewing.{view-refused, view-done}
-use Rattle.calls.specs.Calls.{Call, read, write, external, snoop, flush, control, view, reset, step, viewNumberOf}
+use Rattle.calls.specs.Calls.{Call, read, write, external, snoop, flush, control, view, reset, testWrite, testRead, step, viewNumberOf}
 use Rattle.calls.specs.Plain.{Plain, plainAccepted, plainRefused, plainNumber, plainDone, plain}
-use Rattle.calls.specs.Matches.{NoParityError, setsNw}
+use Rattle.calls.specs.Matches.{NoParityError, kindOf, testing, plants, empties, SameResults, Matches, setsNw}
 use Rattle.words.proofs.Spans.{bytes-same}
 use Rattle.calls.proofs.Bytes.{operand-bytes}
 use Rattle.calls.proofs.Cycles.{logged-no-error}
 use Rattle.calls.proofs.Counts.{read-most, write-most, all-most, records-there, none-counted}
 use Rattle.calls.proofs.Coherence.{Empty, Beside, Coherent, fewer-lines, empty-beside, line-around}
 use Rattle.calls.proofs.Doublewords.{access-proper, doublewords-wanted, doublewords-written}
-use Rattle.calls.proofs.Kept.{call-kept}
 use Rattle.calls.proofs.Reading.{read-all}
 use Rattle.calls.proofs.Writing.{write-all}
 use Rattle.calls.proofs.Snooping.{snoop-beside, external-beside}
@@ -45,19 +46,30 @@ use Rattle.calls.proofs.Numbers.{state-zero, read-number, write-number,
 -- what a step leaves beside what the plain memory answers
 pub record StepMatches (x : After) (p : Plain) : Type 0 where
   pub beside : Beside (nextState x) (p .memory)
-  pub numbers : x .outcome .number ≡ p .number
-  pub values : x .outcome .value ≡ p .value
-  pub views : x .shown ≡ p .shown
+  pub results : SameResults x p
   pub no-error : NoParityError x
+
+-- what is compared of a call; and beside the plain memory after it, but for an accepted test write
+pub record CallMatches (x : Call) (a : After) (p : Plain) : Type 0 where
+  pub matches : Matches x a p
+  pub beside : plants (kindOf x) (a .outcome .number) ≡ false → Beside (nextState a) (p .memory)
+
+matched : (x : Call) {a : After} {p : Plain} → StepMatches a p → CallMatches x a p
+matched x g =
+    record { matches = record { results = λ _. g .results; rams = g .beside .rams; no-parity-error = g .no-error }; beside = λ _. g .beside }
+
+-- of a test call RAM is compared, and that no record carries 128
+tested : (x : Call) {a : After} {p : Plain} → testing (kindOf x) ≡ true → a .memory .ram ≡ p .memory → a .outcome .cycles ≡ 0 →
+    (plants (kindOf x) (a .outcome .number) ≡ false → Beside (nextState a) (p .memory)) → CallMatches x a p
+tested x t e z b =
+    record { matches = record { results = λ n. absurd (differ t n); rams = e; no-parity-error = none-counted _ z }; beside = b }
 
 -- nothing changed, with a number
 pub refused-matches : (s : State) (m : List ℕ) → Coherent s m → (n : ℕ) (log : List ℕ) → StepMatches (refused n s log) (plainRefused n m)
 refused-matches s m c n log =
     record {
       beside = c .beside;
-      numbers = refl;
-      values = refl;
-      views = refl;
+      results = record { numbers = refl; values = refl; views = refl };
       no-error = none-counted _ refl;
     }
 
@@ -79,6 +91,41 @@ module _ (s : State) (m : List ℕ) (c : Coherent s m) (x : Call) where
       (λ z. rw (plain-accepted m x (sym e ∙ z)) (g z))
       (λ h. rw (plain-refused m x (λ q. h (e ∙ q)), f h, e) (refused-matches s m c (plainNumber m x) log))
 
+-- a call that changes nothing but the directory
+module _ (s : State) (m : List ℕ) where
+  changed-matches : (d : Directory) → Beside (state d (s .memory) (s .array)) m → StepMatches (onDirectory s (outcome d 0 0 0)) (plainAccepted 0 [] m)
+  changed-matches d b =
+      record {
+        beside = b;
+        results = record { numbers = refl; values = refl; views = refl };
+        no-error = none-counted _ refl;
+      }
+
+  -- one that drops every line: only RAM need be the memory before it
+  module _ (e : s .memory .ram ≡ m) where
+    emptied-matches : (d : Directory) → Apart d → Empty d → StepMatches (onDirectory s (outcome d 0 0 0)) (plainAccepted 0 [] m)
+    emptied-matches d g n = changed-matches d (empty-beside (state d (s .memory) (s .array)) m e g n)
+
+    flush-matches : StepMatches (step s flush) (plain m flush)
+    unfolding step plain plainNumber plainDone
+    flush-matches = emptied-matches (afterFlush (s .directory)) (flush-apart (s .directory)) (flush-none (s .directory))
+
+    reset-matches : StepMatches (step s reset) (plain m reset)
+    unfolding step plain plainNumber plainDone
+    reset-matches = emptied-matches afterReset reset-apart reset-none
+
+    pub emptying-matches : (x : Call) → empties (kindOf x) ≡ true → CallMatches x (step s x) (plain m x)
+    emptying-matches (read a w pcd xs log) e = absurd (true≢false (sym e))
+    emptying-matches (write a w v xs log) e = absurd (true≢false (sym e))
+    emptying-matches (external a x) e = absurd (true≢false (sym e))
+    emptying-matches (snoop a) e = absurd (true≢false (sym e))
+    emptying-matches flush e = matched flush flush-matches
+    emptying-matches (control cd nw) e = absurd (true≢false (sym e))
+    emptying-matches (view a) e = absurd (true≢false (sym e))
+    emptying-matches reset e = matched reset reset-matches
+    emptying-matches (testWrite r w tag mark x) e = absurd (true≢false (sym e))
+    emptying-matches (testRead r w) e = absurd (true≢false (sym e))
+
 module _ (s : State) (m : List ℕ) (c : Coherent s m) where
   whole : length m % 16 ≡ 0
   whole = rw (c .beside .rams) at (c .kept .lent .whole)
@@ -96,9 +143,7 @@ module _ (s : State) (m : List ℕ) (c : Coherent s m) where
       rw (read-done s a w pcd xs log z)
       (record {
         beside = r .beside;
-        numbers = refl;
-        values = ap valueOf (r .gives ∙ doublewords-wanted groupCount m xs a w 0 b);
-        views = refl;
+        results = record { numbers = refl; values = ap valueOf (r .gives ∙ doublewords-wanted groupCount m xs a w 0 b); views = refl };
         no-error =
             record {
               there = records-there log (readAll s a w pcd xs .records) 32 (all-most (readOne pcd) (read-most pcd) groupCount xs a w 0 s) (k .records);
@@ -120,9 +165,7 @@ module _ (s : State) (m : List ℕ) (c : Coherent s m) where
       rw (write-done s a w v xs log z)
       (record {
         beside = rw (doublewords-written groupCount (operandOf v) m xs a w 0 b, operand-bytes v w (k .four)) at (r .beside);
-        numbers = refl;
-        values = refl;
-        views = refl;
+        results = record { numbers = refl; values = refl; views = refl };
         no-error =
             record {
               there = records-there log (writeAll s a w v xs .records) 32 (all-most (writeOne (operandOf v)) (write-most (operandOf v)) groupCount xs a w 0 s) (k .records);
@@ -143,9 +186,7 @@ module _ (s : State) (m : List ℕ) (c : Coherent s m) where
       rw (external-done s a x z)
       (record {
         beside = external-beside s m c a x (external-accepted (length m) a (length x) (sym (external-write-number s m c a x) ∙ z));
-        numbers = refl;
-        values = refl;
-        views = refl;
+        results = record { numbers = refl; values = refl; views = refl };
         no-error = none-counted _ refl;
       }))
       []
@@ -153,36 +194,11 @@ module _ (s : State) (m : List ℕ) (c : Coherent s m) where
 
   -- THE DIRECTORY ALONE
 
-  -- a call that changes nothing but the directory
-  changed-matches : (d : Directory) → Beside (state d (s .memory) (s .array)) m → StepMatches (onDirectory s (outcome d 0 0 0)) (plainAccepted 0 [] m)
-  changed-matches d b =
-      record {
-        beside = b;
-        numbers = refl;
-        values = refl;
-        views = refl;
-        no-error = none-counted _ refl;
-      }
-
-  -- a directory that holds no line
-  emptied-matches : (d : Directory) → Apart d → (d .nw ≡ true → d .cd ≡ true) → Empty d → StepMatches (onDirectory s (outcome d 0 0 0)) (plainAccepted 0 [] m)
-  emptied-matches d g e n = changed-matches d (empty-beside (state d (s .memory) (s .array)) m (c .beside .rams) g n e)
-
   snoop-matches : (a : ℕ) → StepMatches (step s (snoop a)) (plain m (snoop a))
   unfolding step plain plainNumber plainDone
   snoop-matches a =
       rw (snoop-accepted (s .directory) a (state-zero s m c a))
-      (changed-matches (afterSnoop (s .directory) a) (snoop-beside s m c a))
-
-  flush-matches : StepMatches (step s flush) (plain m flush)
-  unfolding step plain plainNumber plainDone
-  flush-matches =
-      let k = flush-control (s .directory) in
-      emptied-matches (afterFlush (s .directory)) (flush-apart (s .directory)) (λ h. k .0 ∙ c .beside .nw .disabled (sym (k .1) ∙ h)) (flush-none (s .directory))
-
-  reset-matches : StepMatches (step s reset) (plain m reset)
-  unfolding step plain plainNumber plainDone
-  reset-matches = emptied-matches afterReset reset-apart (λ _. reset-control .0) reset-none
+      (changed-matches s m (afterSnoop (s .directory) a) (snoop-beside s m c a))
 
   -- an accepted control call that does not set NW leaves NW = 0
   control-matches : (cd nw : Bool) → setsNw (control cd nw) ≡ false → StepMatches (step s (control cd nw)) (plain m (control cd nw))
@@ -195,12 +211,12 @@ module _ (s : State) (m : List ℕ) (c : Coherent s m) where
       let k = control-set (s .directory) cd nw in
       let never : afterControl (s .directory) cd nw .nw ≡ true → ⊥ = λ h. differ h (k .1 ∙ rw e at q) in
       rw (control-accepted (s .directory) cd nw e, e)
-      (changed-matches (afterControl (s .directory) cd nw)
+      (changed-matches s m (afterControl (s .directory) cd nw)
       (record {
         rams = c .beside .rams;
         apart = control-apart (s .directory) cd nw (c .beside .apart);
         lines = fewer-lines (s .directory) (afterControl (s .directory) cd nw) m (s .array) (λ r v tag rl vl h. control-held (s .directory) cd nw r v tag h) (c .beside .lines);
-        nw = record { disabled = λ h. absurd (never h); empty = λ h. absurd (never h) };
+        nw = λ h. absurd (never h);
       })))
       refl
 
@@ -222,23 +238,41 @@ module _ (s : State) (m : List ℕ) (c : Coherent s m) where
       (λ z.
       record {
         beside = c .beside;
-        numbers = z;
-        values = refl;
-        views = view-done (s .directory .tags) (s .directory .valid) (s .directory .lru) (s .memory .ram) (s .array) a n refl z ∙ shown-is a (lookupOf (s .directory) a) refl;
+        results =
+            record {
+              numbers = z;
+              values = refl;
+              views = view-done (s .directory .tags) (s .directory .valid) (s .directory .lru) (s .memory .ram) (s .array) a n refl z ∙ shown-is a (lookupOf (s .directory) a) refl;
+            };
         no-error = none-counted _ refl;
       })
       []
       (λ h. rw (← view-refused (s .directory .tags) (s .directory .valid) (s .directory .lru) (s .memory .ram) (s .array) a n refl h))
 
-  pub call-matches : (x : Call) → setsNw x ≡ false → StepMatches (step s x) (plain m x)
-  call-matches (read a w pcd xs log) q = read-matches a w pcd xs log
-  call-matches (write a w v xs log) q = write-matches a w v xs log
-  call-matches (external a x) q = external-matches a x
-  call-matches (snoop a) q = snoop-matches a
-  call-matches flush q = flush-matches
-  call-matches (control cd nw) q = control-matches cd nw q
-  call-matches (view a) q = view-matches a
-  call-matches reset q = reset-matches
+  -- TEST CALLS
 
-  pub call-coherent : (x : Call) → setsNw x ≡ false → Coherent (nextState (step s x)) (plain m x .memory)
-  call-coherent x q = record { kept = call-kept s (c .kept) x; beside = call-matches x q .beside }
+  test-write-matches : (r w tag : ℕ) (mark : Bool) (x : List ℕ) →
+      let y = testWrite r w tag mark x in CallMatches y (step s y) (plain m y)
+  unfolding step plain plainNumber plainDone
+  test-write-matches r w tag mark x =
+      same-or _ (testWriteNumber (length (s .array)) (s .directory .cd) r w tag) 0
+      (λ z. rw (test-write-done s r w tag mark x z) (tested (testWrite r w tag mark x) refl (c .beside .rams) refl (λ p. absurd (true≢false p))))
+      (λ h. rw (test-write-refused s r w tag mark x h) (tested (testWrite r w tag mark x) refl (c .beside .rams) refl (λ _. c .beside)))
+
+  test-read-matches : (r w : ℕ) → CallMatches (testRead r w) (step s (testRead r w)) (plain m (testRead r w))
+  unfolding step plain plainNumber plainDone
+  test-read-matches r w = tested (testRead r w) refl (c .beside .rams) refl (λ _. c .beside)
+
+  -- EVERY CALL
+
+  pub call-matches : (x : Call) → setsNw x ≡ false → CallMatches x (step s x) (plain m x)
+  call-matches (read a w pcd xs log) q = matched (read a w pcd xs log) (read-matches a w pcd xs log)
+  call-matches (write a w v xs log) q = matched (write a w v xs log) (write-matches a w v xs log)
+  call-matches (external a x) q = matched (external a x) (external-matches a x)
+  call-matches (snoop a) q = matched (snoop a) (snoop-matches a)
+  call-matches flush q = matched flush (flush-matches s m (c .beside .rams))
+  call-matches (control cd nw) q = matched (control cd nw) (control-matches cd nw q)
+  call-matches (view a) q = matched (view a) (view-matches a)
+  call-matches reset q = matched reset (reset-matches s m (c .beside .rams))
+  call-matches (testWrite r w tag mark x) q = test-write-matches r w tag mark x
+  call-matches (testRead r w) q = test-read-matches r w

@@ -77,7 +77,7 @@ module _ (operand : List ℕ) (s : State) (m : List ℕ) (c : Coherent s m) (w :
       let k = lookup-at d (w .line) way e in
       by-test (λ stays. (d .cd && d .nw) ≡ stays → WriteMatches s (memoryWritten operand m w) w (cond stays (record { change = Use way; memory = s .memory; array = hitArray way (s .array) operand w; bytes = []; records = [] }) (writeThrough (Use way) (s .memory) (hitArray way (s .array) operand w) operand w)))
       (d .cd && d .nw)
-      (λ _ h. absurd (b .nw .empty (both (d .cd) (d .nw) h .1) (setOf (w .line)) way _ (omega arith) (k .0) (k .1)))
+      (λ _ h. absurd (b .nw (both (d .cd) (d .nw) h .1) (setOf (w .line)) way _ (omega arith) (k .0) (k .1)))
       (λ _ _. write-hit way e)
       refl
   write-found Nothing e = write-miss e

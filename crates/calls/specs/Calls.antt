@@ -9,6 +9,7 @@ use Rattle.refusal.specs.Call.{State, After, onDirectory}
 use Rattle.access.specs.Access.{readCall, writeCall}
 use Rattle.masters.specs.Masters.{externalCall}
 use Rattle.views.specs.View.{viewNumberIn, viewIn}
+use Rattle.diagnostics.specs.Diagnostics.{testWriteCall, testReadLine}
 
 -- "the calls' arguments except directory, RAM, parity and data array": "The log, the board's answers and an external write's bytes are each call's own and may be anything."
 -- Numbers are ℕ, so that the claim covers lists that no caller can make too; the contracts tie steps with 32-bit arguments and
@@ -22,6 +23,8 @@ pub data Call : Type 0 where
   control : (cd nw : Bool) → Call
   view : (address : ℕ) → Call
   reset : Call
+  testWrite : (set way tag : ℕ) → (mark : Bool) → (bytes : List ℕ) → Call
+  testRead : (set way : ℕ) → Call
 
 -- A view and its number, of the state of the unit: those that `views` gives for its arrays.
 abbrev pub viewNumberOf : State → ℕ → ℕ
@@ -43,6 +46,10 @@ viewCall s address =
       shown = viewOf s address;
     }
 
+-- A test read changes nothing; of what it answers, the list keeps the number.
+abbrev pub testReadCall : State → ℕ → ℕ → After
+testReadCall s set way = onDirectory s (outcome (s .directory) (testReadLine (s .directory) (s .array) set way .number) 0 0)
+
 -- One step of the unit, by the definitions that the contracts of the calls cite.
 unfoldable pub step : State → Call → After
 step s (read address width pcd answers log) = readCall s address width pcd answers log
@@ -53,3 +60,5 @@ step s flush = onDirectory s (flushCall (s .directory))
 step s (control cd nw) = onDirectory s (controlCall (s .directory) cd nw)
 step s (view address) = viewCall s address
 step s reset = onDirectory s resetCall
+step s (testWrite set way tag mark bytes) = testWriteCall s set way tag mark bytes
+step s (testRead set way) = testReadCall s set way

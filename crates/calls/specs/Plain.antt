@@ -6,7 +6,7 @@ use lib.Dec.{eqb, ltb}
 use lib.ListN.{length}
 use lib.Seq.{sets}
 use Rattle.words.specs.Bytes.{bytesAt, valueOf, bytesOf}
-use Rattle.calls.specs.Calls.{Call, read, write, external, snoop, flush, control, view, reset}
+use Rattle.calls.specs.Calls.{Call, read, write, external, snoop, flush, control, view, reset, testWrite, testRead}
 
 -- What it answers to a call, and its bytes afterwards.
 pub record Plain : Type 0 where
@@ -59,13 +59,15 @@ plainNumber m flush = 0
 plainNumber m (control cd nw) = firstMet (controlTest cd nw ∷ [])
 plainNumber m (view address) = firstMet ((not (ltb address (length m)), 5) ∷ [])
 plainNumber m reset = 0
+plainNumber m (testWrite set way tag mark bytes) = 0
+plainNumber m (testRead set way) = 0
 
 -- A call that is done.
 abbrev pub plainAccepted : ℕ → List ℕ → List ℕ → Plain
 plainAccepted value bytes m = record { number = 0; value = value; shown = bytes; memory = m }
 
 -- "A write or external write replaces its bytes; a read gives its bytes; a view gives its sixteen; snoop, flush, control and reset do nothing";
--- a read's value is that "with the bytes taken little-endian".
+-- a read's value is that "with the bytes taken little-endian". Test calls change no RAM, so it does nothing at them either.
 unfoldable pub plainDone : List ℕ → Call → Plain
 plainDone m (read address width pcd answers log) = plainAccepted (valueOf (bytesAt m address width)) [] m
 plainDone m (write address width value answers log) = plainAccepted 0 [] (sets m address (bytesOf width value))
@@ -75,6 +77,8 @@ plainDone m flush = plainAccepted 0 [] m
 plainDone m (control cd nw) = plainAccepted 0 [] m
 plainDone m (view address) = plainAccepted 0 (bytesAt m (address / 16 * 16) 16) m
 plainDone m reset = plainAccepted 0 [] m
+plainDone m (testWrite set way tag mark bytes) = plainAccepted 0 [] m
+plainDone m (testRead set way) = plainAccepted 0 [] m
 
 -- "a call meeting 4 to 10 does nothing and answers that number."
 abbrev pub plainRefused : ℕ → List ℕ → Plain

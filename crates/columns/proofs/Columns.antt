@@ -1,7 +1,7 @@
 -- Demand 3 carried to the program: the answer and value columns are the plain memory's.
 use Prim.Native.Nat.{ℕ, suc, _/_, _%_, _<_, _≤_}
 use mathlib.Core.Path.{_≡_, refl}
-use mathlib.Core.Bool.{false}
+use mathlib.Core.Bool.{Bool, false, true≢false}
 use mathlib.Core.List.{List, [], _∷_}
 use mathlib.Core.Option.{Option, none, some}
 use native.Mathlib.Omega.{arith}
@@ -11,33 +11,63 @@ use Rattle.words.proofs.Places.{zeros-at}
 use Rattle.memory.specs.Parity.{memory, Agrees, dpAt, laneBit, dpOf, onesOf}
 use Rattle.refusal.specs.Call.{State, nextState}
 use Rattle.calls.specs.Calls.{Call}
+use Rattle.calls.specs.Matches.{Kind, testWriting, testReading, emptying, other, kindOf, testing, plants, SameResults}
 use Rattle.fields.specs.Fields.{linesOf}
-use Rattle.performing.specs.Perform.{lineCall, callDone, lineDone}
+use Rattle.lines.specs.declared.Event.{Event}
+use Rattle.lines.specs.declared.Event.the-variants.{Malformed, Read, Write, External, Snoop, Flush, Control, Reset}
+use Rattle.lines.specs.Scan.{scanned}
+use Rattle.performing.specs.Perform.{callOf, lineCall, callDone, lineDone}
 use Rattle.events.specs.Output.{rowsOf, start, outputOf}
 use Rattle.agreement.specs.Agreement.{Legal}
 use Rattle.columns.specs.Program.{plainCall, plainLine, plainRows, countsOf, plainOutput, lineSetsNw, NoLineSetsNw, Columns}
+use Rattle.calls.proofs.Kept.{call-kept}
 use Rattle.calls.proofs.Coherence.{Coherent}
-use Rattle.calls.proofs.Steps.{StepMatches, refused-matches, call-matches, call-coherent}
+use Rattle.calls.proofs.Steps.{refused-matches, call-matches}
 use Rattle.agreement.proofs.Demand.{start-coherent}
+
+-- no event of a line makes a test call
+abbrev lineTests : Option Call → Bool
+lineTests none = false
+lineTests (some c) = testing (kindOf c)
+
+no-test : (line : List ℕ) (e : Event) → lineTests (callOf line e) ≡ false
+unfolding callOf
+no-test line Malformed = refl
+no-test line (Read address width pcd) = refl
+no-test line (Write address width value) = refl
+no-test line (External address from) = refl
+no-test line (Snoop address) = refl
+no-test line Flush = refl
+no-test line (Control cd nw) = refl
+no-test line Reset = refl
+
+-- so none plants a line
+no-plant : (k : Kind) (number : ℕ) → testing k ≡ false → plants k number ≡ false
+no-plant testWriting number t = absurd (true≢false t)
+no-plant testReading number t = refl
+no-plant emptying number t = refl
+no-plant other number t = refl
 
 -- a malformed line, and one that makes a call
 module _ (s : State) (m : List ℕ) (c : Coherent s m) where
-  line-matches : (x : Option Call) → lineSetsNw x ≡ false → StepMatches (callDone s x) (plainCall m x)
+  line-matches : (x : Option Call) → lineTests x ≡ false → lineSetsNw x ≡ false → SameResults (callDone s x) (plainCall m x)
   unfolding callDone plainCall
-  line-matches none q = refused-matches s m c 11 []
-  line-matches (some x) q = call-matches s m c x q
+  line-matches none t q = refused-matches s m c 11 [] .results
+  line-matches (some x) t q = call-matches s m c x q .matches .results t
 
-  line-coherent : (x : Option Call) → lineSetsNw x ≡ false → Coherent (nextState (callDone s x)) (plainCall m x .memory)
+  line-coherent : (x : Option Call) → lineTests x ≡ false → lineSetsNw x ≡ false → Coherent (nextState (callDone s x)) (plainCall m x .memory)
   unfolding callDone plainCall
-  line-coherent none q = c
-  line-coherent (some x) q = call-coherent s m c x q
+  line-coherent none t q = c
+  line-coherent (some x) t q =
+      record { kept = call-kept s (c .kept) x; beside = call-matches s m c x q .beside (no-plant (kindOf x) _ t) }
 
 rows-agree : (lines : List (List ℕ)) (s : State) (m : List ℕ) (event : ℕ) → Coherent s m → NoLineSetsNw lines → rowsOf s event lines ≡ plainRows m event lines (countsOf s lines)
 unfolding rowsOf plainRows countsOf
 rows-agree [] s m event c n = refl
 rows-agree (line ∷ lines) s m event c n =
-    let g = line-matches s m c (lineCall line) (n .0) in
-    rw (g .numbers, g .values, rows-agree lines (nextState (lineDone s line)) (plainLine m line .memory) (suc event) (line-coherent s m c (lineCall line) (n .0)) (n .1))
+    let t = no-test line (scanned line) in
+    let g = line-matches s m c (lineCall line) t (n .0) in
+    rw (g .numbers, g .values, rows-agree lines (nextState (lineDone s line)) (plainLine m line .memory) (suc event) (line-coherent s m c (lineCall line) t (n .0)) (n .1))
 
 -- zeros have parity that agrees
 no-bit : (lane : ℕ) → lane < 4 → laneBit 0 lane ≡ dpOf 0
