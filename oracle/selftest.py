@@ -7,7 +7,7 @@ Prints one line per group and `ok` at the end; stops with exit 1 at the first mi
 import sys
 from collections.abc import Callable
 
-from checks import event_files, random_lists, readings, replays, vectors
+from checks import diagnostics, event_files, random_lists, readings, replays, vectors
 from checks.unit_calls import Mismatch, done
 
 GROUPS: list[tuple[str, Callable[[], None]]] = [
@@ -23,7 +23,9 @@ GROUPS: list[tuple[str, Callable[[], None]]] = [
     ("program start", vectors.program_start),
     ("program example", vectors.program_example),
     ("readings of document 01", readings.readings),
+    ("readings of C-11", diagnostics.readings),
     ("random lists against the plain memory", random_lists.random_lists),
+    ("random lists with test calls", random_lists.lists_with_test_calls),
     ("refused calls", random_lists.refused_calls),
     ("call scripts", replays.replays),
     ("event files", event_files.event_file_checks),

@@ -1,15 +1,18 @@
-"""Random lists of calls against the plain memory, and random calls that are refused."""
+"""Random lists of calls against the plain memory, with test calls and without, and random calls
+that are refused."""
 
 import random
 from collections import Counter
+from collections.abc import Callable
+from typing import Any
 
 from unit486_model import access, memory
 from unit486_model import directory as steps
 from unit486_model.access import Result
 from unit486_model.bus import ANSWERS, KEN, LOG_WORDS, WIDTHS
-from unit486_model.directory import LINE_BYTES, Directory
-from unit486_model.events import Unit
-from unit486_model.plain import PlainMemory
+from unit486_model.directory import LINE_BYTES, SETS, TAG_LIMIT, WAYS, Directory
+from unit486_model.events import NUMBER_LIMIT, Unit
+from unit486_model.plain import Comparison, PlainMemory
 from unit486_model.refusal import DATA_BYTES
 
 from .unit_calls import (
@@ -19,6 +22,8 @@ from .unit_calls import (
     external,
     read,
     snapshot,
+    test_read,
+    test_write,
     unit_of,
     valid_and_tags,
     view,
@@ -36,8 +41,19 @@ def replaced(before: list[tuple[bool, int]], after: list[tuple[bool, int]]) -> b
     return before != after and any(old[0] and old != new for old, new in zip(before, after))
 
 
+Calls = tuple[Callable[[], None], ...]
+
+
+class Disagreement(Mismatch):
+    """A number, value, view or RAM that is not the plain memory's: no other check ends so."""
+
+
 class RandomList:
     """A list of random calls from reset, each compared with the plain memory."""
+
+    # How often a read is drawn for each write, and the share of the rare calls. In some lists
+    # reads prevail, so that sets become full and lines are replaced.
+    shares = ((3, 0.1), (30, 0.02))
 
     def __init__(self, seed: int) -> None:
         self.random = random.Random(seed)
@@ -47,9 +63,13 @@ class RandomList:
             parity[index] |= self.random.randrange(16) << 4
         data = bytearray(self.random.randbytes(DATA_BYTES))
         self.unit = Unit(steps.reset(), ram, parity, data)
-        self.plain = PlainMemory(bytearray(ram))
+        self.comparison = Comparison(PlainMemory(bytearray(ram)))
         self.wrong_share = self.random.choice((0.0, 0.0, 0.05, 0.3))
         self.met: Counter[str] = Counter()
+
+    @property
+    def plain(self) -> PlainMemory:
+        return self.comparison.plain
 
     def wrong(self) -> bool:
         return self.random.random() < self.wrong_share
@@ -82,19 +102,27 @@ class RandomList:
         return [self.random.getrandbits(32) for _ in range(LOG_WORDS + extra)]
 
     def run(self) -> None:
-        # In some lists reads prevail, so that sets become full and lines are replaced.
-        reads, rarity = self.random.choice(((3, 0.1), (30, 0.02)))
+        reads, rarity = self.random.choice(self.shares)
         calls = (*[self.read] * reads, self.write, self.external, self.view)
-        rare = (self.snoop, self.flush, self.control, self.reset)
         self.control()
         for _ in range(CALLS):
-            self.random.choice(rare if self.random.random() < rarity else calls)()
-            check("RAM", self.unit.ram, self.plain.bytes_held)
+            self.random.choice(self.rare() if self.random.random() < rarity else calls)()
+            self.agree("RAM", self.unit.ram, self.plain.bytes_held)
         check("parity agrees", memory.parity_agrees(self.unit.ram, self.unit.parity), True)
+
+    def rare(self) -> Calls:
+        return self.snoop, self.flush, self.control, self.reset
+
+    def agree(self, what: str, got: Any, expected: Any) -> None:
+        """What the list gives, and what the plain memory expects."""
+        try:
+            check(what, got, expected)
+        except Mismatch as mismatch:
+            raise Disagreement(str(mismatch)) from None
 
     def compared(self, call: str, number: int, expected: int) -> None:
         self.met[f"{call} refused" if number else call] += 1
-        check(f"number of {call}", number, expected)
+        self.agree(f"number of {call}", number, expected)
 
     def logged(self, result: Result, log: list[int], before: list[int]) -> None:
         words = [word for record in result.records for word in record]
@@ -109,7 +137,7 @@ class RandomList:
         result = read(self.unit, address, width, answers, pcd, log)
         number, value = self.plain.read(address, width, pcd, answers, len(log))
         self.compared("read", result.number, number)
-        check("value", result.value, value)
+        self.agree("value", result.value, value)
         self.logged(result, log, before)
         self.met["hit"] += not result.number and not result.cycles
         self.met["replaced"] += replaced(lines, valid_and_tags(self.unit.directory))
@@ -138,7 +166,7 @@ class RandomList:
         number, part = view(self.unit, address)
         expected, sixteen = self.plain.view(address)
         self.compared("view", number, expected)
-        check("view", access.part_bytes(part, self.unit.ram, self.unit.data), sixteen)
+        self.agree("view", access.part_bytes(part, self.unit.ram, self.unit.data), sixteen)
         check("a view changes nothing", snapshot(self.unit), before)
         self.met["view of a held line"] += part.buffer == "data"
 
@@ -152,7 +180,10 @@ class RandomList:
 
     def control(self) -> None:
         """Never the pair 1, 1: with NW = 1 a held line may come to differ from RAM."""
-        cd, nw = self.random.choice(((False, False), (False, False), (True, False), (False, True)))
+        pairs = ((False, False), (False, False), (True, False), (False, True))
+        self.control_with(*self.random.choice(pairs))
+
+    def control_with(self, cd: bool, nw: bool) -> None:
         number = access.control(self.unit.directory, cd, nw).number
         self.compared("control", number, self.plain.control(cd, nw))
 
@@ -162,16 +193,126 @@ class RandomList:
         self.control()
 
 
-def random_lists() -> None:
-    """Each list agrees with the plain memory, and the lists meet what they are meant to."""
+class ListWithTestCalls(RandomList):
+    """A list with test calls too, compared in stretches: from an accepted test write to the next
+    flush or reset the plain memory is still fed, and what differs from it is counted only."""
+
+    shares = ((2, 0.2), (6, 0.15))
+
+    def rare(self) -> Calls:
+        test_calls = (*[self.test_write] * 3, self.test_read)
+        return (*test_calls, self.control, self.control, *super().rare())
+
+    def agree(self, what: str, got: Any, expected: Any) -> None:
+        if self.comparison.compared:
+            super().agree(what, got, expected)
+        else:
+            self.met[f"{what} differs while suspended"] += got != expected
+
+    def place(self) -> tuple[int, int]:
+        """Set and way, mostly of a set that the accesses go to."""
+        if self.wrong():
+            return self.random.choice(((SETS, 0), (0, WAYS), (NUMBER_LIMIT, NUMBER_LIMIT)))
+        return self.random.choice((0, 0, 0, 1, SETS - 1)), self.random.randrange(WAYS)
+
+    def test_write(self) -> None:
+        """Mostly with CD = 1, which a control call sets before it."""
+        if self.random.random() < 0.8:
+            self.control_with(True, False)
+        tag = TAG_LIMIT + 1 if self.wrong() else self.random.choice((*range(8), TAG_LIMIT))
+        valid, sixteen = self.random.random() < 0.8, self.random.randbytes(LINE_BYTES)
+        before = snapshot(self.unit)
+        number = test_write(self.unit, *self.place(), tag, valid, sixteen).number
+        after = snapshot(self.unit)
+        check("LRU numbers, CD, NW, RAM and parity", after[2:7], before[2:7])
+        if number:
+            check("a refused test write changes nothing", after, before)
+        self.met["planted"] += valid and not number
+        self.met["test write refused" if number else "test write"] += 1
+        self.suspend(number)
+
+    def suspend(self, number: int) -> None:
+        self.comparison.after_test_write(number)
+
+    def test_read(self) -> None:
+        before = snapshot(self.unit)
+        number = test_read(self.unit, *self.place()).number
+        check("a test read changes nothing", snapshot(self.unit), before)
+        self.met["test read refused" if number else "test read"] += 1
+
+    def control(self) -> None:
+        """While suspended any pair."""
+        if self.comparison.compared:
+            super().control()
+            return
+        pairs = ((False, False), (False, False), (True, False), (True, True), (False, True))
+        cd, nw = self.random.choice(pairs)
+        self.met["NW set while suspended"] += cd and nw
+        self.control_with(cd, nw)
+
+    def flush(self) -> None:
+        self.begin_anew()
+        super().flush()
+
+    def reset(self) -> None:
+        self.begin_anew()
+        super().reset()
+
+    def begin_anew(self) -> None:
+        if not self.comparison.compared:
+            self.met["begun anew"] += 1
+            self.met["RAM not the old memory's"] += self.unit.ram != self.plain.bytes_held
+        self.comparison.before_flush_or_reset(self.unit.ram)
+
+
+class NeverSuspended(ListWithTestCalls):
+    """Compared through test writes too: a comparison that planted lines must break."""
+
+    def suspend(self, number: int) -> None:
+        pass
+
+
+class NotBegunAnew(ListWithTestCalls):
+    """Compared with the old memory after a flush or reset: a comparison that must break where a
+    write was refused or stayed inside while suspended."""
+
+    def begin_anew(self) -> None:
+        self.comparison.compared = True
+
+
+def run_lists(kind: type[RandomList], lists: int) -> Counter[str]:
     met: Counter[str] = Counter()
-    for seed in range(LISTS):
-        tried = RandomList(seed)
+    for seed in range(lists):
+        tried = kind(seed)
         try:
             tried.run()
         except Mismatch as mismatch:
-            raise Mismatch(f"list {seed}: {mismatch}") from None
+            raise type(mismatch)(f"list {seed}: {mismatch}") from None
         met += tried.met
+    return met
+
+
+def lists_with_test_calls() -> None:
+    """Each stretch agrees with its plain memory; with either rule left out a list does not."""
+    met = run_lists(ListWithTestCalls, LISTS)
+    for kind in ("test write", "test read", "test write refused", "test read refused"):
+        check(f"{kind} met", met[kind] > 50, True)
+    for kind in ("planted", "begun anew", "NW set while suspended"):
+        check(f"{kind} met", met[kind] > 50, True)
+    check("planted bytes read", met["value differs while suspended"] > 50, True)
+    check("21 met", met["number of read differs while suspended"] > 50, True)
+    check("a new memory needed", met["RAM not the old memory's"] > 10, True)
+    for altered in (NeverSuspended, NotBegunAnew):
+        try:
+            run_lists(altered, LISTS)
+        except Disagreement:
+            continue
+        raise Mismatch(f"{altered.__name__}: no list tells")
+
+
+def random_lists() -> None:
+    """Each list agrees with the plain memory, and the lists meet what they are meant to."""
+    met = run_lists(RandomList, LISTS)
     for kind in ("read", "write", "external", "view", "snoop", "flush", "control", "reset"):
         check(f"{kind} met", met[kind] > 50, True)
     for kind in ("read refused", "write refused", "external refused", "view refused"):
@@ -211,7 +352,7 @@ def refused_calls() -> None:
         if number:
             check(f"untouched after {number}", snapshot(unit), before)
             check("log untouched", log, log_before)
-    expected = {0, 1, 2, 3, 4, 5, 6, 7, 8, 9, 10, 21, 22, 23}
+    expected = {0, 1, 2, 3, 4, 5, 6, 7, 8, 9, 10, 21, 22, 23, 31, 32}
     check("numbers met", set(met), expected)
 
 
@@ -219,7 +360,7 @@ def _any_call(source: random.Random, unit: Unit, log: list[int]) -> int:
     address = source.choice((0, 1, 13, 14, 15, 16, 2046, 2050, 99999))
     width = source.choice((1, 2, 4, 4, 4, 3))
     answers = [source.randrange(8) for _ in range(ANSWERS)] + [0] * (source.random() < 0.1)
-    call = source.randrange(7)
+    call = source.randrange(9)
     if call < 2:
         return read(unit, address, width, answers, False, log).number
     if call == 2:
@@ -233,5 +374,18 @@ def _any_call(source: random.Random, unit: Unit, log: list[int]) -> int:
         number, part = view(unit, address)
         check("a refused view is empty", part.length, 0 if number else LINE_BYTES)
         return number
+    if call > 6:
+        return _any_test_call(source, unit)
     cd, nw = source.random() < 0.5, source.random() < 0.5
     return access.control(unit.directory, cd, nw).number
+
+
+def _any_test_call(source: random.Random, unit: Unit) -> int:
+    set_index, way = source.choice((0, 1, SETS)), source.choice((0, WAYS - 1, WAYS))
+    if source.random() < 0.5:
+        tag, valid = source.choice((0, TAG_LIMIT, TAG_LIMIT + 1)), source.random() < 0.5
+        return test_write(unit, set_index, way, tag, valid, source.randbytes(LINE_BYTES)).number
+    line = test_read(unit, set_index, way)
+    if line.number:
+        check("zeros and an invalid mark", line[1:], (0, False, 0, bytes(LINE_BYTES)))
+    return line.number

@@ -6,12 +6,21 @@ Writing a script holds its tables to the printed ones, line by line.
 from collections import Counter
 
 import replay
+from scripts.script_unit import marks_are_0_or_1
 
 from .unit_calls import check
 
 FILE_LIMIT = 60_000
 TOTAL_LIMIT = 1_500_000
-RANDOM = ("tiny.txt", "hot.txt", "masters.txt", "large.txt", "long.txt", "refused.txt")
+RANDOM = (
+    "tiny.txt",
+    "hot.txt",
+    "masters.txt",
+    "large.txt",
+    "long.txt",
+    "refused.txt",
+    "planted.txt",
+)
 RANDOM_CALLS = 5000
 
 # The numbers of each call, by what it receives.
@@ -24,6 +33,8 @@ NUMBERS = {
     "C": (0, 9),
     "Z": (0,),
     "V": (0, 1, 3, 5, 21, 22, 23),
+    "p": (0, 3, 31, 32),
+    "t": (0, 3, 31, 32),
 }
 CONDITIONS = (
     "read hits",
@@ -35,7 +46,12 @@ CONDITIONS = (
     "wrong parity",
     "views of held lines",
     "views of RAM",
+    "p 0",
+    "reads of bytes RAM never held",
+    "21 after a tag planted twice",
 )
+# Above every number of the papers that a call answers.
+NUMBER_ROOM = 64
 LENGTHS = (15, 16, 17, 24, 32, 2064, 65_536)
 
 
@@ -52,9 +68,21 @@ def replays() -> None:
     for letter, numbers in NUMBERS.items():
         for number in numbers:
             check(f"{letter} {number} met", at_random[f"{letter} {number}"] > 0, True)
-        met = {number for number in range(30) if total[f"{letter} {number}"]}
+        met = {number for number in range(NUMBER_ROOM) if total[f"{letter} {number}"]}
         check(f"numbers of {letter}", met, set(numbers))
     for condition in CONDITIONS:
         check(f"{condition} met", at_random[condition] > 20, True)
+    _marks([line for script in scripts.values() for line in script.lines])
     lengths = {int(line.split()[1]) for s in scripts.values() for line in s.lines if line[0] == "N"}
     check("RAM lengths", lengths >= set(LENGTHS), True)
+
+
+def _marks(lines: list[str]) -> None:
+    """Every mark of the scripts is 0 or 1, and a line with another one would be found."""
+    check("other marks", [line for line in lines if not marks_are_0_or_1(line)], [])
+    sixteen = " 7" * 16
+    for line in ("K 5 2", "M 2 0", "M 0 2", "C 2 0", "C 0 2", "R 0 4 2 1", "r 0 4 2"):
+        check(line, marks_are_0_or_1(line), False)
+    for mark in ("0", "1", "2", "01", "256", "4294967295"):
+        found = marks_are_0_or_1(f"p 4 1 5 {mark}{sixteen}")
+        check(f"p with {mark}", found, mark in ("0", "1"))

@@ -6,10 +6,11 @@ from collections.abc import Callable, Sequence
 from pathlib import Path
 from typing import Any
 
-from unit486_model import access, memory
+from unit486_model import access, diagnostics, memory
 from unit486_model import directory as steps
 from unit486_model.access import Part, Result
 from unit486_model.bus import ANSWERS, DOUBLEWORDS, GROUP, KEN, LOG_WORDS
+from unit486_model.diagnostics import TestLine
 from unit486_model.directory import Directory, line_index
 from unit486_model.events import Unit
 from unit486_model.refusal import DATA_BYTES
@@ -87,6 +88,17 @@ def external(unit: Unit, address: int, written: bytes) -> Result:
 def view(unit: Unit, address: int) -> tuple[int, Part]:
     lent = (unit.directory, unit.ram, unit.data)
     return access.view_number(*lent, address), access.view(*lent, address)
+
+
+def test_write(
+    unit: Unit, set_index: int, way: int, tag: int, valid: bool, sixteen: bytes
+) -> Result:
+    lent = (unit.directory, unit.data)
+    return diagnostics.test_write(*lent, set_index, way, tag, valid, sixteen)
+
+
+def test_read(unit: Unit, set_index: int, way: int) -> TestLine:
+    return diagnostics.test_read(unit.directory, unit.data, set_index, way)
 
 
 def store_line(unit: Unit, set_index: int, way: int, tag: int) -> None:

@@ -33,8 +33,8 @@ class Kind:
     # Whether lines are stored at the start, and whether they may break a set's state.
     stored: bool = False
     ill_formed: bool = False
-    # Whether lengths may be wrong.
-    wrong_lengths: bool = False
+    # The share of units that have wrong lengths.
+    wrong_lengths: float = 0.0
 
 
 KINDS = (
@@ -52,7 +52,16 @@ KINDS = (
         wrong=0.08,
         stored=True,
         ill_formed=True,
-        wrong_lengths=True,
+        wrong_lengths=0.4,
+    ),
+    Kind(
+        "planted",
+        26,
+        36,
+        (4128, 8224),
+        "ppppppttttRRRRRRrrrWWwXSVVFFZC",
+        wrong=0.04,
+        wrong_lengths=0.2,
     ),
 )
 
@@ -78,6 +87,8 @@ class RandomCalls:
             "M": self._mode,
             "Z": self._reset,
             "V": lambda: self.script.view(self._address()),
+            "p": self._test_write,
+            "t": lambda: self.script.test_read(*self._place()),
         }
 
     def made(self) -> Script:
@@ -96,7 +107,7 @@ class RandomCalls:
         ram = self.source.choice(self.kind.ram)
         log = LOG_WORDS + self.source.choice((0, 1, 12))
         lengths = [ram, parity_length(ram), DATA_BYTES, log]
-        if self.kind.wrong_lengths and self.source.chance(0.4):
+        if self.kind.wrong_lengths and self.source.chance(self.kind.wrong_lengths):
             lengths = self._wrong_lengths(lengths)
         # Mostly in the mode that fills, else in any, that which no control call sets too.
         cd, nw = (False, False)
@@ -158,6 +169,13 @@ class RandomCalls:
             return self.source.below(length)
         line = WAY_BYTES * self.source.below(8) + LINE_BYTES * self.hot
         return (line + self.source.between(-4, 2 * LINE_BYTES - 1)) % length
+
+    def _place(self) -> tuple[int, int]:
+        """Set and way of a test call, mostly in the hot sets."""
+        if self._wrong():
+            return self.source.choice(((SETS, 0), (0, WAYS), (2**32 - 1, 2**32 - 1)))
+        sets = (self.hot, self.hot, (self.hot + 1) % SETS, self.source.below(SETS))
+        return self.source.choice(sets), self.source.below(WAYS)
 
     def _width(self) -> int:
         return self.source.choice(BAD_WIDTHS if self._wrong() else WIDTHS)
@@ -222,6 +240,36 @@ class RandomCalls:
             self.script.snoop(address)
         self.script.read(address, width, self._answers())
         self.script.control(False, False)
+
+    def _test_write(self) -> None:
+        """Mostly with CD = 1, for which there is a control call. The planted line is then used at
+        times, or its tag planted once more in another way."""
+        if self.source.chance(0.7):
+            self.script.control(True, self.source.chance(0.3))
+        set_index, way = self._place()
+        tag = self.source.choice((0, 1, 2, 3, TAG_LIMIT))
+        if self._wrong():
+            tag = self.source.choice((TAG_LIMIT + 1, 2**31, 2**32 - 1))
+        self._plant(set_index, way, tag)
+        if self.source.chance(0.3):
+            self._plant(set_index, way ^ 1, tag)
+        address = WAY_BYTES * tag + LINE_BYTES * set_index + self.source.below(LINE_BYTES)
+        if address < len(self.script.unit.ram):
+            self._use_line(address)
+
+    def _plant(self, set_index: int, way: int, tag: int) -> None:
+        sixteen = self.source.bytes_of(LINE_BYTES)
+        self.script.test_write(set_index, way, tag, self.source.chance(0.8), sixteen)
+
+    def _use_line(self, address: int) -> None:
+        """A read of a line, a write and a read, or another master's call."""
+        use = self.source.below(4)
+        if use == 0:
+            self.script.board_write(address, 1, self._value(1))
+        if use < 3:
+            self.script.board_read(address, self.source.choice(WIDTHS))
+        else:
+            self.script.snoop(address)
 
     def _reset(self) -> None:
         self.script.reset()

@@ -1,7 +1,8 @@
 """What the program `replay` does with a script line and prints for it, done on the model.
 
 A line is a letter and its fields, a blank before each. Numbers are decimal. The index of T and K
-is that of a line, set x 4 + way; the index of P is that of a parity byte.
+is that of a line, set x 4 + way; the index of P is that of a parity byte. A mark, pcd, cd and nw
+are 0 or 1.
 
     N ram parity data log seed seed   a new unit: four lengths, the seeds of RAM and data array
     T index tag                       the directory's fields, stored without a call
@@ -19,20 +20,23 @@ is that of a line, set x 4 + way; the index of P is that of a parity byte.
     C cd nw
     Z
     V address                         a line view, with its companion question
+    p set way tag mark byte ..        a test write with its sixteen bytes
+    t set way                         a test read
     B address width                   the board's answers
 
 A row has the letter and fields with a tab before each. A call's fields are number, value, cycle
 count, three words for each record, and the digests of directory, RAM, parity array, data array
 and log. A view's are its number, the length of the part that it shows, the part's bytes as hex
-pairs in one field, and the digests. A new unit's are the digests, those of B the answers as a run
-of digits. The other lines print nothing.
+pairs in one field, and the digests. A test read's are its number, tag, valid mark and LRU number,
+the sixteen bytes as hex pairs in one field, and the digests. A new unit's are the digests, those
+of B the answers as a run of digits. The other lines print nothing.
 """
 
 import struct
 import zlib
 from dataclasses import dataclass
 
-from unit486_model import access, board, memory
+from unit486_model import access, board, diagnostics, memory
 from unit486_model import directory as steps
 from unit486_model.access import Result
 from unit486_model.bus import RECORD_WORDS
@@ -48,6 +52,9 @@ PARITY_ROOM = 65_536
 DATA_ROOM = 65_536
 LOG_ROOM = 128
 FIELD_ROOM = 64
+
+# The fields that are 0 or 1, by their place after the letter.
+ZERO_OR_ONE = {"K": (1,), "M": (0, 1), "R": (2,), "r": (2,), "C": (0, 1), "p": (3,)}
 
 
 def contents(seed: int, length: int) -> bytearray:
@@ -78,6 +85,13 @@ def directory_bytes(directory: Directory) -> bytes:
     return tags + bytes(directory.valid) + bytes(directory.lru) + control_bits
 
 
+def marks_are_0_or_1(line: str) -> bool:
+    """Whether each field that must be 0 or 1 is: programs that read a script may take another
+    number for either."""
+    letter, *fields = line.split(" ")
+    return all(fields[place] in ("0", "1") for place in ZERO_OR_ONE.get(letter, ()))
+
+
 @dataclass
 class ScriptUnit:
     """A unit with its log, on which lines are run."""
@@ -104,6 +118,8 @@ class ScriptUnit:
         self.log = fresh_log(len(self.log))
         if letter == "V":
             return self._view(int(fields[0]))
+        if letter == "t":
+            return self._test_read(*(int(field) for field in fields))
         result = self._call(letter, fields)
         words = self.log[: RECORD_WORDS * result.cycles]
         row = _row(letter, result.number, result.value, result.cycles, *words, *self.digests())
@@ -114,11 +130,11 @@ class ScriptUnit:
         if letter == "T":
             directory.tags[index] = value
         elif letter == "K":
-            directory.valid[index] = bool(value)
+            directory.valid[index] = value == 1
         elif letter == "L":
             directory.lru[index] = value
         elif letter == "M":
-            directory.cd, directory.nw = bool(index), bool(value)
+            directory.cd, directory.nw = index == 1, value == 1
         else:
             self.unit.parity[index] ^= value
 
@@ -134,7 +150,11 @@ class ScriptUnit:
         if letter == "F":
             return access.flush(self.unit.directory)
         if letter == "C":
-            return access.control(self.unit.directory, bool(numbers[0]), bool(numbers[1]))
+            return access.control(self.unit.directory, numbers[0] == 1, numbers[1] == 1)
+        if letter == "p":
+            set_index, way, tag, mark, *sixteen = numbers
+            lent = (self.unit.directory, self.unit.data)
+            return diagnostics.test_write(*lent, set_index, way, tag, mark == 1, bytes(sixteen))
         assert letter == "Z", letter
         result, self.unit.directory = access.reset()
         return result
@@ -146,6 +166,11 @@ class ScriptUnit:
         shown = access.part_bytes(access.view(*lent, address), self.unit.ram, self.unit.data)
         return Result(number), _row("V", number, len(shown), shown.hex(), *self.digests())
 
+    def _test_read(self, set_index: int, way: int) -> tuple[Result, str]:
+        line = diagnostics.test_read(self.unit.directory, self.unit.data, set_index, way)
+        fields = (line.number, line.tag, int(line.valid), line.lru, line.sixteen.hex())
+        return Result(line.number), _row("t", *fields, *self.digests())
+
     def _access(
         self, letter: str, address: int, width: int, third: int, given: list[str]
     ) -> Result:
@@ -156,7 +181,7 @@ class ScriptUnit:
         if letter in "rw":
             answers = board.answers(address, width)
         if letter in "Rr":
-            return access.read(*lent, bool(third), answers, self.log)
+            return access.read(*lent, third == 1, answers, self.log)
         return access.write(*lent, third, answers, self.log)
 
 

@@ -6,6 +6,7 @@ from collections.abc import Sequence
 from unit486_model import directory as steps
 from unit486_model.access import Result
 from unit486_model.bus import FILL, LAST, LOG_WORDS, WRONG
+from unit486_model.diagnostics import TestLine
 from unit486_model.directory import Directory, line_index
 from unit486_model.events import Unit
 from unit486_model.memory import parity_length
@@ -13,6 +14,7 @@ from unit486_model.refusal import DATA_BYTES
 
 from checks.unit_calls import ALL_KEN, valid_and_tags
 
+from .planted_lines import PlantedLines
 from .script_unit import (
     DATA_ROOM,
     FIELD_ROOM,
@@ -25,6 +27,9 @@ from .script_unit import (
 
 RAM_BYTES = 4096
 
+# Accesses with the board's answers count as those with answers of their own.
+COUNTED_AS = {"r": "R", "w": "W"}
+
 
 class Script:
     """Lines, the rows that they print, and a count of what the calls met."""
@@ -35,6 +40,7 @@ class Script:
         self.rows: list[str] = []
         self.met: Counter[str] = Counter()
         self._script_unit: ScriptUnit | None = None
+        self._planted_lines = PlantedLines()
 
     @property
     def script_unit(self) -> ScriptUnit:
@@ -76,6 +82,7 @@ class Script:
         seed = 2 * len(self.lines) + 1
         line = f"N {ram} {parity} {data} {log} {seed} {seed + 1}"
         self._script_unit, row = new_script_unit(line)
+        self._planted_lines = PlantedLines(bytes(self.unit.ram))
         self.lines.append(line)
         self.rows.append(row)
         if cd is not None:
@@ -151,6 +158,17 @@ class Script:
         self.met["views of held lines" if held else "views of RAM"] += int(number) == 0
         return int(number), bytes.fromhex(shown)
 
+    def test_write(
+        self, set_index: int, way: int, tag: int, valid: bool, sixteen: bytes
+    ) -> Result:
+        return self._call(_fields("p", set_index, way, tag, int(valid), *sixteen))
+
+    def test_read(self, set_index: int, way: int) -> TestLine:
+        """A test read: what it answers, as it is printed."""
+        self._call(_fields("t", set_index, way))
+        _, number, tag, mark, lru, sixteen, *_ = self.rows[-1].split("\t")
+        return TestLine(int(number), int(tag), mark == "1", int(lru), bytes.fromhex(sixteen))
+
     def board(self, address: int, width: int) -> str:
         """Ask for the board's answers; the field that is printed."""
         line = _fields("B", address, width)
@@ -163,6 +181,7 @@ class Script:
         before = valid_and_tags(self.directory)
         result, row = self.script_unit.run_line(line)
         assert result is not None, line
+        self.met += self._planted_lines.after_call(self.unit, line, result)
         self.lines.append(line)
         self.rows.append(row)
         self._count(line[0], result, before, valid_and_tags(self.directory))
@@ -177,14 +196,14 @@ class Script:
     ) -> None:
         met, flags = self.met, [record.flags for record in result.records]
         met["calls"] += 1
-        met[f"{letter.upper()} {result.number}"] += 1
+        met[f"{COUNTED_AS.get(letter, letter)} {result.number}"] += 1
         if result.number == 0 and result.cycles == 0 and letter in "RrWw":
             met["read hits" if letter in "Rr" else "writes inside"] += 1
         fills = sum(1 for flag in flags if flag & FILL and flag & LAST)
         kept = sum(old != new for old, new in zip(before, after)) if letter in "Rr" else 0
         met["fills kept"] += kept
         met["fills dropped"] += fills - kept
-        met["lines replaced"] += sum(
+        met["lines replaced"] += letter != "p" and sum(
             old != new and old[0] and new[0] for old, new in zip(before, after)
         )
         met["lines snooped"] += letter in "SX" and before != after

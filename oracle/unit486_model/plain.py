@@ -2,7 +2,8 @@
 
 "It is fed the calls' arguments except directory, RAM, parity and data array." Of the log it
 needs the length only. "a call meeting 4 to 10 does nothing and answers that number. Any
-other call answers 0."
+other call answers 0." Test calls are not fed to it: "the results of test calls are not compared"
+(C-11).
 """
 
 from collections.abc import Sequence
@@ -66,3 +67,24 @@ class PlainMemory:
     def reset(self) -> int:
         """Rule: "snoop, flush, control and reset do nothing"."""
         return 0
+
+
+@dataclass
+class Comparison:
+    """Which calls of a list are compared, and with what. Rule (C-11): "a list of calls matches the
+    plain memory up to its first accepted test write"."""
+
+    plain: PlainMemory
+    compared: bool = True
+
+    def after_test_write(self, number: int) -> None:
+        """An accepted one ends the stretch, with an invalid mark too; a refused one does not."""
+        if number == 0:
+            self.compared = False
+
+    def before_flush_or_reset(self, ram: bytearray) -> None:
+        """Rule (C-11): "From the next flush or reset on it matches a plain memory begun anew from
+        RAM as it then is, up to another test write". That flush or reset is compared."""
+        if not self.compared:
+            self.plain = PlainMemory(bytearray(ram))
+            self.compared = True

@@ -7,7 +7,7 @@ receives with `or`, which keeps "Lowest number first, this list before the next"
 from collections.abc import Sequence
 
 from .bus import ANSWER_LIMIT, ANSWERS, LOG_WORDS, WIDTHS
-from .directory import LINE_BYTES, LINES, Directory, state_number
+from .directory import LINE_BYTES, LINES, SETS, TAG_LIMIT, WAYS, Directory, state_number
 from .memory import RAM_LEAST, RAM_MOST, RAM_STEP, parity_length
 
 DATA_BYTES = LINES * LINE_BYTES
@@ -67,6 +67,22 @@ def external_number(ram: int, address: int, count: int) -> int:
     if address % LINE_BYTES + count > LINE_BYTES:
         return 10
     return 10 if address + count > ram else 0
+
+
+def cd_number(cd: bool) -> int:
+    """Rule (C-11): "Both work only with CD = 1 ... 31 where CD = 0, after 3", whatever NW is."""
+    return 0 if cd else 31
+
+
+def test_place_number(set_index: int, way: int, tag: int = 0) -> int:
+    """Rule (C-11): "32 where the set is above 127, the way above 3 or the tag above 2,097,151,
+    after 31". A test read is given no tag."""
+    return 32 if set_index >= SETS or way >= WAYS or tag > TAG_LIMIT else 0
+
+
+def test_number(data: int, cd: bool, set_index: int, way: int, tag: int = 0) -> int:
+    """The numbers of both test calls, in C-11's order: 3, 31, 32."""
+    return data_number(data) or cd_number(cd) or test_place_number(set_index, way, tag)
 
 
 def states_number(directory: Directory, sets: list[int]) -> int:

@@ -1,8 +1,9 @@
-// Lines on a unit: calls and views, each with its row, and the board's answers.
+// Lines on a unit: calls, views and test calls, each with its row, and the board's answers.
 ghost use Rattle.io.specs.Counts.{Counts};
 use crate::print::board_row;
 use crate::print::call_row;
 use crate::print::end_with_digests;
+use crate::print::test_fields;
 use crate::print::view_fields;
 use crate::script::bytes;
 use crate::script::digits;
@@ -38,6 +39,8 @@ pub fn run_line(
         b'X' => external_line(line, d, ram, parity, data, log),
         b'S' | b'F' | b'C' | b'Z' => directory_line(line, d, ram, parity, data, log),
         b'V' => view_line(line, d, ram, parity, data, log),
+        b'p' => test_write_line(line, d, ram, parity, data, log),
+        b't' => test_read_line(line, d, ram, parity, data, log),
         b'B' => {
             board_line(line);
             d
@@ -203,6 +206,48 @@ fn view_answer<'a>(
     let number = views::view_number(tags, valid, lru, ram, data, address);
     let shown = views::view(tags, valid, lru, ram, data, address);
     view_fields(number, shown);
+}
+
+fn test_write_line(
+    line: &[u8],
+    d: Directory,
+    ram: &[u8],
+    parity: &[u8],
+    data: &mut [u8],
+    log: &[u32],
+) -> Directory {
+    let set = number(line, 1);
+    let way = number(line, set.next);
+    let tag = number(line, way.next);
+    let mark = number(line, tag.next);
+    let mut sixteen = [0u8; 16];
+    bytes(line, mark.next, &mut sixteen);
+    let done = diagnostics::test_write(
+        d,
+        data,
+        set.value,
+        way.value,
+        tag.value,
+        mark.value == 1,
+        sixteen,
+    );
+    call_row(b'p', done, ram, parity, data, log)
+}
+
+fn test_read_line(
+    line: &[u8],
+    d: Directory,
+    ram: &[u8],
+    parity: &[u8],
+    data: &[u8],
+    log: &[u32],
+) -> Directory {
+    let set = number(line, 1);
+    let way = number(line, set.next);
+    let done = diagnostics::test_read(d, data, set.value, way.value);
+    test_fields(done.line);
+    end_with_digests(done.directory, ram, parity, data, log);
+    done.directory
 }
 
 // Of S, F, C and Z.

@@ -1,4 +1,4 @@
-// Runs the call scripts that its arguments name on the calls by value and on line views, and prints after each call all
+// Runs the call scripts that its arguments name on the calls by value, line views and test calls, and prints after each call all
 // that it answers and a digest of each thing that it is lent. oracle/scripts/script_unit.py says what lines and rows are; the
 // oracle's model makes the scripts (../data, ../args) and the rows that are expected (../stdout), by oracle/expectations.py --write.
 mod calls;

@@ -1,6 +1,7 @@
 // Rows on standard output. A row is a label, fields with a tab before each, and a newline.
 use crate::digest::Adler;
 use board::ANSWERS;
+use diagnostics::TestLine;
 use directory::Directory;
 use directory::Outcome;
 use libc::STDOUT_FILENO;
@@ -50,6 +51,17 @@ pub fn view_fields(view_number: u32, shown: &[u8]) {
     number(shown.len() as u64);
     label(b"\t");
     pairs(shown);
+}
+
+// Number, tag, valid mark and LRU number of a test read, and its sixteen bytes, which are one field.
+pub fn test_fields(line: TestLine) {
+    label(b"t");
+    number(line.number as u64);
+    number(line.tag as u64);
+    number(if line.valid { 1 } else { 0 });
+    number(line.lru as u64);
+    label(b"\t");
+    pairs(&line.bytes);
 }
 
 // Two hexadecimal digits for each byte.
