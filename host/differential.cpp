@@ -38,10 +38,12 @@ int main(int argc, char **argv)
     Coverage coverage;
     Series series(seed, coverage);
     series.large(200);
+    series.test_limits();
     while (coverage.calls < calls) {
         series.hot(3000);
         series.refused(1500);
-        series.events(60);
+        series.planted(1000);
+        series.events(100);
     }
     const bool met = coverage.report();
     std::printf("%" PRIu64 " calls, seed %" PRIu64 ": no difference\n", coverage.calls, seed);

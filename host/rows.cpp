@@ -73,11 +73,17 @@ std::vector<uint32_t> fresh_log(size_t words)
 // How many fields a letter has, at least and at most. R and W may come with no answers.
 const std::map<char, std::pair<size_t, size_t>> field_counts{{'N', {6, 6}}, {'T', {2, 2}}, {'K', {2, 2}},
     {'L', {2, 2}}, {'M', {2, 2}}, {'P', {2, 2}}, {'R', {3, 4}}, {'W', {3, 4}}, {'r', {3, 3}}, {'w', {3, 3}},
-    {'X', {1, 65}}, {'S', {1, 1}}, {'F', {0, 0}}, {'C', {2, 2}}, {'Z', {0, 0}}, {'V', {1, 1}}, {'B', {2, 2}}};
+    {'X', {1, 65}}, {'S', {1, 1}}, {'F', {0, 0}}, {'C', {2, 2}}, {'Z', {0, 0}}, {'V', {1, 1}}, {'B', {2, 2}},
+    {'p', {20, 20}}, {'t', {2, 2}}};
 
 bool is_digits(const std::string &field) { return field.find_first_not_of("0123456789") == field.npos; }
 
-// A letter and its fields, which are digits.
+bool is_number(const std::string &field)
+{
+    return is_digits(field) && field.size() <= 10 && std::strtoull(field.c_str(), nullptr, 10) <= UINT32_MAX;
+}
+
+// A letter and its fields: numbers, but for the answers of R and W, which are a run of digits.
 bool has_form(const std::string &text)
 {
     std::istringstream line(text);
@@ -86,8 +92,10 @@ bool has_form(const std::string &text)
         return false;
     const auto found = field_counts.find(text[0]);
     const size_t fields = words.size() - 1;
+    const bool answers = fields == 4 && (text[0] == 'R' || text[0] == 'W');
     return found != field_counts.end() && fields >= found->second.first && fields <= found->second.second &&
-           std::all_of(words.begin() + 1, words.end(), is_digits);
+           std::all_of(words.begin() + 1, words.end() - answers, is_number) &&
+           (!answers || is_digits(words.back()));
 }
 
 // A unit with its log, on which the lines of a script are run.
@@ -182,6 +190,13 @@ struct ScriptUnit {
             return {
                 baseline::external_write(directory, buffers, fields[0], bytes.data(), bytes.size()), 0, 0};
         }
+        case 'p': {
+            const Bytes bytes(fields.begin() + 4, fields.end());
+            unit486_buffers buffers = lent();
+            return {baseline::test_write(
+                        directory, buffers, fields[0], fields[1], fields[2], fields[3] == 1, bytes.data()),
+                0, 0};
+        }
         case 'S': return {baseline::snoop(directory, fields[0]), 0, 0};
         case 'C': return {baseline::control(directory, fields[0] != 0, fields[1] != 0), 0, 0};
         case 'F': baseline::flush(directory); return {UNIT486_DONE, 0, 0};
@@ -199,6 +214,17 @@ struct ScriptUnit {
         std::printf("V\t%" PRIu32 "\t%zu\t", number, length);
         for (size_t k = 0; k < length; ++k)
             std::printf("%02x", shown[k]);
+        print_digests();
+    }
+
+    void print_test_read(std::istringstream &line)
+    {
+        uint32_t set = 0, way = 0;
+        line >> set >> way;
+        const unit486_test_line read = baseline::test_read(directory, lent(), set, way);
+        std::printf("t\t%" PRIu32 "\t%" PRIu32 "\t%d\t%d\t", read.number, read.tag, read.valid, read.lru);
+        for (const uint8_t byte : read.bytes)
+            std::printf("%02x", byte);
         print_digests();
     }
 
@@ -224,6 +250,8 @@ struct ScriptUnit {
             log = fresh_log(log.size());
         if (letter == 'V')
             return print_view(line);
+        if (letter == 't')
+            return print_test_read(line);
         if (letter != 'N')
             return print_call(letter, line);
         start(line);

@@ -9,7 +9,7 @@ using Directory = unit486_directory;
 
 constexpr unsigned ways = UNIT486_WAYS;
 constexpr unsigned no_way = ways;
-constexpr uint32_t tag_limit = 2097151;
+constexpr uint32_t tag_limit = UNIT486_TAG_MOST;
 constexpr uint8_t lru_limit = 7;
 
 // "tag = address / 2048, set = (address / 16) mod 128, byte = address mod 16"

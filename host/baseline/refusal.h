@@ -83,4 +83,16 @@ inline uint32_t view_input_number(const unit486_buffers &lent, uint32_t address)
     return address < lent.ram_length ? UNIT486_DONE : UNIT486_BEYOND_RAM;
 }
 
+// 3, 31, 32. Document 02: "31 where CD = 0, after 3; 32 where the set is above 127, the way above 3 or the
+// tag above 2,097,151, after 31". A test read has no tag, and asks with 0.
+inline uint32_t test_number(const unit486_buffers &lent, bool cd, uint32_t set, uint32_t way, uint32_t tag)
+{
+    if (lent.data_length != UNIT486_DATA_BYTES)
+        return UNIT486_WRONG_DATA_LENGTH;
+    if (!cd)
+        return UNIT486_TEST_WITH_CD_0;
+    const bool good = set < UNIT486_SETS && way < UNIT486_WAYS && tag <= UNIT486_TAG_MOST;
+    return good ? UNIT486_DONE : UNIT486_WRONG_TEST_LINE;
+}
+
 } // namespace baseline

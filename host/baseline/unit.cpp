@@ -181,6 +181,38 @@ uint32_t view(const Directory &directory, const unit486_buffers &lent, uint32_t 
     return UNIT486_DONE;
 }
 
+// Document 02: "a test write, which puts a tag, a valid mark and sixteen bytes in a given set and way".
+// It is no use.
+uint32_t test_write(Directory &directory, unit486_buffers &lent, uint32_t set, uint32_t way, uint32_t tag,
+    bool mark, const uint8_t *bytes)
+{
+    const uint32_t number = test_number(lent, directory.cd, set, way, tag);
+    if (number != UNIT486_DONE)
+        return number;
+    const unsigned index = line_index(set, way);
+    directory.tags[index] = tag;
+    directory.valid[index] = mark;
+    std::memcpy(lent.data + data_offset(index, 0), bytes, UNIT486_LINE_BYTES);
+    return UNIT486_DONE;
+}
+
+// "and a test read, which returns them with the set's LRU number"; "A refused test read gives zeros and an
+// invalid mark."
+unit486_test_line test_read(
+    const Directory &directory, const unit486_buffers &lent, uint32_t set, uint32_t way)
+{
+    unit486_test_line line{};
+    line.number = test_number(lent, directory.cd, set, way, 0);
+    if (line.number != UNIT486_DONE)
+        return line;
+    const unsigned index = line_index(set, way);
+    line.tag = directory.tags[index];
+    line.valid = directory.valid[index];
+    line.lru = directory.lru[set];
+    std::memcpy(line.bytes, lent.data + data_offset(index, 0), UNIT486_LINE_BYTES);
+    return line;
+}
+
 // "The block is (address / 1,048,576) mod 16."
 static uint8_t answer_at(uint64_t address)
 {

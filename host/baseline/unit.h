@@ -1,4 +1,4 @@
-// The unit in plain C++, written from document 01 for speed: what the library is compared with and
+// The unit in plain C++, written from documents 01 and 02 for speed: what the library is compared with and
 // measured against. It changes the directory and the buffers in place, by the same rules and numbers.
 #pragma once
 
@@ -21,6 +21,11 @@ uint32_t external_write(
 
 uint32_t view_number(const Directory &directory, const unit486_buffers &lent, uint32_t address);
 uint32_t view(const Directory &directory, const unit486_buffers &lent, uint32_t address, uint8_t *shown);
+
+uint32_t test_write(Directory &directory, unit486_buffers &lent, uint32_t set, uint32_t way, uint32_t tag,
+    bool mark, const uint8_t *bytes);
+unit486_test_line test_read(
+    const Directory &directory, const unit486_buffers &lent, uint32_t set, uint32_t way);
 
 void board_answers(uint32_t address, uint32_t width, uint8_t *answers);
 

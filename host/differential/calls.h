@@ -20,14 +20,17 @@ enum class Kind {
     write,
     view,
     view_number,
+    test_write,
+    test_read,
     board_answers,
     run,
 };
 
-constexpr size_t kinds = 14;
+constexpr size_t kinds = 16;
 
 constexpr const char *kind_names[kinds] = {"reset", "reset_by_value", "control", "control_by_value", "flush",
-    "snoop", "drop_line", "external_write", "read", "write", "view", "view_number", "board_answers", "run"};
+    "snoop", "drop_line", "external_write", "read", "write", "view", "view_number", "test_write", "test_read",
+    "board_answers", "run"};
 
 // The arguments that are not lent; each call takes those that it receives.
 struct Call {
@@ -38,7 +41,16 @@ struct Call {
     bool pcd = false;
     bool cd = false;
     bool nw = false;
+    uint32_t set = 0; // of a test call, as the next three
+    uint32_t way = 0;
+    uint32_t tag = 0;
+    bool mark = false;
 };
+
+inline bool is_test(const Call &call)
+{
+    return call.kind == Kind::test_write || call.kind == Kind::test_read;
+}
 
 // The result of a call that answers a number alone.
 inline unit486_result number_only(uint32_t number) { return {number, 0, 0}; }
@@ -74,6 +86,12 @@ inline unit486_result call_library(Side &side, const Call &call)
             side.answers.length, side.log.start(), side.log.length);
     case Kind::view: return number_only(unit486_view(directory, &lent, call.address, side.shown.start()));
     case Kind::view_number: return number_only(unit486_view_number(directory, &lent, call.address));
+    case Kind::test_write:
+        return number_only(unit486_test_write(
+            directory, &lent, call.set, call.way, call.tag, call.mark, side.bytes.start()));
+    case Kind::test_read:
+        side.line = unit486_test_read(directory, &lent, call.set, call.way);
+        return number_only(side.line.number);
     default:
         unit486_board_answers(call.address, call.width, side.answers.start());
         return number_only(UNIT486_DONE);
@@ -103,6 +121,12 @@ inline unit486_result call_baseline(Side &side, const Call &call)
             side.answers.length, side.log.start(), side.log.length);
     case Kind::view: return number_only(baseline::view(directory, lent, call.address, side.shown.start()));
     case Kind::view_number: return number_only(baseline::view_number(directory, lent, call.address));
+    case Kind::test_write:
+        return number_only(baseline::test_write(
+            directory, lent, call.set, call.way, call.tag, call.mark, side.bytes.start()));
+    case Kind::test_read:
+        side.line = baseline::test_read(directory, lent, call.set, call.way);
+        return number_only(side.line.number);
     default:
         baseline::board_answers(call.address, call.width, side.answers.start());
         return number_only(UNIT486_DONE);
@@ -125,10 +149,12 @@ inline void print_call(const Call &call, const Side &side)
                 ", PCD %d, CD %d, NW %d\n",
         kind_names[static_cast<size_t>(call.kind)], call.address, call.address, call.width, call.value,
         call.pcd, call.cd, call.nw);
+    std::printf("  set %" PRIu32 ", way %" PRIu32 ", tag %" PRIu32 ", valid mark %d\n", call.set, call.way,
+        call.tag, call.mark);
     std::printf("  RAM %zu bytes, parity %zu, data array %zu, log %zu words\n", side.ram.length,
         side.parity.length, side.data.length, side.log.length);
     print_bytes("answers", side.answers);
-    print_bytes("bytes of an external write", side.bytes);
+    print_bytes("bytes of an external write or a test write", side.bytes);
 }
 
 // Which call differed, and where.

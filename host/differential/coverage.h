@@ -1,10 +1,12 @@
 // What the calls met, so that a test which met too little fails.
 #pragma once
 
+#include <algorithm>
 #include <cinttypes>
 #include <cstdio>
 
 #include "calls.h"
+#include "planted.h"
 
 enum Condition {
     read_hit,
@@ -31,6 +33,21 @@ enum Condition {
     view_of_held_line,
     view_of_ram,
     access_under_cd_0_nw_1,
+    test_write_of_valid_line,
+    test_write_of_invalid_line,
+    test_write_over_valid_line,
+    test_write_in_ill_formed_set,
+    tag_planted_twice,
+    test_read_of_planted_line,
+    test_read_of_invalid_line,
+    test_read_of_ill_formed_set,
+    read_of_planted_line,
+    write_of_planted_line,
+    view_of_planted_line,
+    snoop_dropped_planted_line,
+    external_write_dropped_planted_line,
+    flush_of_planted_lines,
+    refused_by_planted_tag,
     run_whole_output,
     run_output_cut,
     run_without_last_newline,
@@ -62,20 +79,36 @@ constexpr const char *condition_names[conditions] = {
     "views of a held line",
     "views of RAM",
     "accesses with CD = 0 and NW = 1",
+    "test writes of a valid line",
+    "test writes of an invalid line",
+    "test writes in place of a valid line",
+    "test writes in a set that 21 to 23 refuse",
+    "test writes of a tag that another line of the set has",
+    "test reads of a planted line",
+    "test reads of an invalid line",
+    "test reads of a set that 21 to 23 refuse",
+    "reads that hit a planted line",
+    "writes that hit a planted line",
+    "views of a planted line",
+    "snoops that dropped a planted line",
+    "external writes that dropped a planted line",
+    "flushes and resets of planted lines",
+    "calls that a tag planted twice refused (21)",
     "runs with their whole output",
     "runs whose output was cut",
     "runs without a last newline",
 };
 
 // The numbers that each kind of call can answer; of run, those of its rows.
-constexpr uint32_t bits_of() { return 0; }
-template <class... More> constexpr uint32_t bits_of(int number, More... more)
+constexpr uint64_t bits_of() { return 0; }
+template <class... More> constexpr uint64_t bits_of(int number, More... more)
 {
-    return 1u << number | bits_of(more...);
+    return uint64_t{1} << number | bits_of(more...);
 }
 
-constexpr uint32_t state_bits = bits_of(21, 22, 23);
-constexpr uint32_t possible_numbers[kinds] = {
+constexpr uint32_t numbers_counted = 64; // the last stands for all from there on, and is never possible
+constexpr uint64_t state_bits = bits_of(21, 22, 23);
+constexpr uint64_t possible_numbers[kinds] = {
     bits_of(0),
     bits_of(0),
     bits_of(0, 9),
@@ -88,6 +121,8 @@ constexpr uint32_t possible_numbers[kinds] = {
     bits_of(0, 1, 2, 3, 4, 5, 6, 7, 8) | state_bits,
     bits_of(0, 1, 3, 5) | state_bits,
     bits_of(0, 1, 3, 5) | state_bits,
+    bits_of(0, 3, 31, 32),
+    bits_of(0, 3, 31, 32),
     bits_of(0),
     bits_of(0, 4, 5, 8, 9, 10, 11, 12),
 };
@@ -103,12 +138,13 @@ inline bool is_held(const unit486_directory &directory, uint32_t address)
 class Coverage {
 public:
     uint64_t calls = 0;
+    Planted planted;
 
     void note(Condition condition, uint64_t times = 1) { met[condition] += times; }
 
     void note_number(Kind kind, uint32_t number)
     {
-        ++numbers[static_cast<size_t>(kind)][number < 32 ? number : 31];
+        ++numbers[static_cast<size_t>(kind)][std::min(number, numbers_counted - 1)];
     }
 
     // A call that both sides answered alike: the directory before it, and the side after it.
@@ -116,6 +152,9 @@ public:
         const unit486_directory &before, const Call &call, const unit486_result &result, const Side &side)
     {
         note_number(call.kind, result.number);
+        // The address's set is looked at first: where it has a tag twice, 21 is its number.
+        if (result.number == UNIT486_TWO_OF_ONE_TAG && planted.has_tag_twice(before, call.address))
+            note(refused_by_planted_tag);
         if (result.number != UNIT486_DONE)
             return;
         const bool held = is_held(before, call.address);
@@ -129,6 +168,11 @@ public:
             note(before.nw ? external_write_kept_line_by_nw : external_write_dropped_line);
         else if (call.kind == Kind::view)
             note(held ? view_of_held_line : view_of_ram);
+        if (is_test(call))
+            note_test(before, call);
+        else
+            note_planted(before, call);
+        planted.follow(before, call, side.directory);
     }
 
     // Prints the counts; whether all that can be met was met.
@@ -138,7 +182,7 @@ public:
         std::printf("%-16s number: how often\n", "call");
         for (size_t kind = 0; kind < kinds; ++kind) {
             std::printf("%-16s", kind_names[kind]);
-            for (uint32_t number = 0; number < 32; ++number)
+            for (uint32_t number = 0; number < numbers_counted; ++number)
                 good = report_number(kind, number) && good;
             std::printf("\n");
         }
@@ -150,7 +194,7 @@ public:
     }
 
 private:
-    uint64_t numbers[kinds][32] = {};
+    uint64_t numbers[kinds][numbers_counted] = {};
     uint64_t met[conditions] = {};
 
     bool report_number(size_t kind, uint32_t number) const
@@ -162,6 +206,40 @@ private:
         else if (possible)
             std::printf(" %" PRIu32 ": NEVER MET", number);
         return possible == (count != 0);
+    }
+
+    void note_test(const unit486_directory &before, const Call &call)
+    {
+        const unsigned index = baseline::line_index(call.set, call.way);
+        const bool ill_formed = baseline::state_number(before, call.set) != UNIT486_DONE;
+        if (call.kind == Kind::test_read) {
+            note(test_read_of_planted_line, planted.at(index));
+            note(test_read_of_invalid_line, !before.valid[index]);
+            note(test_read_of_ill_formed_set, ill_formed);
+            return;
+        }
+        note(call.mark ? test_write_of_valid_line : test_write_of_invalid_line);
+        note(test_write_over_valid_line, before.valid[index]);
+        note(test_write_in_ill_formed_set, ill_formed);
+        note(tag_planted_twice, call.mark && another_has_tag(before, call.set, call.way, call.tag));
+    }
+
+    // Any other accepted call where it meets what was planted.
+    void note_planted(const unit486_directory &before, const Call &call)
+    {
+        const bool held = planted.holds(before, call.address);
+        switch (call.kind) {
+        case Kind::read: note(read_of_planted_line, held); break;
+        case Kind::write: note(write_of_planted_line, held); break;
+        case Kind::view: note(view_of_planted_line, held); break;
+        case Kind::snoop:
+        case Kind::drop_line: note(snoop_dropped_planted_line, held && !before.nw); break;
+        case Kind::external_write: note(external_write_dropped_planted_line, held && !before.nw); break;
+        case Kind::flush:
+        case Kind::reset:
+        case Kind::reset_by_value: note(flush_of_planted_lines, planted.any()); break;
+        default: break;
+        }
     }
 
     // The groups of cycles that records form, each ended by its flag 64.

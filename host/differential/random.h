@@ -1,6 +1,8 @@
 // A seeded generator: the same seed gives the same sequence.
 #pragma once
 
+#include <array>
+#include <cstddef>
 #include <cstdint>
 #include <initializer_list>
 
@@ -30,6 +32,11 @@ public:
     template <class T> T pick(std::initializer_list<T> list)
     {
         return list.begin()[below(static_cast<uint32_t>(list.size()))];
+    }
+
+    template <class T, size_t count> T pick(const std::array<T, count> &list)
+    {
+        return list[below(static_cast<uint32_t>(count))];
     }
 
 private:

@@ -2,6 +2,7 @@
 #pragma once
 
 #include <algorithm>
+#include <array>
 #include <cstdlib>
 #include <string>
 #include <utility>
@@ -22,16 +23,12 @@ public:
         name = "hot";
         make_sides(random.percent(20) ? random.between(1, 128) * 16 : random.between(256, 2048) * 16);
         choose_sets();
-        enable_cache();
+        set_control(false, false);
         quiet = random.percent(40);
         for (uint32_t k = 0; k < calls; ++k) {
             if (random.percent(5))
                 add_fault();
-            const Call call = next_call();
-            restore_lengths();
-            if (random.percent(3))
-                lend_wrong_lengths();
-            check(random.percent(4) ? with_wrong_argument(call) : call);
+            check_mostly_good(next_call());
         }
     }
 
@@ -60,7 +57,7 @@ public:
         name = "large";
         make_sides(UNIT486_RAM_MOST);
         sets[0] = 127, sets[1] = 0, sets[2] = 1;
-        enable_cache();
+        set_control(false, false);
         quiet = false;
         for (uint32_t k = 0; k < calls; ++k) {
             const Call call = next_call();
@@ -71,6 +68,45 @@ public:
                 lend_lengths(ram_length - 16, parity_length - 4);
             check(call);
         }
+    }
+
+    // A diagnostic disk: lines planted and read back with CD = 1, then calls that meet them, then a flush or
+    // a reset.
+    void planted(uint32_t calls)
+    {
+        name = "planted";
+        make_sides(random.between(256, 2048) * 16);
+        choose_sets();
+        quiet = random.percent(50);
+        for (const uint64_t end = coverage.calls + calls; coverage.calls < end;) {
+            set_control(true, random.percent(50));
+            for (uint32_t k = random.between(1, 12); k > 0; --k)
+                plant_and_read_back();
+            if (random.percent(60))
+                set_control(false, false);
+            for (uint32_t k = random.between(5, 40); k > 0; --k)
+                check_mostly_good(next_call());
+            check_mostly_good(next_call(random.percent(50) ? Kind::flush : Kind::reset));
+        }
+    }
+
+    // Test calls on either side of every limit, in every combination, so that each number is met alone and
+    // before those that come after it. The directory is ill formed in some sets.
+    void test_limits()
+    {
+        name = "test limits";
+        make_sides(2048);
+        for (uint32_t set = 0; set < UNIT486_SETS; ++set)
+            make_set(random.below(8) * 2048 + set * 16);
+        restore_lengths();
+        for (const size_t data : {0u, 8191u, 8192u, 8193u, 8208u})
+            for (const bool cd : {false, true}) {
+                sides.both([&](Side &side) { side.data.length = data, side.directory.cd = cd; });
+                for (const uint32_t set : around_limit(UNIT486_SETS - 1))
+                    for (const uint32_t way : around_limit(UNIT486_WAYS - 1))
+                        for (const uint32_t tag : around_limit(UNIT486_TAG_MOST))
+                            check_test_calls(set, way, tag);
+            }
     }
 
     // The event program on random lines.
@@ -113,6 +149,7 @@ private:
         }
         baseline::reset(side.directory);
         sides.library = sides.baseline;
+        coverage.planted.forget();
     }
 
     // Most series cross from the last set into the first.
@@ -123,10 +160,11 @@ private:
         sets[2] = random.below(128);
     }
 
-    void enable_cache()
+    void set_control(bool cd, bool nw)
     {
         Call call;
         call.kind = Kind::control;
+        call.cd = cd, call.nw = nw;
         restore_lengths();
         check(call);
     }
@@ -172,6 +210,7 @@ private:
             std::memcpy(side.directory.valid + first, valid, sizeof valid);
             side.directory.lru[first / 4] = lru;
         });
+        coverage.planted.forget_set(first / 4);
     }
 
     // A fault, or what only looks like one: a stale tag.
@@ -248,9 +287,10 @@ private:
         const struct {
             uint32_t below;
             Kind kind;
-        } table[] = {{440, Kind::read}, {680, Kind::write}, {770, Kind::external_write}, {830, Kind::snoop},
-            {880, Kind::drop_line}, {920, Kind::view}, {940, Kind::view_number}, {955, Kind::board_answers},
-            {975, Kind::control}, {985, Kind::control_by_value}, {992, Kind::flush}, {997, Kind::reset},
+        } table[] = {{410, Kind::read}, {640, Kind::write}, {660, Kind::test_write}, {680, Kind::test_read},
+            {770, Kind::external_write}, {830, Kind::snoop}, {880, Kind::drop_line}, {920, Kind::view},
+            {940, Kind::view_number}, {955, Kind::board_answers}, {975, Kind::control},
+            {985, Kind::control_by_value}, {992, Kind::flush}, {997, Kind::reset},
             {1000, Kind::reset_by_value}};
         size_t k = 0;
         while (roll >= table[k].below)
@@ -259,10 +299,12 @@ private:
         return quiet && ends_lines && random.percent(90) ? Kind::read : table[k].kind;
     }
 
-    Call next_call()
+    Call next_call() { return next_call(kind()); }
+
+    Call next_call(Kind kind)
     {
         Call call;
-        call.kind = kind();
+        call.kind = kind;
         call.address = address();
         call.width = random.pick({1u, 2u, 4u, 4u});
         call.value = call.width == 4 ? random.word() : random.below(1u << 8 * call.width);
@@ -274,13 +316,43 @@ private:
             call.address = random.below(4097) * 1048576 + random.below(8) - 4;
             call.width = random.pick({0u, 1u, 2u, 3u, 4u, 5u, 8u, UINT32_MAX});
         }
+        choose_line(call);
         lend_contents(call);
+        return call;
+    }
+
+    // The line of a test call: most of the time the one that holds the address, if one does, since a tag
+    // that is held twice has the other calls on its set refused.
+    void choose_line(Call &call)
+    {
+        const unsigned held = baseline::lookup(sides.baseline.directory, call.address);
+        call.set = baseline::set_of(call.address);
+        call.way = held != baseline::no_way && random.percent(95) ? held : random.below(UNIT486_WAYS);
+        call.tag = baseline::tag_of(call.address);
+        call.mark = random.percent(85);
+    }
+
+    // Either side of a limit, and what a product with 64, 16 or 4 of 32 bits brings back to the start.
+    static std::array<uint32_t, 7> around_limit(uint32_t limit)
+    {
+        return {0, limit, limit + 1, 0x04000000, 0x10000000, 0x40000000, UINT32_MAX};
+    }
+
+    Call with_wrong_line(Call call)
+    {
+        switch (random.below(3)) {
+        case 0: call.set = random.pick(around_limit(UNIT486_SETS - 1)); break;
+        case 1: call.way = random.pick(around_limit(UNIT486_WAYS - 1)); break;
+        default: call.tag = random.pick(around_limit(UNIT486_TAG_MOST));
+        }
         return call;
     }
 
     // An argument that is refused, most of the time.
     Call with_wrong_argument(Call call)
     {
+        if (is_test(call))
+            return with_wrong_line(call);
         const uint8_t above = static_cast<uint8_t>(random.pick({8u, 9u, 16u, 128u, 255u}));
         const uint32_t at = random.below(UNIT486_ANSWERS);
         switch (random.below(4)) {
@@ -310,7 +382,9 @@ private:
         } else {
             // Most external writes stay in their line; some are empty or too long.
             const uint32_t room = 16 - call.address % 16;
-            const size_t count = random.percent(90) ? random.between(1, room) : random.below(20);
+            const size_t count = call.kind == Kind::test_write ? size_t{UNIT486_LINE_BYTES}
+                                 : random.percent(90)          ? random.between(1, room)
+                                                               : random.below(20);
             const uint64_t bytes[2] = {random.next(), random.next()};
             Lent<uint8_t> Side::*buffer = call.kind == Kind::view ? &Side::shown : &Side::bytes;
             sides.both([&](Side &side) {
@@ -337,6 +411,32 @@ private:
     }
 
     // ---- calls on both sides ----
+
+    // Now and then with a wrong length or argument.
+    void check_mostly_good(const Call &call)
+    {
+        restore_lengths();
+        if (random.percent(3))
+            lend_wrong_lengths();
+        check(random.percent(4) ? with_wrong_argument(call) : call);
+    }
+
+    void plant_and_read_back()
+    {
+        Call call = next_call(Kind::test_write);
+        check_mostly_good(call);
+        call.kind = Kind::test_read;
+        check_mostly_good(call);
+    }
+
+    void check_test_calls(uint32_t set, uint32_t way, uint32_t tag)
+    {
+        Call call = next_call(Kind::test_write);
+        call.set = set, call.way = way, call.tag = tag;
+        check(call);
+        call.kind = Kind::test_read;
+        check(call);
+    }
 
     void check(const Call &call)
     {

@@ -49,6 +49,7 @@ struct Side {
     unit486_directory directory;
     Lent<uint8_t> ram, parity, data, answers, bytes, shown;
     Lent<uint32_t> log;
+    unit486_test_line line{}; // of the last test read
 
     unit486_buffers lent()
     {
@@ -76,6 +77,23 @@ inline std::string directory_difference(const unit486_directory &library, const 
     return "CD or NW";
 }
 
+// The first difference of two test lines. What follows the bytes is padding.
+inline std::string line_difference(const unit486_test_line &library, const unit486_test_line &baseline)
+{
+    if (std::memcmp(&library, &baseline, offsetof(unit486_test_line, bytes) + UNIT486_LINE_BYTES) == 0)
+        return "";
+    const struct {
+        const char *name;
+        uint32_t library, baseline;
+    } fields[] = {{"number", library.number, baseline.number}, {"tag", library.tag, baseline.tag},
+        {"valid mark", library.valid, baseline.valid}, {"LRU number", library.lru, baseline.lru}};
+    for (const auto &field : fields)
+        if (field.library != field.baseline)
+            return std::string(field.name) + ": library " + std::to_string(field.library) + ", baseline " +
+                   std::to_string(field.baseline);
+    return "bytes";
+}
+
 struct Sides {
     Side library, baseline;
 
@@ -101,7 +119,10 @@ struct Sides {
             if (!differs.empty())
                 return std::string(name) + ", " + differs;
         }
-        const std::string differs = library.log.difference(baseline.log);
-        return differs.empty() ? "" : "log, " + differs;
+        const std::string log = library.log.difference(baseline.log);
+        if (!log.empty())
+            return "log, " + log;
+        const std::string line = line_difference(library.line, baseline.line);
+        return line.empty() ? "" : "test line, " + line;
     }
 };

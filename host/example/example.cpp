@@ -1,6 +1,7 @@
-// A host's first steps: compare versions, fill a line, hit it, let another master write, read the new byte.
-// Ends with 1 if a step is not as unit486.h says.
+// A host's first steps: compare versions, fill a line, hit it, let another master write, read the new byte;
+// then a diagnostic disk's test of the cache. Ends with 1 if a step is not as unit486.h says.
 #include <cstdio>
+#include <cstring>
 #include <vector>
 
 #include "unit486.h"
@@ -98,6 +99,33 @@ static void another_master(Host &host)
     expect_number("read beyond RAM: number", host.read(65534, 4).number, UNIT486_BEYOND_RAM);
 }
 
+// A line planted and read back, as a diagnostic disk does it. Its tag and set are those of an address in RAM,
+// where other bytes stand: reads there differ from RAM until the flush ends what was planted.
+static void cache_test(Host &host)
+{
+    constexpr uint32_t set = 127, way = 3, tag = 7, planted = (tag * UNIT486_SETS + set) * UNIT486_LINE_BYTES;
+    const uint8_t pattern[UNIT486_LINE_BYTES] = {0x55, 0xAA};
+    expect("write to RAM, a miss: cycles", host.write(planted, 2, 0x6677).cycles, 1);
+    expect_number("test write with CD = 0: number",
+        unit486_test_write(&host.directory, &host.lent, set, way, tag, true, pattern),
+        UNIT486_TEST_WITH_CD_0);
+
+    expect_number(
+        "control, CD = 1, NW = 0: number", unit486_control(&host.directory, true, false), UNIT486_DONE);
+    expect_number("test write: number",
+        unit486_test_write(&host.directory, &host.lent, set, way, tag, true, pattern), UNIT486_DONE);
+
+    const unit486_test_line line = unit486_test_read(&host.directory, &host.lent, set, way);
+    expect_number("test read: number", line.number, UNIT486_DONE);
+    expect("  tag", line.tag, tag);
+    expect("  valid mark", line.valid, 1);
+    expect("  the bytes are those planted", std::memcmp(line.bytes, pattern, sizeof pattern) == 0, 1);
+    expect("read of that line, a hit: value", host.read(planted, 2).value, 0xAA55);
+
+    unit486_flush(&host.directory);
+    expect("the same read after a flush: value, as in RAM", host.read(planted, 2).value, 0x6677);
+}
+
 int main(int argc, char **)
 {
     if (argc > 1) {
@@ -110,6 +138,7 @@ int main(int argc, char **)
     Host host;
     fill_and_hit(host);
     another_master(host);
+    cache_test(host);
     std::printf(all_as_documented ? "all as documented\n" : "NOT as documented\n");
     return all_as_documented ? 0 : 1;
 }

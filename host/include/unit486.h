@@ -1,4 +1,5 @@
-/* The 486 cache and bus unit, for a host in C (C11) or C++ (C++17). The rules are document 01's.
+/* The 486 cache and bus unit, for a host in C (C11) or C++ (C++17). The rules are document 01's; those of
+   the test calls are document 02's, request C-11.
 
    Link with target/staticlib/libhost.a, which `rt staticlib host` writes for x86-64; a host that calls
    unit486_run links target/staticlib/libprogram.a too, which `rt staticlib program` writes. The unit
@@ -34,7 +35,15 @@
    NUMBERS. Each call but those that are never refused answers one of enum unit486_number. 0: done. Else
    nothing lent has changed, the directory is as it was given, and value and count are 0. Lowest first, 1
    to 10 before 21 to 23; where two sets are touched, all of the lower address's set comes before the
-   other. Each only from calls that receive the thing. */
+   other. Each only from calls that receive the thing. A test call answers 3, 31 or 32, lowest first.
+
+   TEST CALLS, for diagnostic disks, which load cache lines by hand and read them back. Both work only with
+   CD = 1 and look at no state of a set, so that a disk sees what the directory holds, ill formed or not.
+   A planted line may have bytes that RAM never held, or a tag that its set holds already: 21 then refuses
+   the reads, writes, external writes, snoops and views of that set. So a host that compares the calls with
+   a memory of its own suspends this after each accepted test write, also after one of an invalid line,
+   until the next flush or reset; from there it compares again, with a memory begun anew from RAM as it then
+   is. */
 
 #ifndef UNIT486_H
 #define UNIT486_H
@@ -49,13 +58,14 @@ extern "C" {
 #endif
 
 /* Of this header's layout and calls. */
-#define UNIT486_VERSION 5
+#define UNIT486_VERSION 6
 
 enum {
     UNIT486_SETS = 128,
     UNIT486_WAYS = 4,
     UNIT486_LINES = 512,
     UNIT486_LINE_BYTES = 16,
+    UNIT486_TAG_MOST = 2097151,
     UNIT486_DATA_BYTES = 8192,
     UNIT486_RAM_LEAST = 16,
     UNIT486_RAM_MOST = 16777216,
@@ -81,7 +91,9 @@ enum unit486_number {
     UNIT486_LONG_INPUT = 12,           /* over 65,536 bytes */
     UNIT486_TWO_OF_ONE_TAG = 21,       /* valid lines of a touched set */
     UNIT486_LARGE_TAG = 22,            /* a valid tag of a touched set is above 2,097,151 */
-    UNIT486_LARGE_LRU = 23             /* the LRU number of a touched set is above 7 */
+    UNIT486_LARGE_LRU = 23,            /* the LRU number of a touched set is above 7 */
+    UNIT486_TEST_WITH_CD_0 = 31,       /* this and the next from test calls only */
+    UNIT486_WRONG_TEST_LINE = 32       /* set above 127, way above 3, or a test write's tag above 2,097,151 */
 };
 
 /* Bits of an answer. */
@@ -124,6 +136,16 @@ typedef struct unit486_result {
     uint32_t cycles;
 } unit486_result;
 
+/* What a test read answers: the number, and the line with the LRU number of its set. Refused: zeros and an
+   invalid mark. */
+typedef struct unit486_test_line {
+    uint32_t number;
+    uint32_t tag;
+    bool valid;
+    uint8_t lru;
+    uint8_t bytes[16];
+} unit486_test_line;
+
 static_assert(sizeof(bool) == 1, "a valid mark is one byte");
 static_assert(offsetof(unit486_directory, tags) == 0, "layout of the directory");
 static_assert(offsetof(unit486_directory, valid) == 2048, "layout of the directory");
@@ -138,6 +160,12 @@ static_assert(sizeof(unit486_outcome) == 2704, "layout of an outcome");
 static_assert(offsetof(unit486_result, value) == 4, "layout of a result");
 static_assert(offsetof(unit486_result, cycles) == 8, "layout of a result");
 static_assert(sizeof(unit486_result) == 12, "layout of a result");
+static_assert(offsetof(unit486_test_line, number) == 0, "layout of a test line");
+static_assert(offsetof(unit486_test_line, tag) == 4, "layout of a test line");
+static_assert(offsetof(unit486_test_line, valid) == 8, "layout of a test line");
+static_assert(offsetof(unit486_test_line, lru) == 9, "layout of a test line");
+static_assert(offsetof(unit486_test_line, bytes) == 10, "layout of a test line");
+static_assert(sizeof(unit486_test_line) == 28, "layout of a test line");
 
 /* A pointer and its length stand together below. */
 /* clang-format off */
@@ -197,6 +225,19 @@ uint32_t unit486_view_in_place(
 uint32_t unit486_view_number_in_place(
     const uint32_t *tags, const bool *valid, const uint8_t *lru,
     const uint8_t *ram, size_t ram_length, const uint8_t *data, size_t data_length, uint32_t address);
+
+/* A test write: the tag, the valid mark and sixteen bytes into the line of a set and a way, whatever was
+   there. It changes neither the LRU number nor the other lines, and receives neither RAM nor parity. bytes
+   has sixteen. 0, 3, 31 or 32. */
+uint32_t unit486_test_write_in_place(
+    uint32_t *tags, bool *valid, bool cd, uint8_t *data, size_t data_length,
+    uint32_t set, uint32_t way, uint32_t tag, bool mark, const uint8_t *bytes);
+
+/* A test read: the line of a set and a way, valid or not, with the set's LRU number, as they are. It is no
+   use of the line. 0, 3, 31 or 32. */
+unit486_test_line unit486_test_read_in_place(
+    const uint32_t *tags, const bool *valid, const uint8_t *lru, bool cd,
+    const uint8_t *data, size_t data_length, uint32_t set, uint32_t way);
 
 /* Control and reset that give a whole directory, to be stored by the caller: where control is refused, the
    given one. */
@@ -299,6 +340,24 @@ static inline uint32_t unit486_view_number(
         directory->tags, directory->valid, directory->lru,
         lent->ram, lent->ram_length, lent->data, lent->data_length, address);
 }
+
+/* The test calls receive the data array; RAM and the parity array in lent are not looked at. */
+static inline uint32_t unit486_test_write(
+    unit486_directory *directory, unit486_buffers *lent, uint32_t set, uint32_t way, uint32_t tag, bool mark,
+    const uint8_t *bytes)
+{
+    return unit486_test_write_in_place(
+        directory->tags, directory->valid, directory->cd, lent->data, lent->data_length,
+        set, way, tag, mark, bytes);
+}
+
+static inline unit486_test_line unit486_test_read(
+    const unit486_directory *directory, const unit486_buffers *lent, uint32_t set, uint32_t way)
+{
+    return unit486_test_read_in_place(
+        directory->tags, directory->valid, directory->lru, directory->cd, lent->data, lent->data_length,
+        set, way);
+}
 /* clang-format on */
 
 /* A number in words. */
@@ -322,6 +381,9 @@ static inline const char *unit486_number_text(uint32_t number)
     case UNIT486_TWO_OF_ONE_TAG: return "two valid lines of a set have one tag";
     case UNIT486_LARGE_TAG: return "a valid tag is above 2,097,151";
     case UNIT486_LARGE_LRU: return "an LRU number is above 7";
+    case UNIT486_TEST_WITH_CD_0: return "test call with CD = 0";
+    case UNIT486_WRONG_TEST_LINE:
+        return "test call with a set above 127, a way above 3 or a tag above 2,097,151";
     default: return "no number of this unit";
     }
 }
