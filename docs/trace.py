@@ -166,7 +166,7 @@ def table_faults(nodes: dict[str, Node]) -> tuple[list[str], str]:
     faults, rows, references, edits = [], 0, 0, set()
     cited = reach([key for key, node in nodes.items() if node.function and node.public], nodes)
     for number, line in enumerate((ROOT / "docs/TRACE.md").read_text().splitlines(), start=1):
-        if line[:1] != "|" or line.startswith(("| document 01 |", "| demand |", "|---")):
+        if line[:1] != "|" or line.startswith(("| document 0", "| demand |", "|---")):
             continue
         cells = dict(zip(COLUMNS, (re.findall("`(.*?)`", cell) for cell in line.split("|")[2:])))
         found = {column: [resolve(column, name, nodes) for name in cells[column]] for column in cells}
