@@ -1,12 +1,12 @@
 -- Demand 3: every list of calls from a reset agrees with the plain memory, but from an accepted test write to the next flush or reset. By induction
 -- over the list; the invariant is `Coherent` where calls are compared, and `Kept` where they are not.
 use Prim.Native.Nat.{ℕ}
-use mathlib.Core.Path.{_≡_, refl, sym, _∙_}
-use mathlib.Core.Bool.{false, cond}
+use mathlib.Core.Path.{_≡_, refl, sym, _∙_, subst}
+use mathlib.Core.Bool.{true, false, cond}
 use mathlib.Core.List.{List, [], _∷_}
 use lib.Dec.{eqb}
 use borrow.Author.Tests.{eqb-true, ne-eqb}
-use Rattle.laws.proofs.Tests.{by-test}
+use Rattle.laws.proofs.Tests.{cond-true, cond-false, by-test}
 use Rattle.directory.specs.Steps.{afterReset}
 use Rattle.directory.proofs.Laws.{reset-none, reset-control, reset-limits, reset-apart}
 use Rattle.memory.specs.Parity.{Memory}
@@ -14,7 +14,7 @@ use Rattle.refusal.specs.Call.{State, state, nextState}
 use Rattle.calls.specs.Calls.{Call, read, write, external, snoop, flush, control, view, reset, testWrite, testRead, step}
 use Rattle.calls.specs.Plain.{plainNumber, plainDone, plainRefused, plain}
 use Rattle.calls.specs.Matches.{kindOf, plants, empties, Matches, setsNw, ZeroOr, Arises}
-use Rattle.agreement.specs.Agreement.{Comparison, beside, suspended, begun, ended, IfCompared, EachCompared, NeverSetsNw, Legal, Demand3, GoesOn, BegunAnew, NumbersThatArise}
+use Rattle.agreement.specs.Agreement.{Comparison, beside, suspended, begun, ended, IfCompared, EachCompared, AgreesAll, NeverSetsNw, Legal, Demand3, GoesOn, BegunAnew, NumbersThatArise}
 use Rattle.calls.proofs.Kept.{Kept, call-kept}
 use Rattle.calls.proofs.Coherence.{Coherent, empty-beside}
 use Rattle.calls.proofs.Numbers.{plain-arises, test-write-arises, test-read-arises}
@@ -37,6 +37,25 @@ start-coherent m array g =
       beside = empty-beside (state afterReset m array) (m .ram) refl reset-apart reset-none;
     }
 
+-- WHERE THE COMPARISON ENDS AND BEGINS
+
+module _ (s : State) (m : List ℕ) (x : Call) where
+  abbrev number : ℕ
+  number = step s x .outcome .number
+
+  planted-suspended : plants (kindOf x) number ≡ true → ended (beside m) s x ≡ suspended
+  planted-suspended e = cond-true _ _ _ e
+
+  other-beside : plants (kindOf x) number ≡ false → ended (beside m) s x ≡ beside (plain m x .memory)
+  other-beside e = cond-false _ _ _ e
+
+module _ (s : State) (x : Call) where
+  emptied-begun : empties (kindOf x) ≡ true → begun suspended s x ≡ beside (s .memory .ram)
+  emptied-begun e = cond-true _ _ _ e
+
+  other-suspended : empties (kindOf x) ≡ false → begun suspended s x ≡ suspended
+  other-suspended e = cond-false _ _ _ e
+
 -- THE INVARIANT, by what stands beside the unit
 
 abbrev Invariant : State → Comparison → Type 0
@@ -46,10 +65,9 @@ Invariant s suspended = Kept s
 -- after a call that is compared
 compared-kept : (s : State) (m : List ℕ) (x : Call) → Kept s → CallMatches x (step s x) (plain m x) → Invariant (nextState (step s x)) (ended (beside m) s x)
 compared-kept s m x k g =
-    let number = step s x .outcome .number in
-    by-test (λ p. plants (kindOf x) number ≡ p → Invariant (nextState (step s x)) (cond p suspended (beside (plain m x .memory)))) (plants (kindOf x) number)
-    (λ _ e. call-kept s k x)
-    (λ _ e. record { kept = call-kept s k x; beside = g .beside e })
+    by-test (λ p. plants (kindOf x) (number s m x) ≡ p → Invariant (nextState (step s x)) (ended (beside m) s x)) (plants (kindOf x) (number s m x))
+    (λ _ e. subst (Invariant (nextState (step s x))) (sym (planted-suspended s m x e)) (call-kept s k x))
+    (λ _ e. subst (Invariant (nextState (step s x))) (sym (other-beside s m x e)) (record { kept = call-kept s k x; beside = g .beside e }))
     refl
 
 -- what is known of a call that is compared
@@ -67,11 +85,10 @@ one s (beside m) x c n =
     ((c .kept, g .matches), compared-kept s m x (c .kept) g)
 one s suspended x k n =
     let ram = s .memory .ram in
-    by-test
-    (λ e. empties (kindOf x) ≡ e → IfCompared Known s (cond e (beside ram) suspended) x × Invariant (nextState (step s x)) (ended (cond e (beside ram) suspended) s x))
-    (empties (kindOf x))
-    (λ _ e. let g = emptying-matches s ram refl x e in ((k, g .matches), compared-kept s ram x k g))
-    (λ _ e. (tt, call-kept s k x))
+    let Holds : Comparison → Type 0 = λ b. IfCompared Known s b x × Invariant (nextState (step s x)) (ended b s x) in
+    by-test (λ e. empties (kindOf x) ≡ e → Holds (begun suspended s x)) (empties (kindOf x))
+    (λ _ e. let g = emptying-matches s ram refl x e in subst Holds (sym (emptied-begun s x e)) ((k, g .matches), compared-kept s ram x k g))
+    (λ _ e. subst Holds (sym (other-suspended s x e)) (tt, call-kept s k x))
     refl
 
 -- a fact of a call that follows from what is known of it
@@ -101,7 +118,9 @@ goes-on s m flush cs n h = h .1
 goes-on s m (control cd nw) cs n h = h .1
 goes-on s m (view a) cs n h = h .1
 goes-on s m reset cs n h = h .1
-goes-on s m (testWrite r w tag mark x) cs n h = rw (ne-eqb (step s (testWrite r w tag mark x) .outcome .number) 0 (n r w tag mark x refl)) at (h .1)
+goes-on s m (testWrite r w tag mark x) cs n h =
+    let c = testWrite r w tag mark x in
+    subst (λ b. AgreesAll (nextState (step s c)) b cs) (other-beside s m c (ne-eqb (number s m c) 0 (n r w tag mark x refl))) (h .1)
 goes-on s m (testRead r w) cs n h = h .1
 
 pub begun-anew : BegunAnew

@@ -1,5 +1,5 @@
--- That each call keeps the invariant of demand 3 and matches the plain memory (`call-matches`, and `emptying-matches` where nothing was compared before, in `Steps`), from the bytes
--- up. `Kept` has what any list keeps, whatever it sets; the laws of `Drops` say what demand 3 cannot see.
+-- That each call keeps the invariant of demand 3 and matches the plain memory (`call-matches` in `Steps`; `emptying-matches` where nothing was
+-- compared before), from the bytes up. `Kept` has what any list keeps, whatever it sets; the laws of `Drops` say what demand 3 cannot see.
 mod Bytes
 mod Memories
 mod Cycles

@@ -60,13 +60,13 @@ impl Directory {
     }
 
     // The plain step of a test write: any tag and either mark, and no use of the way.
-    pub fn with_line(mut self, set: usize, way: usize, tag: u32, valid: bool) -> Self
+    pub fn with_line(mut self, set: usize, way: usize, tag: u32, mark: bool) -> Self
         requires { ⌜ (set < setCount) × (way < wayCount) ⌝ }
-        ensures { λ r. ⌜ r ≡ withLine self set way tag valid ⌝ }
+        ensures { λ r. ⌜ r ≡ withLine self set way tag mark ⌝ }
     {
         let index = set * WAYS + way;
         self.tags[index] = tag;
-        self.valid[index] = valid;
+        self.valid[index] = mark;
         self
     }
 
