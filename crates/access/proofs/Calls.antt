@@ -2,7 +2,7 @@
 use Prim.Native.Nat.{ℕ}
 use mathlib.Core.Path.{_≡_, refl, sym, _∙_, ap}
 use mathlib.Core.Bool.{Bool}
-use mathlib.Core.List.{List}
+use mathlib.Core.List.{List, []}
 use native.Mathlib.Omega.{arith}
 use lib.ListN.{length}
 use borrow.Author.Tests.{eq-eqb, ne-eqb}
@@ -10,6 +10,7 @@ use Rattle.laws.proofs.Tests.{cond-true, cond-false}
 use Rattle.directory.specs.declared.steps.Directory.{Directory}
 use Rattle.words.specs.Bytes.{valueOf}
 use Rattle.memory.specs.Parity.{Memory}
+use Rattle.carried.specs.Carried.{Carried}
 use Rattle.doubleword.specs.declared.cursor.AccessCursor.{AccessCursor}
 use Rattle.bus.specs.Groups.{groupCount}
 use Rattle.bus.specs.Record.{logged}
@@ -17,22 +18,25 @@ use Rattle.doubleword.specs.Doubleword.{Doubleword, Done, doublewordsOf}
 use Rattle.refusal.specs.Refusal.{orElse, statesNumberOf, lentNumber, argumentNumber, valueNumber}
 use Rattle.directory.specs.Outcome.{outcome}
 use Rattle.refusal.specs.Call.{State, state, after, refused}
-use Rattle.access.specs.Access.{Progress, allOf, readOne, writeOne, accepted, readNumber, writeNumber, readAll, writeAll, operandOf, readCall, writeCall}
+use Rattle.access.specs.Access.{Progress, allOf, writeOne, accepted, readNumber, writeNumber, readAll, writeAll, operandOf, readCall, writeCall}
 use Rattle.doubleword.specs.Cursor.{accessBegin, AccessNeeds}
 use Rattle.refusal.proofs.Accepted.{or-zero, lent-accepted, arguments-accepted}
+use Rattle.access.proofs.Alone.{oneAlone, each-alone, number-alone}
 use Rattle.access.proofs.AccessLoop.{restOf, AccessInvariant, access-invariant-begin, access-invariant-end}
 use Rattle.access.proofs.WriteLoop.{WriteKept}
 use Rattle.access.proofs.ReadLoop.{ReadKept, ReadInvariant, reading-begin, reading-end}
 
 -- a read and a write by their numbers
 module _ (s : State) (address width : ℕ) where
-  pub read-refused : (pcd : Bool) (answers log : List ℕ) → (readNumber s address width answers log ≡ 0 → ⊥) → readCall s address width pcd answers log ≡ refused (readNumber s address width answers log) s log
-  unfolding readCall
-  read-refused pcd answers log h = cond-false _ _ _ (ne-eqb _ 0 h)
+  module _ (pcd : Bool) (answers log : List ℕ) (writes : List Carried) where
+    pub read-refused : (readNumber s address width answers log writes ≡ 0 → ⊥) → readCall s address width pcd answers log writes ≡ refused (readNumber s address width answers log writes) s log
+    unfolding readCall
+    read-refused h = cond-false _ _ _ (ne-eqb _ 0 h)
 
-  pub read-done : (pcd : Bool) (answers log : List ℕ) → readNumber s address width answers log ≡ 0 → readCall s address width pcd answers log ≡ accepted (valueOf (readAll s address width pcd answers .bytes)) (readAll s address width pcd answers) log
-  unfolding readCall
-  read-done pcd answers log z = cond-true _ _ _ (eq-eqb _ 0 z)
+    pub read-done : readNumber s address width answers log writes ≡ 0 →
+        readCall s address width pcd answers log writes ≡ accepted (valueOf (readAll s address width pcd answers writes .bytes)) (readAll s address width pcd answers writes) log
+    unfolding readCall
+    read-done z = cond-true _ _ _ (eq-eqb _ 0 z)
 
   pub write-refused : (value : ℕ) (answers log : List ℕ) → (writeNumber s address width value answers log ≡ 0 → ⊥) → writeCall s address width value answers log ≡ refused (writeNumber s address width value answers log) s log
   unfolding writeCall
@@ -96,7 +100,7 @@ module _ (d : Directory) (m : Memory) (array : List ℕ) (address width : ℕ) (
     abbrev readsNumber : ℕ
     readsNumber = orElse lent (orElse argument (statesNumberOf d address width))
 
-    pub read-begin : readsNumber ≡ 0 → ReadKept pcd answers (allOf (readOne pcd) s (restOf (accessBegin address width) answers)) log array m (accessBegin address width) d array log 0
+    pub read-begin : readsNumber ≡ 0 → ReadKept pcd answers (allOf (oneAlone pcd) s (restOf (accessBegin address width) answers)) log array m (accessBegin address width) d array log 0
     read-begin z =
         record {
           reading = reading-begin pcd answers (accessBegin address width) s log refl refl;
@@ -105,18 +109,20 @@ module _ (d : Directory) (m : Memory) (array : List ℕ) (address width : ℕ) (
           logs = refl;
         }
 
-    pub read-turned : (k : ℕ) → k ≡ readsNumber → (k ≡ 0 → ⊥) → refused k s log ≡ readCall s address width pcd answers log
-    unfolding readNumber
-    read-turned k e h = sym (rw (← e) at (read-refused s address width pcd answers log (λ z. h (e ∙ z))))
+    pub read-turned : (k : ℕ) → k ≡ readsNumber → (k ≡ 0 → ⊥) → refused k s log ≡ readCall s address width pcd answers log []
+    read-turned k e h =
+        let n = e ∙ sym (number-alone s address width answers log) in
+        sym (rw (← n) at (read-refused s address width pcd answers log [] (λ z. h (n ∙ z))))
 
     pub read-made : readsNumber ≡ 0 → (cursor : AccessCursor) (d′ : Directory) (array′ log′ : List ℕ) (value : ℕ) → cursor .left ≡ 0 →
-        ReadInvariant pcd answers (allOf (readOne pcd) s (restOf (accessBegin address width) answers)) log cursor (state d′ m array′) log′ value →
-        after (outcome d′ 0 value (cursor .cycles)) m array′ log′ ≡ readCall s address width pcd answers log
-    unfolding readCall readNumber readAll restOf
+        ReadInvariant pcd answers (allOf (oneAlone pcd) s (restOf (accessBegin address width) answers)) log cursor (state d′ m array′) log′ value →
+        after (outcome d′ 0 value (cursor .cycles)) m array′ log′ ≡ readCall s address width pcd answers log []
+    unfolding readAll restOf
     read-made z cursor d′ array′ log′ value e g =
-        let p = allOf (readOne pcd) s (doublewordsOf groupCount answers address width 0) in
-        whole (readOne pcd) answers p cursor d′ m array′ log′ log value (valueOf (p .bytes)) e (g .invariant) (reading-end pcd answers cursor (state d′ m array′) log′ value e g)
-        ∙ sym (cond-true _ _ _ (eq-eqb _ 0 z))
+        let p = allOf (oneAlone pcd) s (doublewordsOf groupCount answers address width 0) in
+        whole (oneAlone pcd) answers p cursor d′ m array′ log′ log value (valueOf (p .bytes)) e (g .invariant) (reading-end pcd answers cursor (state d′ m array′) log′ value e g)
+        ∙ ap (λ (q : Progress). accepted (valueOf (q .bytes)) q log) (sym (each-alone pcd s 0 (doublewordsOf groupCount answers address width 0)))
+        ∙ sym (read-done s address width pcd answers log [] (number-alone s address width answers log ∙ z))
 
   module _ (value : ℕ) where
     abbrev writesNumber : ℕ

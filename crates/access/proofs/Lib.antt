@@ -1,5 +1,5 @@
 -- Laws that several proofs cite.
-pub mod Values
+pub mod Alone
 pub mod AccessLoop
 pub mod ReadLoop
 pub mod WriteLoop

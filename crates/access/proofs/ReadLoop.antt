@@ -19,9 +19,9 @@ use Rattle.doubleword.specs.Cursor.{lineAddress, countOf, accessNext, nextDoubl
 use Rattle.doubleword.proofs.Cursors.{needs-lengths, needs-more, cursor-needs}
 use Rattle.reading.specs.ReadingCode.{Reads}
 use Rattle.refusal.specs.Call.{State, state}
-use Rattle.access.specs.Access.{Progress, allOf, next, readOne}
+use Rattle.access.specs.Access.{Progress, allOf, next}
 use Rattle.access.proofs.AccessLoop.{restOf, rest-done, AccessInvariant, access-invariant-begin, all-next, access-invariant-next}
-use Rattle.access.proofs.Values.{one-length, one-memory}
+use Rattle.access.proofs.Alone.{oneAlone, one-length, one-memory}
 
 -- a number of so many bytes, and one above it
 join-value : (v o r p c : ℕ) → v + (o + r * c) * p ≡ v + o * p + r * (c * p)
@@ -36,28 +36,28 @@ join-below v o p c h k =
 -- what the loop of a read keeps: the number of the bytes read so far, below those left
 module _ (pcd : Bool) (xs : List ℕ) where
   pub record ReadInvariant (p : Progress) (log₀ : List ℕ) (cursor : AccessCursor) (s : State) (log : List ℕ) (value : ℕ) : Type 0 where
-    pub invariant : AccessInvariant (readOne pcd) xs p log₀ cursor s log
-    pub sums : value + valueOf (allOf (readOne pcd) s (restOf cursor xs) .bytes) * 256 ^ cursor .place ≡ valueOf (p .bytes)
+    pub invariant : AccessInvariant (oneAlone pcd) xs p log₀ cursor s log
+    pub sums : value + valueOf (allOf (oneAlone pcd) s (restOf cursor xs) .bytes) * 256 ^ cursor .place ≡ valueOf (p .bytes)
     pub below : value < 256 ^ cursor .place
 
-  pub reading-begin : (cursor : AccessCursor) (s : State) (log₀ : List ℕ) → cursor .cycles ≡ 0 → cursor .place ≡ 0 → ReadInvariant (allOf (readOne pcd) s (restOf cursor xs)) log₀ cursor s log₀ 0
+  pub reading-begin : (cursor : AccessCursor) (s : State) (log₀ : List ℕ) → cursor .cycles ≡ 0 → cursor .place ≡ 0 → ReadInvariant (allOf (oneAlone pcd) s (restOf cursor xs)) log₀ cursor s log₀ 0
   reading-begin cursor s log₀ e f =
       record {
-        invariant = access-invariant-begin (readOne pcd) xs cursor s log₀ e;
+        invariant = access-invariant-begin (oneAlone pcd) xs cursor s log₀ e;
         sums = rw f (omega arith);
         below = rw f (omega arith);
       }
 
   module _ (cursor : AccessCursor) (d : Directory) (m : Memory) (array log : List ℕ) (value : ℕ) (change : Change) (part n : ℕ) (d′ : Directory) (array′ log′ : List ℕ) (some : 0 < cursor .left) (more : cursor .group < groupCount)
-      (k : Reads (readOne pcd (state d m array) (nextDoubleword cursor xs)) (countOf cursor) (cursor .cycles) log change part n array′ log′) where
+      (k : Reads (oneAlone pcd (state d m array) (nextDoubleword cursor xs)) (countOf cursor) (cursor .cycles) log change part n array′ log′) where
     abbrev here : Doubleword
     here = nextDoubleword cursor xs
 
     abbrev done : Done
-    done = readOne pcd (state d m array) here
+    done = oneAlone pcd (state d m array) here
 
     abbrev rest : Progress
-    rest = allOf (readOne pcd) (next (state d m array) here done) (restOf (accessNext cursor (countOf cursor) n) xs)
+    rest = allOf (oneAlone pcd) (next (state d m array) here done) (restOf (accessNext cursor (countOf cursor) n) xs)
 
     powers : 256 ^ countOf cursor * 256 ^ cursor .place ≡ 256 ^ (cursor .place + countOf cursor)
     powers = sym (pow-add 256 (countOf cursor) (cursor .place)) ∙ ap (λ (i : ℕ). 256 ^ i) (add-comm (countOf cursor) (cursor .place))
@@ -66,11 +66,11 @@ module _ (pcd : Bool) (xs : List ℕ) where
     pub part-below : value < 256 ^ cursor .place → value + part * 256 ^ cursor .place < 256 ^ (cursor .place + countOf cursor)
     part-below h = rw (← powers) (join-below value part (256 ^ cursor .place) (256 ^ countOf cursor) h (k .fits))
 
-    sums-next : {v : ℕ} → value + valueOf (allOf (readOne pcd) (state d m array) (restOf cursor xs) .bytes) * 256 ^ cursor .place ≡ v →
+    sums-next : {v : ℕ} → value + valueOf (allOf (oneAlone pcd) (state d m array) (restOf cursor xs) .bytes) * 256 ^ cursor .place ≡ v →
         value + part * 256 ^ cursor .place + valueOf (rest .bytes) * 256 ^ (cursor .place + countOf cursor) ≡ v
     sums-next g =
-        let a = all-next (readOne pcd) xs cursor (state d m array) log some more n in
-        let e : valueOf (allOf (readOne pcd) (state d m array) (restOf cursor xs) .bytes) ≡ part + valueOf (rest .bytes) * 256 ^ countOf cursor =
+        let a = all-next (oneAlone pcd) xs cursor (state d m array) log some more n in
+        let e : valueOf (allOf (oneAlone pcd) (state d m array) (restOf cursor xs) .bytes) ≡ part + valueOf (rest .bytes) * 256 ^ countOf cursor =
         ap (λ (q : Progress). valueOf (q .bytes)) a
         ∙ value-append (done .bytes) (rest .bytes)
         ∙ ap (λ (i : ℕ). valueOf (done .bytes) + valueOf (rest .bytes) * 256 ^ i) (one-length pcd (state d m array) here)
@@ -92,7 +92,7 @@ module _ (pcd : Bool) (xs : List ℕ) where
         ∙ ap (λ (x : List ℕ). state (changed d (here .line) (done .change)) (done .memory) x) (k .arrays) in
         rw (eu, ec)
         (record {
-          invariant = access-invariant-next (readOne pcd) xs cursor (state d m array) log some more (state d′ m array′) log′ n (g .invariant) es (k .logs) (k .made);
+          invariant = access-invariant-next (oneAlone pcd) xs cursor (state d m array) log some more (state d′ m array′) log′ n (g .invariant) es (k .logs) (k .made);
           sums = rw (es, ev) (sums-next (g .sums));
           below = rw ev (part-below (g .below));
         })
@@ -121,7 +121,7 @@ module _ {pcd : Bool} {xs : List ℕ} {p : Progress} {log₀ array₀ : List ℕ
   kept-more : cursor .group < groupCount
   kept-more = needs-more _ _ _ _ _ _ (g .needs) some
 
-  module _ {change : Change} {part n : ℕ} {array′ log′ : List ℕ} (k : Reads (readOne pcd (state d m array) (nextDoubleword cursor xs)) (countOf cursor) (cursor .cycles) log change part n array′ log′) where
+  module _ {change : Change} {part n : ℕ} {array′ log′ : List ℕ} (k : Reads (oneAlone pcd (state d m array) (nextDoubleword cursor xs)) (countOf cursor) (cursor .cycles) log change part n array′ log′) where
     -- the number of the bytes read so far fits
     pub part-fits : (cursor .place ≤ 3) × (value + part * 256 ^ cursor .place < 4294967296)
     part-fits = (

@@ -1,21 +1,23 @@
 -- Reads and writes: their doublewords one after the other, and what the whole call leaves.
-use Prim.Native.Nat.{ℕ}
+use Prim.Native.Nat.{ℕ, _+_}
 use mathlib.Core.Bool.{Bool, cond, not, _&&_}
 use mathlib.Core.List.{List, [], _∷_, _++_}
 use lib.Dec.{eqb}
 use lib.ListN.{length}
 use Rattle.ways.specs.Address.{setOf}
+use Rattle.directory.specs.declared.steps.Directory.{Directory}
 use Rattle.directory.specs.Outcome.{outcome}
-use Rattle.directory.specs.Steps.{lookupOf, victimOf}
+use Rattle.directory.specs.Steps.{lookupOf, victimOf, afterSnoop}
 use Rattle.words.specs.Bytes.{valueOf, bytesOf}
+use Rattle.carried.specs.Carried.{Carried, due, later, landed}
 use Rattle.bus.specs.Record.{Record, logged}
 use Rattle.bus.specs.Groups.{groupCount}
 use Rattle.doubleword.specs.Doubleword.{Doubleword, doublewordsOf, changed, Done}
-use Rattle.reading.specs.Reading.{readDone}
+use Rattle.reading.specs.Reading.{readMiss, readDone}
 use Rattle.writing.specs.Writing.{writeDone}
 use Rattle.access.specs.declared.CallResult.{CallResult}
 use Rattle.refusal.specs.Call.{State, state, After, after, refused}
-use Rattle.refusal.specs.Refusal.{orElse, lentNumber, argumentNumber, valueNumber, statesNumberOf}
+use Rattle.refusal.specs.Refusal.{orElse, lentNumber, argumentNumber, valueNumber, carriedNumber, statesNumberOf, carriedStatesNumber}
 
 -- What doublewords did so far: the state, the bytes read, the records.
 pub record Progress : Type 0 where
@@ -26,16 +28,7 @@ pub record Progress : Type 0 where
 abbrev pub progress : State → List ℕ → List Record → Progress
 progress s bytes records = record { state = s; bytes = bytes; records = records }
 
--- A doubleword by the directory as it is then: "the lower one completed first (H)".
-unfoldable pub readOne : Bool → State → Doubleword → Done
-readOne pcd s w =
-    readDone (lookupOf (s .directory) (w .line)) (victimOf (s .directory) (setOf (w .line)))
-    (not (s .directory .cd) && not pcd)
-    (s .memory)
-    (s .array)
-    w
-
--- The same for a write, whose operand is given.
+-- A doubleword of a write by the directory as it is then, the operand given: "the lower one completed first (H)".
 unfoldable pub writeOne : List ℕ → State → Doubleword → Done
 writeOne operand s w =
     writeDone (lookupOf (s .directory) (w .line)) (s .directory .cd && s .directory .nw) (s .memory) (s .array) operand w
@@ -44,12 +37,57 @@ writeOne operand s w =
 abbrev pub next : State → Doubleword → Done → State
 next s w done = state (changed (s .directory) (w .line) (done .change)) (done .memory) (done .array)
 
--- All doublewords of an access, each by the same rule.
+-- All doublewords of a write, each by the same rule.
 unfoldable pub allOf : (State → Doubleword → Done) → State → List Doubleword → Progress
 allOf one s [] = progress s [] []
 allOf one s (w ∷ ws) =
     let here = one s w in
     let rest = allOf one (next s w here) ws in
+    progress (rest .state) (here .bytes ++ rest .bytes) (here .records ++ rest .records)
+
+-- A read before one of its doublewords: the unit, the writes that it carries and that have not landed, the number of the next cycle, "counted from 0 over
+-- the access".
+pub record UnderWay : Type 0 where
+  pub unit : State
+  pub writes : List Carried
+  pub cycle : ℕ
+
+abbrev pub underWay : State → List Carried → ℕ → UnderWay
+underWay s writes cycle = record { unit = s; writes = writes; cycle = cycle }
+
+-- "One in any other line snoops as usual.", in list order. The line being filled is not held, so that the snoop of a write into it changes nothing.
+unfoldable pub snoopedBy : List Carried → Directory → Directory
+snoopedBy [] d = d
+snoopedBy (w ∷ ws) d = snoopedBy ws (afterSnoop d (w .address))
+
+-- The directory after so many cycles of a doubleword. The cycles ask nothing of it, so the snoops of what landed before them follow the last.
+abbrev pub directoryAfter : UnderWay → ℕ → Directory
+directoryAfter u n = snoopedBy (due (u .cycle + n) (u .writes)) (u .unit .directory)
+
+-- A doubleword of a read by the directory as it is then: "the lower one completed first (H)". "The victim is chosen after a fill's last cycle."
+unfoldable pub readOne : Bool → UnderWay → Doubleword → Done
+readOne pcd u w =
+    let d = u .unit .directory in
+    let mayFill = not (d .cd) && not pcd in
+    let cycles = length (readMiss mayFill (u .unit .memory) (u .writes) (u .cycle) w .records) in
+    readDone (lookupOf d (w .line)) (victimOf (directoryAfter u cycles) (setOf (w .line))) mayFill (u .unit .memory) (u .writes) (u .cycle) (u .unit .array) w
+
+-- The read after a doubleword: what landed during its cycles has snooped, then the directory is changed.
+abbrev pub readNext : UnderWay → Doubleword → Done → UnderWay
+readNext u w done =
+    let n = length (done .records) in
+    underWay (state (changed (directoryAfter u n) (w .line) (done .change)) (done .memory) (done .array)) (later (u .cycle + n) (u .writes)) (u .cycle + n)
+
+-- "Writes numbered past the last cycle, and all where there is none, land after the value is taken."
+unfoldable pub landedAfter : UnderWay → State
+landedAfter u = state (snoopedBy (u .writes) (u .unit .directory)) (landed (u .writes) (u .unit .memory)) (u .unit .array)
+
+-- All doublewords of a read, and what is left of the writes after them.
+unfoldable pub readEach : Bool → UnderWay → List Doubleword → Progress
+readEach pcd u [] = progress (landedAfter u) [] []
+readEach pcd u (w ∷ ws) =
+    let here = readOne pcd u w in
+    let rest = readEach pcd (readNext u w here) ws in
     progress (rest .state) (here .bytes ++ rest .bytes) (here .records ++ rest .records)
 
 -- A call that was done: the records of its cycles are at the start of the log.
@@ -62,12 +100,13 @@ accepted value p log =
 abbrev pub leaves : CallResult → State → List ℕ → After
 leaves r s log = after (outcome (s .directory) (r .number) (r .value) (r .cycles)) (s .memory) (s .array) log
 
--- The number of a read: the input's first, then the state's.
-unfoldable pub readNumber : State → ℕ → ℕ → List ℕ → List ℕ → ℕ
-readNumber s address width answers log =
+-- The number of a read: the input's first, then the state's. "33 .., after 10"; "State numbers: the read's sets first, then the writes' in list order."
+unfoldable pub readNumber : State → ℕ → ℕ → List ℕ → List ℕ → List Carried → ℕ
+readNumber s address width answers log writes =
     orElse (lentNumber (length (s .memory .ram)) (length (s .memory .parity)) (length (s .array)))
     (orElse (argumentNumber (length (s .memory .ram)) address width answers (length log))
-    (statesNumberOf (s .directory) address width))
+    (orElse (carriedNumber (length (s .memory .ram)) writes)
+    (orElse (statesNumberOf (s .directory) address width) (carriedStatesNumber (s .directory) writes))))
 
 -- The number of a write, which has 8 as well.
 unfoldable pub writeNumber : State → ℕ → ℕ → ℕ → List ℕ → List ℕ → ℕ
@@ -77,8 +116,8 @@ writeNumber s address width value answers log =
     (orElse (valueNumber width value) (statesNumberOf (s .directory) address width)))
 
 -- All doublewords of an accepted read.
-unfoldable pub readAll : State → ℕ → ℕ → Bool → List ℕ → Progress
-readAll s address width pcd answers = allOf (readOne pcd) s (doublewordsOf groupCount answers address width 0)
+unfoldable pub readAll : State → ℕ → ℕ → Bool → List ℕ → List Carried → Progress
+readAll s address width pcd answers writes = readEach pcd (underWay s writes 0) (doublewordsOf groupCount answers address width 0)
 
 -- "little-endian": the four bytes of a value, of which a write moves as many as its width.
 abbrev pub operandOf : ℕ → List ℕ
@@ -88,11 +127,11 @@ operandOf value = bytesOf 4 value
 unfoldable pub writeAll : State → ℕ → ℕ → ℕ → List ℕ → Progress
 writeAll s address width value answers = allOf (writeOne (operandOf value)) s (doublewordsOf groupCount answers address width 0)
 
--- The read call, refused or not.
-unfoldable pub readCall : State → ℕ → ℕ → Bool → List ℕ → List ℕ → After
-readCall s address width pcd answers log =
-    let number = readNumber s address width answers log in
-    let done = readAll s address width pcd answers in
+-- The read call with the writes that it carries, refused or not. `read` carries none.
+unfoldable pub readCall : State → ℕ → ℕ → Bool → List ℕ → List ℕ → List Carried → After
+readCall s address width pcd answers log writes =
+    let number = readNumber s address width answers log writes in
+    let done = readAll s address width pcd answers writes in
     cond (eqb number 0) (accepted (valueOf (done .bytes)) done log) (refused number s log)
 
 -- The write call, whose value is 0.

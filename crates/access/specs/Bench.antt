@@ -27,7 +27,7 @@ benchLog = replicate logSize 0
 
 -- A read and a write of such a unit with 32 bytes of RAM.
 abbrev pub benchRead : ℕ → ℕ → List ℕ → After
-benchRead address width answers = readCall (enabled 32 8) address width false answers benchLog
+benchRead address width answers = readCall (enabled 32 8) address width false answers benchLog []
 
 abbrev pub benchWrite : ℕ → ℕ → ℕ → List ℕ → After
 benchWrite address width value answers = writeCall (enabled 32 8) address width value answers benchLog
@@ -41,7 +41,7 @@ abbrev pub afterReads : Directory → List ℕ → Directory
 afterReads d [] = d
 afterReads d (a ∷ rest) =
     afterReads
-    (readCall (state d (memory (replicate 10256 0) (replicate 2564 0)) (replicate dataSize 0)) a 4 false (always 1) benchLog .outcome .directory)
+    (readCall (state d (memory (replicate 10256 0) (replicate 2564 0)) (replicate dataSize 0)) a 4 false (always 1) benchLog [] .outcome .directory)
     rest
 
 -- "0, 800, 1000, 1800, 2000 (hex)", and the sixth at 2800.

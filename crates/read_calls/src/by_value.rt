@@ -1,5 +1,6 @@
 // The read call by value.
 ghost use mathlib.Core.Path.{_≡_};
+ghost use mathlib.Core.List.{[]};
 ghost use lib.ListN.{length};
 ghost use Rattle.memory.specs.Parity.{lentMemory};
 ghost use Rattle.refusal.specs.Refusal.{argumentNumber, lentNumber, orElse, statesNumberOf};
@@ -29,7 +30,7 @@ fn read_all(
     requires { ⌜ orElse (lentNumber (length (now ram)) (length (now parity)) (length (now «data»)))
         (orElse (argumentNumber (length (now ram)) address width (now answers) (length (now log))) (statesNumberOf given address width)) ≡ 0 ⌝ }
     ensures { λ r. ⌜ after r (lentMemory (ram .entry) (parity .entry)) (now («data» .exit)) (now (log .exit))
-        ≡ readCall (state given (lentMemory (ram .entry) (parity .entry)) (now («data» .entry))) address width pcd (now (answers .entry)) (now (log .entry)) ⌝ }
+        ≡ readCall (state given (lentMemory (ram .entry) (parity .entry)) (now («data» .entry))) address width pcd (now (answers .entry)) (now (log .entry)) [] ⌝ }
 {
     let mut value: u32 = 0;
     let mut cursor = AccessCursor::begin(address, width);
@@ -74,7 +75,7 @@ pub fn read(
     log: &mut [u32],
 ) -> Outcome
     ensures { λ r. ⌜ after r (lentMemory (ram .entry) (parity .entry)) (now («data» .exit)) (now (log .exit))
-        ≡ readCall (state given (lentMemory (ram .entry) (parity .entry)) (now («data» .entry))) address width pcd (now (answers .entry)) (now (log .entry)) ⌝ }
+        ≡ readCall (state given (lentMemory (ram .entry) (parity .entry)) (now («data» .entry))) address width pcd (now (answers .entry)) (now (log .entry)) [] ⌝ }
 {
     let number = read_number(
         &given.tags,

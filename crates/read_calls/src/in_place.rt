@@ -2,6 +2,7 @@
 // holds for either value.
 ghost use mathlib.Core.Path.{_≡_};
 ghost use mathlib.Core.Bool.{Bool};
+ghost use mathlib.Core.List.{[]};
 ghost use lib.ListN.{length};
 ghost use Rattle.refusal.specs.Refusal.{argumentNumber, lentNumber, orElse, statesNumberIn};
 ghost use Rattle.refusal.specs.Call.{lentState};
@@ -34,7 +35,7 @@ fn read_accepted<'a>(
     requires { ⌜ orElse (lentNumber (length (now ram)) (length (now parity)) (length (now «data»)))
         (orElse (argumentNumber (length (now ram)) address width (now answers) (length (now log))) (statesNumberIn (now tags) (now valid) (now lru) address width)) ≡ 0 ⌝ }
     ensures { λ r. ⌜ ((nw : Bool) → leaves r (lentState (tags .exit) (valid .exit) (lru .exit) cd nw (ram .entry) (parity .entry) («data» .exit)) (now (log .exit))
-        ≡ readCall (lentState (tags .entry) (valid .entry) (lru .entry) cd nw (ram .entry) (parity .entry) («data» .entry)) address width pcd (now (answers .entry)) (now (log .entry))) ⌝ }
+        ≡ readCall (lentState (tags .entry) (valid .entry) (lru .entry) cd nw (ram .entry) (parity .entry) («data» .entry)) address width pcd (now (answers .entry)) (now (log .entry)) []) ⌝ }
 {
     let mut value: u32 = 0;
     let mut cursor = AccessCursor::begin(address, width);
@@ -78,7 +79,7 @@ pub fn read_in_place<'a>(
     log: &mut [u32],
 ) -> CallResult
     ensures { λ r. ⌜ ((nw : Bool) → leaves r (lentState (tags .exit) (valid .exit) (lru .exit) cd nw (ram .entry) (parity .entry) («data» .exit)) (now (log .exit))
-        ≡ readCall (lentState (tags .entry) (valid .entry) (lru .entry) cd nw (ram .entry) (parity .entry) («data» .entry)) address width pcd (now (answers .entry)) (now (log .entry))) ⌝ }
+        ≡ readCall (lentState (tags .entry) (valid .entry) (lru .entry) cd nw (ram .entry) (parity .entry) («data» .entry)) address width pcd (now (answers .entry)) (now (log .entry)) []) ⌝ }
 {
     let number = read_number(
         tags,

@@ -27,21 +27,23 @@ use Rattle.doubleword.specs.Doubleword.{Doubleword, Done, plainCycles}
 use Rattle.doubleword.specs.declared.cursor.AccessCursor.{AccessCursor}
 use Rattle.doubleword.specs.DoublewordCode.{DoublewordNeeds}
 use Rattle.doubleword.specs.Cursor.{wantedOf, groupAt}
-use Rattle.reading.specs.Reading.{readHit, bufferOf, plainMiss, fillCycles, fillMiss, readMiss, settled, readDone}
+use Rattle.carried.specs.Carried.{due, landed}
+use Rattle.reading.specs.Reading.{readHit, fillCycles, settled, readDone}
 use Rattle.reading.specs.declared.next.NextRead.{NextRead}
 use Rattle.reading.specs.declared.reading.DoublewordRead.{DoublewordRead}
-use Rattle.reading.specs.ReadingCode.{Reads, ReadNext}
+use Rattle.reading.specs.ReadingCode.{Reads, ReadNext, readAlone}
+use Rattle.reading.proofs.Alone.{bufferAlone, plainAlone, fillAlone, missAlone, settledAlone, doneAlone, done-alone}
 
 -- a read leaves memory as it was
-pub read-memory : (f : Found) (victim : ℕ) (mayFill : Bool) (m : Memory) (array : List ℕ) (w : Doubleword) → readDone f victim mayFill m array w .memory ≡ m
-unfolding readDone readHit settled
+pub read-memory : (f : Found) (victim : ℕ) (mayFill : Bool) (m : Memory) (array : List ℕ) (w : Doubleword) → readAlone f victim mayFill m array w .memory ≡ m
+unfolding readDone readHit settled due landed
 read-memory (At way) victim mayFill m array w = refl
 read-memory Nothing victim mayFill m array w = refl
 
 -- the bytes of a line buffer that a fill filled are RAM's
-filled-bytes : (m : Memory) (w : Doubleword) (j n : ℕ) → 16 ≤ length (w .answers) → j + n ≤ 16 → bytesAt (bufferOf m w (fillCycles w)) j n ≡ bytesAt (m .ram) (w .line + j) n
+filled-bytes : (m : Memory) (w : Doubleword) (j n : ℕ) → 16 ≤ length (w .answers) → j + n ≤ 16 → bytesAt (bufferAlone m w (fillCycles w)) j n ≡ bytesAt (m .ram) (w .line + j) n
 filled-bytes m w j n l h =
-    bytes-same (bufferOf m w (fillCycles w)) (m .ram) j (w .line + j) n
+    bytes-same (bufferAlone m w (fillCycles w)) (m .ram) j (w .line + j) n
     (λ o k.
     let e : w .line + (j + o) ≡ w .line + j + o = omega arith in
     rw e at (fill-buffer (m .ram) (w .line) (w .wanted .from / 4) (w .answers) l (j + o) (omega arith)))
@@ -61,10 +63,10 @@ module _ (f : Found) (victim : ℕ) (mayFill : Bool) (m : Memory) (array : List 
   -- a hit
   pub hit-reads : (way offset value : ℕ) → f ≡ At way → way < 4 → offset ≡ dataOffset (w .line) way →
       value ≡ valueOf (bytesAt array (offset + w .wanted .from) (w .wanted .count)) → ((i : ℕ) → getD array i 0 < 256) →
-      Reads (readDone f victim mayFill m array w) (w .wanted .count) first log₀ (Use way) value 0 array log₀
-  unfolding readDone readHit wordsOf
+      Reads (readAlone f victim mayFill m array w) (w .wanted .count) first log₀ (Use way) value 0 array log₀
+  unfolding doneAlone readHit wordsOf
   hit-reads way offset value e b eo ev small =
-      rw e
+      rw (done-alone f victim mayFill m 0 array w, e)
       (record {
         changes = refl;
         below = b;
@@ -83,10 +85,10 @@ module _ (f : Found) (victim : ℕ) (mayFill : Bool) (m : Memory) (array : List 
     fits-ram = rw ev (bytes-below (m .ram) small (w .line + w .wanted .from) (w .wanted .count))
 
     pub plain-reads : (mayFill && ken (getD (w .answers) 0 0)) ≡ false → CyclesMade (readRecord plainKind m (w .line)) (plainCycles w) first 0 log₀ cycles log → cycles ≤ 4 →
-        Reads (readDone f victim mayFill m array w) (w .wanted .count) first log₀ Unchanged value cycles array log
-    unfolding readDone readMiss settled plainMiss
+        Reads (readAlone f victim mayFill m array w) (w .wanted .count) first log₀ Unchanged value cycles array log
+    unfolding doneAlone missAlone settledAlone plainAlone
     plain-reads p made most =
-        rw (e, cond-false _ (fillMiss m w) (plainMiss m w) p)
+        rw (done-alone f victim mayFill m 0 array w, e, cond-false _ (fillAlone m w) (plainAlone m w) p)
         (record {
           changes = refl;
           below = tt;
@@ -103,18 +105,18 @@ module _ (f : Found) (victim : ℕ) (mayFill : Bool) (m : Memory) (array : List 
       last-is : ken (lastAnswer 0 (fillCycles w)) ≡ ken (getD (w .answers) (cycles - 1) 0)
       last-is = ap ken (last-answer (w .answers) (burst (w .wanted .from / 4)) cycles (made .made ∙ zero-add (length (fillCycles w))) some)
 
-      gives-ram : value ≡ valueOf (bytesAt (bufferOf m w (fillCycles w)) (w .wanted .from) (w .wanted .count))
+      gives-ram : value ≡ valueOf (bytesAt (bufferAlone m w (fillCycles w)) (w .wanted .from) (w .wanted .count))
       gives-ram = ev ∙ sym (ap valueOf (filled-bytes m w (w .wanted .from) (w .wanted .count) enough (g .line)))
 
       filled-made : cycles ≡ length (map (readRecord fillKind m (w .line)) (fillCycles w))
       filled-made = made .made ∙ zero-add (length (fillCycles w)) ∙ sym (length-map (fillCycles w) (readRecord fillKind m (w .line)))
 
       pub dropped-reads : ken (getD (w .answers) (cycles - 1) 0) ≡ false →
-          Reads (readDone f victim mayFill m array w) (w .wanted .count) first log₀ Unchanged value cycles array log
-      unfolding readDone readMiss settled fillMiss
+          Reads (readAlone f victim mayFill m array w) (w .wanted .count) first log₀ Unchanged value cycles array log
+      unfolding doneAlone missAlone settledAlone fillAlone
       dropped-reads k =
           let q = last-is ∙ k in
-          rw (e, cond-true _ (fillMiss m w) (plainMiss m w) p)
+          rw (done-alone f victim mayFill m 0 array w, e, cond-true _ (fillAlone m w) (plainAlone m w) p)
           (record {
             changes = rw q;
             below = tt;
@@ -128,12 +130,12 @@ module _ (f : Found) (victim : ℕ) (mayFill : Bool) (m : Memory) (array : List 
 
       pub kept-reads : ken (getD (w .answers) (cycles - 1) 0) ≡ true → (way : ℕ) → way ≡ victim → way < 4 → (array′ : List ℕ) →
           array′ ≡ sets array (dataOffset (w .line) way) (bytesAt (m .ram) (w .line) 16) →
-          Reads (readDone f victim mayFill m array w) (w .wanted .count) first log₀ (Fill way) value cycles array′ log
-      unfolding readDone readMiss settled fillMiss
+          Reads (readAlone f victim mayFill m array w) (w .wanted .count) first log₀ (Fill way) value cycles array′ log
+      unfolding doneAlone missAlone settledAlone fillAlone
       kept-reads k way ew b array′ ea =
           let q = last-is ∙ k in
-          let line : bytesAt (bufferOf m w (fillCycles w)) 0 16 ≡ bytesAt (m .ram) (w .line) 16 = rw (add-zero (w .line)) at (filled-bytes m w 0 16 enough (omega arith)) in
-          rw (e, cond-true _ (fillMiss m w) (plainMiss m w) p)
+          let line : bytesAt (bufferAlone m w (fillCycles w)) 0 16 ≡ bytesAt (m .ram) (w .line) 16 = rw (add-zero (w .line)) at (filled-bytes m w 0 16 enough (omega arith)) in
+          rw (done-alone f victim mayFill m 0 array w, e, cond-true _ (fillAlone m w) (plainAlone m w) p)
           (record {
             changes = rw (q, ew);
             below = b;

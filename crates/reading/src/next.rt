@@ -6,8 +6,7 @@ ghost use Rattle.ways.specs.Address.{setOf};
 ghost use Rattle.ways.specs.Ways.{lookupIn, victimIn};
 ghost use Rattle.memory.specs.Parity.{lentMemory};
 ghost use Rattle.doubleword.specs.Cursor.{AccessNeeds, lineAddress, nextDoubleword};
-ghost use Rattle.reading.specs.Reading.{readDone};
-ghost use Rattle.reading.specs.ReadingCode.{ReadNext};
+ghost use Rattle.reading.specs.ReadingCode.{ReadNext, readAlone};
 use crate::reading::read_doubleword;
 use doubleword::AccessCursor;
 use doubleword::Change;
@@ -38,7 +37,7 @@ pub fn read_next<'a>(
     cursor: AccessCursor,
 ) -> NextRead
     requires { ⌜ (0 < cursor .left) × AccessNeeds cursor (length (now ram)) (length (now parity)) (length (now «data»)) (length (now answers)) (length (now log)) ⌝ }
-    ensures { λ r. ⌜ ReadNext (readDone (lookupIn (now (tags .entry)) (now (valid .entry)) (lineAddress cursor)) (victimIn (now (valid .entry)) (now (lru .entry)) (setOf (lineAddress cursor)))
+    ensures { λ r. ⌜ ReadNext (readAlone (lookupIn (now (tags .entry)) (now (valid .entry)) (lineAddress cursor)) (victimIn (now (valid .entry)) (now (lru .entry)) (setOf (lineAddress cursor)))
         «may_fill» (lentMemory (ram .entry) (parity .entry)) (now («data» .entry)) (nextDoubleword cursor (now (answers .entry))))
         cursor (now (log .entry)) r (now («data» .exit)) (now (log .exit)) ⌝ }
 {

@@ -8,8 +8,7 @@ ghost use Rattle.ways.specs.Ways.{lookupIn, victimIn};
 ghost use Rattle.words.specs.Bytes.{bytesAt};
 ghost use Rattle.memory.specs.Parity.{lentMemory};
 ghost use Rattle.doubleword.specs.DoublewordCode.{DoublewordNeeds, doublewordOf};
-ghost use Rattle.reading.specs.Reading.{readDone};
-ghost use Rattle.reading.specs.ReadingCode.{Reads};
+ghost use Rattle.reading.specs.ReadingCode.{Reads, readAlone};
 use crate::plain::plain_read;
 use cycles::fill_cycles;
 use doubleword::Change;
@@ -62,7 +61,7 @@ pub fn read_doubleword<'a>(
     first: usize,
 ) -> DoublewordRead
     requires { ⌜ DoublewordNeeds w first (length (now ram)) (length (now parity)) (length (now answers)) (length (now log)) × (length (now «data») ≡ dataSize) ⌝ }
-    ensures { λ r. ⌜ Reads (readDone (lookupIn (now (tags .entry)) (now (valid .entry)) (w .line)) (victimIn (now (valid .entry)) (now (lru .entry)) (setOf (w .line)))
+    ensures { λ r. ⌜ Reads (readAlone (lookupIn (now (tags .entry)) (now (valid .entry)) (w .line)) (victimIn (now (valid .entry)) (now (lru .entry)) (setOf (w .line)))
         «may_fill» (lentMemory (ram .entry) (parity .entry)) (now («data» .entry)) (doublewordOf w (now (answers .entry))))
         (w .count) first (now (log .entry)) (r .change) (r .value) (r .cycles) (now («data» .exit)) (now (log .exit)) ⌝ }
 {

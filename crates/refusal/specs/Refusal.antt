@@ -1,12 +1,13 @@
 -- Document 01, 'Turned away because of the input' and '.. of the state': the number of each call, 0 where it is accepted.
 use Prim.Native.Nat.{ℕ, _+_, _-_, _/_, _%_, _^_}
-use mathlib.Core.Bool.{Bool, false, cond, not, _||_}
+use mathlib.Core.Bool.{Bool, true, false, cond, not, _&&_, _||_}
 use mathlib.Core.List.{List, [], _∷_}
 use lib.Dec.{eqb, ltb}
 use lib.ListN.{length}
 use Rattle.directory.specs.declared.steps.Directory.{Directory}
 use Rattle.ways.specs.Address.{setOf, dataSize}
 use Rattle.ways.specs.State.{stateNumberIn}
+use Rattle.carried.specs.Carried.{Carried}
 use Rattle.bus.specs.Groups.{badWidth, answerCount, highestAnswer, logSize}
 
 -- A number where a test holds; and "Lowest number first": the first of two that is met.
@@ -68,6 +69,21 @@ unfoldable pub externalNumber : ℕ → ℕ → ℕ → ℕ
 externalNumber ram address count =
     when (eqb count 0 || ltb 16 count || ltb 16 (address % 16 + count) || ltb ram (address + count)) 10
 
+-- "they aren't in cycle order": none is numbered below the one before it.
+unfoldable pub inOrder : List Carried → Bool
+inOrder [] = true
+inOrder (w ∷ []) = true
+inOrder (w ∷ x ∷ ws) = not (ltb (x .cycle) (w .cycle)) && inOrder (x ∷ ws)
+
+-- "one would be refused by 10"
+unfoldable pub anyRefused : ℕ → List Carried → Bool
+anyRefused ram [] = false
+anyRefused ram (w ∷ ws) = not (eqb (externalNumber ram (w .address) (length (w .bytes))) 0) || anyRefused ram ws
+
+-- Document 02, C-12: "33 where there are more than four writes, they aren't in cycle order or one would be refused by 10".
+unfoldable pub carriedNumber : ℕ → List Carried → ℕ
+carriedNumber ram ws = when (ltb 4 (length ws) || not (inOrder ws) || anyRefused ram ws) 33
+
 -- "Checked in every touched set, the lower address's set first": of the first and the last byte of an access. "All of one set comes before the next set."
 unfoldable pub statesNumberIn : List ℕ → List Bool → List ℕ → ℕ → ℕ → ℕ
 statesNumberIn tags valid lru address count =
@@ -76,3 +92,8 @@ statesNumberIn tags valid lru address count =
 -- The same, of a directory.
 abbrev pub statesNumberOf : Directory → ℕ → ℕ → ℕ
 statesNumberOf d address count = statesNumberIn (d .tags) (d .valid) (d .lru) address count
+
+-- "then the writes' in list order"
+unfoldable pub carriedStatesNumber : Directory → List Carried → ℕ
+carriedStatesNumber d [] = 0
+carriedStatesNumber d (w ∷ ws) = orElse (statesNumberOf d (w .address) (length (w .bytes))) (carriedStatesNumber d ws)

@@ -2,7 +2,8 @@ use Rattle.access.proofs.Calls.{read-begin, read-made}
 use Rattle.access.proofs.ReadLoop.{ReadKept, kept-needs, part-fits, kept-next}
 use Rattle.access.proofs.AccessLoop.{restOf, keep-changed}
 use Rattle.refusal.specs.Call.{state}
-use Rattle.access.specs.Access.{allOf, readOne}
+use Rattle.access.specs.Access.{allOf}
+use Rattle.access.proofs.Alone.{oneAlone}
 use Rattle.doubleword.proofs.Cursors.{cursor-less, cursor-next}
 use Rattle.doubleword.specs.Cursor.{accessBegin}
 use Rattle.memory.specs.Parity.{memory}
@@ -16,7 +17,7 @@ use Rattle.read_calls.proofs.by_value.read_all.Tie as tie
 
 abbrev Inv-loop : tie.InvT-loop
 Inv-loop ram parity data₀ address width pcd answers log₀ given₀ value₀ cursor₀ «data» log given value cursor =
-    ReadKept pcd answers (allOf (readOne pcd) (state given₀ (memory ram parity) data₀) (restOf (accessBegin address width) answers)) log₀ data₀
+    ReadKept pcd answers (allOf (oneAlone pcd) (state given₀ (memory ram parity) data₀) (restOf (accessBegin address width) answers)) log₀ data₀
     (memory ram parity) cursor given «data» log value
 
 abbrev μ-loop : tie.MeasureT-loop
@@ -45,7 +46,7 @@ changed-by-requires : tie.Need-changed-by-requires Inv-loop μ-loop
 changed-by-requires c κs = c .before .before .before .before .before .read-next .ensures .reads .below
 
 with-part-requires : tie.Need-with-part-requires Inv-loop μ-loop
-unfolding readOne
+unfolding oneAlone
 with-part-requires c κs =
     let at-read-next = c .before .before .before .before .before in
     let at-if1 = at-read-next .before .before .before .before .before .before .before in
@@ -65,7 +66,7 @@ loop-less c =
     cursor-less _ _ _ _ (at-if1 .if1 .taken) (at-read-next .read-next .ensures .counts) (c .next .ensures)
 
 loop-again : tie.Need-loop-again Inv-loop μ-loop
-unfolding readOne
+unfolding oneAlone
 loop-again c =
     let at-match = c .before .before in
     let at-read-next = at-match .before .before .before .before .before in

@@ -2,7 +2,8 @@ use Rattle.access.proofs.Calls.{read-begin, read-made}
 use Rattle.access.proofs.ReadLoop.{ReadKept, kept-needs, part-fits, kept-next}
 use Rattle.access.proofs.AccessLoop.{restOf}
 use Rattle.refusal.specs.Call.{state}
-use Rattle.access.specs.Access.{allOf, readOne}
+use Rattle.access.specs.Access.{allOf}
+use Rattle.access.proofs.Alone.{oneAlone}
 use Rattle.doubleword.proofs.Cursors.{cursor-less, cursor-next}
 use Rattle.doubleword.specs.Cursor.{accessBegin}
 use Rattle.memory.specs.Parity.{memory}
@@ -17,7 +18,7 @@ use Rattle.read_calls.proofs.in_place.read_accepted.Tie as tie
 abbrev Inv-loop : tie.InvT-loop
 Inv-loop tags₀ valid₀ lru₀ cd ram parity data₀ address width pcd answers log₀ value₀ cursor₀ tags valid lru «data» log value cursor =
     (nw : Bool) → ReadKept pcd answers
-    (allOf (readOne pcd) (state (directoryOf tags₀ valid₀ lru₀ cd nw) (memory ram parity) data₀) (restOf (accessBegin address width) answers)) log₀ data₀
+    (allOf (oneAlone pcd) (state (directoryOf tags₀ valid₀ lru₀ cd nw) (memory ram parity) data₀) (restOf (accessBegin address width) answers)) log₀ data₀
     (memory ram parity) cursor (directoryOf tags valid lru cd nw) «data» log value
 
 abbrev μ-loop : tie.MeasureT-loop
@@ -41,7 +42,7 @@ change-in-place-requires : tie.Need-change-in-place-requires Inv-loop μ-loop
 change-in-place-requires c κs = c .before .before .before .before .before .before .before .read-next .ensures .reads .below
 
 with-part-requires : tie.Need-with-part-requires Inv-loop μ-loop
-unfolding readOne
+unfolding oneAlone
 with-part-requires c κs =
     let at-read-next = c .before .before .before .before .before .before .before .before in
     let at-if1 = at-read-next .before .before .before .before .before .before in
@@ -61,7 +62,7 @@ loop-less c =
     cursor-less _ _ _ _ (at-if1 .if1 .taken) (at-read-next .read-next .ensures .counts) (c .next .ensures)
 
 loop-again : tie.Need-loop-again Inv-loop μ-loop
-unfolding readOne
+unfolding oneAlone
 loop-again c nw =
     let at-change-in-place = c .before .before in
     let at-read-next = at-change-in-place .before .before .before .before .before .before .before .before in

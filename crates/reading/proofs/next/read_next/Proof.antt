@@ -1,5 +1,5 @@
 use Rattle.reading.proofs.ReadDoublewords.{read-next-left}
-use Rattle.reading.specs.Reading.{readDone}
+use Rattle.reading.specs.ReadingCode.{readAlone}
 use Rattle.doubleword.proofs.Cursors.{cursor-doubleword}
 use Rattle.doubleword.specs.DoublewordCode.{doublewordOf}
 use Rattle.doubleword.specs.declared.change.Wanted.{Wanted}
@@ -37,7 +37,7 @@ returns c =
     let start = at-wanted .before .before .before .before .before .before in
     let a = start .args in
     read-next-left _ _ _ _ (at-wanted .wanted .ensures) (at-group-of .group-of .ensures .0) _
-    (λ (w : Wanted) (xs : List ℕ). readDone (lookupIn (now (a .tags)) (now (a .valid)) (w .line))
+    (λ (w : Wanted) (xs : List ℕ). readAlone (lookupIn (now (a .tags)) (now (a .valid)) (w .line))
     (victimIn (now (a .valid)) (now (a .lru)) (setOf (w .line))) (a .may-fill) (memory (now (a .ram)) (now (a .parity))) (now (a .«data»))
     (doublewordOf w xs))
     _ _ _ (at-read-doubleword .read-doubleword .ensures)

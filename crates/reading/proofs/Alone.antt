@@ -1,0 +1,81 @@
+-- Laws of a read that carries nothing: memory is the same at every cycle, so that no cycle's number matters.
+use Prim.Native.Nat.{ℕ, suc, _/_}
+use mathlib.Core.Path.{_≡_, refl, _∙_, ap}
+use mathlib.Core.Bool.{Bool, false, cond, _&&_}
+use mathlib.Core.List.{List, [], _∷_, map}
+use lib.ListN.{getD, replicate}
+use Rattle.ways.specs.declared.ways.Found.{Found}
+use Rattle.ways.specs.declared.ways.Found.the-variants.{At, Nothing}
+use Rattle.words.specs.Bytes.{bytesAt}
+use Rattle.memory.specs.Parity.{Memory}
+use Rattle.carried.specs.Carried.{due, later, landed, memoryAt, inLine}
+use Rattle.bus.specs.Bus.{ken, Cycle, lastAnswer, afterCycles, bufferAfter}
+use Rattle.bus.specs.Record.{readRecord, plainKind, fillKind}
+use Rattle.doubleword.specs.Doubleword.{Doubleword, Done, plainCycles}
+use Rattle.reading.specs.Reading.{readHit, Missed, bufferOf, recordsOf, plainMiss, fillCycles, spoiled, fillMiss, readMiss, keptChange, keptArray, settled, readDone}
+
+-- the line buffer and the records of cycles over one memory
+abbrev pub bufferAlone : Memory → Doubleword → List Cycle → List ℕ
+bufferAlone m w cs = afterCycles (bufferAfter (m .ram) (w .line)) cs (replicate 16 0)
+
+buffer-alone : (m : Memory) (line n : ℕ) (cs : List Cycle) (b : List ℕ) → bufferOf (memoryAt m []) line n cs b ≡ afterCycles (bufferAfter (m .ram) line) cs b
+unfolding bufferOf afterCycles due landed
+buffer-alone m line n [] b = refl
+buffer-alone m line n (c ∷ cs) b = buffer-alone m line (suc n) cs (bufferAfter (m .ram) line (c .moved) b)
+
+records-alone : (kind : ℕ) (m : Memory) (line n : ℕ) (cs : List Cycle) → recordsOf kind (memoryAt m []) line n cs ≡ map (readRecord kind m line) cs
+unfolding recordsOf due landed
+records-alone kind m line n [] = refl
+records-alone kind m line n (c ∷ cs) = rw (records-alone kind m line (suc n) cs)
+
+-- a miss
+unfoldable pub plainAlone : Memory → Doubleword → Missed
+plainAlone m w =
+    record {
+      buffer = bufferAlone m w (plainCycles w);
+      kept = false;
+      records = map (readRecord plainKind m (w .line)) (plainCycles w);
+    }
+
+unfoldable pub fillAlone : Memory → Doubleword → Missed
+fillAlone m w =
+    record {
+      buffer = bufferAlone m w (fillCycles w);
+      kept = ken (lastAnswer 0 (fillCycles w));
+      records = map (readRecord fillKind m (w .line)) (fillCycles w);
+    }
+
+unfoldable pub missAlone : Bool → Memory → Doubleword → Missed
+missAlone mayFill m w = cond (mayFill && ken (getD (w .answers) 0 0)) (fillAlone m w) (plainAlone m w)
+
+plain-alone : (m : Memory) (n : ℕ) (w : Doubleword) → plainMiss m [] n w ≡ plainAlone m w
+unfolding plainMiss plainAlone
+plain-alone m n w = rw (buffer-alone m (w .line) n (plainCycles w) (replicate 16 0), records-alone plainKind m (w .line) n (plainCycles w))
+
+fill-alone : (m : Memory) (n : ℕ) (w : Doubleword) → fillMiss m [] n w ≡ fillAlone m w
+unfolding fillMiss fillAlone spoiled due later inLine
+fill-alone m n w = rw (buffer-alone m (w .line) n (fillCycles w) (replicate 16 0), records-alone fillKind m (w .line) n (fillCycles w))
+
+pub miss-alone : (mayFill : Bool) (m : Memory) (n : ℕ) (w : Doubleword) → readMiss mayFill m [] n w ≡ missAlone mayFill m w
+unfolding readMiss missAlone
+miss-alone mayFill m n w = rw (plain-alone m n w, fill-alone m n w)
+
+-- a doubleword
+unfoldable pub settledAlone : ℕ → Memory → List ℕ → Doubleword → Missed → Done
+settledAlone victim m array w missed =
+    record {
+      change = keptChange (missed .kept) victim;
+      memory = m;
+      array = keptArray (missed .kept) victim (w .line) (missed .buffer) array;
+      bytes = bytesAt (missed .buffer) (w .wanted .from) (w .wanted .count);
+      records = missed .records;
+    }
+
+unfoldable pub doneAlone : Found → ℕ → Bool → Memory → List ℕ → Doubleword → Done
+doneAlone (At way) victim mayFill m array w = readHit way m array w
+doneAlone Nothing victim mayFill m array w = settledAlone victim m array w (missAlone mayFill m w)
+
+pub done-alone : (f : Found) (victim : ℕ) (mayFill : Bool) (m : Memory) (n : ℕ) (array : List ℕ) (w : Doubleword) → readDone f victim mayFill m [] n array w ≡ doneAlone f victim mayFill m array w
+unfolding readDone doneAlone settled settledAlone due landed
+done-alone (At way) victim mayFill m n array w = refl
+done-alone Nothing victim mayFill m n array w = rw (miss-alone mayFill m n w)
