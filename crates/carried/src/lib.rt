@@ -1,4 +1,11 @@
 // The external writes that a read carries: which of them are due, what they store, whether they lie in a line.
+ghost use mathlib.Core.Path.{_≡_};
+ghost use Prim.Native.Nat.{_*_, _-_, _/_, _≤_, suc};
+ghost use lib.ListN.{length};
+ghost use Rattle.memory.specs.Parity.{lentMemory};
+ghost use Rattle.carried.specs.Carried.{due, inLine, landed, later};
+ghost use Rattle.carried.specs.CarriedCode.{CarriedNeeds, leftFrom, writesFrom};
+use memory::store_bytes;
 
 // The most writes that a read carries.
 pub const CARRIED_MOST: u32 = 4;
@@ -13,4 +20,58 @@ pub struct CarriedWrites {
     pub addresses: [u32; 4],
     pub lengths: [u32; 4],
     pub bytes: [u8; 64],
+}
+
+// The place after the writes that are due before a cycle, of those from a place on.
+pub fn due_end(carried: CarriedWrites, from: usize, number: usize) -> usize
+    requires { ⌜ (from ≤ carried .count) × (carried .count ≤ 4) ⌝ }
+    ensures { λ r. ⌜ (from ≤ r) × (r ≤ carried .count)
+        × (writesFrom carried from (r - from) ≡ due (suc number) (leftFrom carried from))
+        × (leftFrom carried r ≡ later (suc number) (leftFrom carried from)) ⌝ }
+{
+    let count = carried.count as usize;
+    let mut to = from;
+    while to < count {
+        if number < carried.cycles[to] as usize {
+            return to;
+        }
+        to += 1;
+    }
+    to
+}
+
+// The writes of some places land: their bytes go into RAM, with their parity.
+pub fn land(carried: CarriedWrites, from: usize, to: usize, ram: &mut [u8], parity: &mut [u8])
+    requires { ⌜ (from ≤ to) × (to ≤ carried .count) × CarriedNeeds carried (length (now ram)) (length (now parity)) ⌝ }
+    ensures { λ _. ⌜ lentMemory (ram .exit) (parity .exit) ≡ landed (writesFrom carried from (to - from)) (lentMemory (ram .entry) (parity .entry)) ⌝ }
+{
+    let bytes = carried.bytes;
+    let mut k = from;
+    while k < to {
+        let address = carried.addresses[k] as usize;
+        let count = carried.lengths[k] as usize;
+        store_bytes(&bytes[..], 16 * k, ram, parity, address, count);
+        k += 1;
+    }
+}
+
+// The address of the line around an address.
+fn line_of(address: u32) -> u32
+    ensures { λ r. ⌜ r ≡ address / 16 * 16 ⌝ }
+{
+    address / 16 * 16
+}
+
+// Whether a write of some places lies in a line.
+pub fn any_in_line(carried: CarriedWrites, from: usize, to: usize, line: u32) -> bool
+    requires { ⌜ (from ≤ to) × (to ≤ carried .count) × (carried .count ≤ 4) ⌝ }
+    ensures { λ r. ⌜ r ≡ inLine line (writesFrom carried from (to - from)) ⌝ }
+{
+    let mut found = false;
+    let mut k = from;
+    while k < to {
+        found = found | (line_of(carried.addresses[k]) == line);
+        k += 1;
+    }
+    found
 }

@@ -1,0 +1,86 @@
+-- Laws of carried writes: those due in two steps are those due in one, and lists of writes that land one after the other.
+use Prim.Native.Nat.{ℕ, _*_, _/_, _≤_}
+use mathlib.Core.Path.{_≡_, refl, sym, _∙_, ap}
+use mathlib.Core.Bool.{Bool, true, false, cond, _||_}
+use mathlib.Core.List.{List, [], _∷_, _++_}
+use native.Mathlib.Omega.{arith}
+use lib.Dec.{eqb, ltb}
+use borrow.Author.Tests.{lt-ltb, le-ltb, ltb-true}
+use Rattle.laws.proofs.Tests.{cond-true, cond-false, by-test}
+use Rattle.memory.specs.Parity.{Memory, stored}
+use Rattle.carried.specs.Carried.{Carried, due, later, landed, inLine}
+
+module _ (n : ℕ) (w : Carried) (ws : List Carried) where
+  pub due-first : ltb (w .cycle) n ≡ true → due n (w ∷ ws) ≡ w ∷ due n ws
+  unfolding due
+  due-first e = cond-true _ _ _ e
+
+  pub due-stop : ltb (w .cycle) n ≡ false → due n (w ∷ ws) ≡ []
+  unfolding due
+  due-stop e = cond-false _ _ _ e
+
+  pub later-first : ltb (w .cycle) n ≡ true → later n (w ∷ ws) ≡ later n ws
+  unfolding later
+  later-first e = cond-true _ _ _ e
+
+  pub later-stop : ltb (w .cycle) n ≡ false → later n (w ∷ ws) ≡ w ∷ ws
+  unfolding later
+  later-stop e = cond-false _ _ _ e
+
+-- what is left is not due
+pub due-none : (n : ℕ) (ws : List Carried) → due n (later n ws) ≡ []
+unfolding due later
+due-none n [] = refl
+due-none n (w ∷ ws) =
+    by-test (λ b. ltb (w .cycle) n ≡ b → due n (cond b (later n ws) (w ∷ ws)) ≡ []) (ltb (w .cycle) n)
+    (λ _ _. due-none n ws)
+    (λ _ e. due-stop n w ws e)
+    refl
+
+-- before the first cycle nothing has landed
+pub due-zero : (ws : List Carried) → due 0 ws ≡ []
+unfolding due
+due-zero [] = refl
+due-zero (w ∷ ws) = due-stop 0 w ws (le-ltb (w .cycle) 0 (omega arith))
+
+pub later-zero : (ws : List Carried) → later 0 ws ≡ ws
+unfolding later
+later-zero [] = refl
+later-zero (w ∷ ws) = later-stop 0 w ws (le-ltb (w .cycle) 0 (omega arith))
+
+-- two steps
+module _ (n k : ℕ) (h : n ≤ k) where
+  sooner : (x : ℕ) → ltb x n ≡ true → ltb x k ≡ true
+  sooner x e = let l = ltb-true x n e in lt-ltb x k (omega arith)
+
+  pub due-then : (ws : List Carried) → due n ws ++ due k (later n ws) ≡ due k ws
+  unfolding due later
+  due-then [] = refl
+  due-then (w ∷ ws) =
+      by-test (λ b. ltb (w .cycle) n ≡ b → cond b (w ∷ due n ws) [] ++ due k (cond b (later n ws) (w ∷ ws)) ≡ due k (w ∷ ws)) (ltb (w .cycle) n)
+      (λ _ e. ap (λ (l : List Carried). w ∷ l) (due-then ws) ∙ sym (due-first k w ws (sooner (w .cycle) e)))
+      (λ _ _. refl)
+      refl
+
+  pub later-then : (ws : List Carried) → later k (later n ws) ≡ later k ws
+  unfolding later
+  later-then [] = refl
+  later-then (w ∷ ws) =
+      by-test (λ b. ltb (w .cycle) n ≡ b → later k (cond b (later n ws) (w ∷ ws)) ≡ later k (w ∷ ws)) (ltb (w .cycle) n)
+      (λ _ e. later-then ws ∙ sym (later-first k w ws (sooner (w .cycle) e)))
+      (λ _ _. refl)
+      refl
+
+-- lists of writes that land one after the other
+pub landed-append : (a b : List Carried) (m : Memory) → landed (a ++ b) m ≡ landed b (landed a m)
+unfolding landed
+landed-append [] b m = refl
+landed-append (w ∷ a) b m = landed-append a b (stored m (w .address) (w .bytes))
+
+pub in-line-append : (line : ℕ) (a b : List Carried) → inLine line (a ++ b) ≡ (inLine line a || inLine line b)
+unfolding inLine
+in-line-append line [] b = refl
+in-line-append line (w ∷ a) b =
+    by-test (λ t. (t || inLine line (a ++ b)) ≡ ((t || inLine line a) || inLine line b)) (eqb (w .address / 16 * 16) line)
+    (λ _. refl)
+    (λ _. in-line-append line a b)

@@ -1,0 +1,98 @@
+// The next doubleword of a read that carries writes.
+ghost use mathlib.Core.Path.{_≡_};
+ghost use mathlib.Core.List.{[]};
+ghost use Prim.Native.Nat.{_≤_, _<_};
+ghost use lib.ListN.{length};
+ghost use Rattle.ways.specs.Address.{dataSize, setOf};
+ghost use Rattle.ways.specs.Ways.{lookupIn, victimIn};
+ghost use Rattle.memory.specs.Parity.{lentMemory};
+ghost use Rattle.carried.specs.Carried.{due};
+ghost use Rattle.carried.specs.CarriedCode.{CarriedNeeds, leftFrom};
+ghost use Rattle.doubleword.specs.DoublewordCode.{BelowFour};
+ghost use Rattle.doubleword.specs.Cursor.{AccessNeeds, lineAddress, nextDoubleword};
+ghost use Rattle.reading.specs.Reading.{keptArray};
+ghost use Rattle.carrying.specs.CarryingCode.{CarriedNext, FoundBelow, begunBy, settledChange};
+use crate::miss::fill_miss;
+use crate::miss::plain_miss;
+use carried::CarriedWrites;
+use doubleword::AccessCursor;
+use doubleword::Change;
+use doubleword::Wanted;
+use ways::Found;
+use ways::LINES;
+use ways::SETS;
+use ways::data_offset;
+use words::copy_line;
+use words::value_at;
+
+// What the lookup and the cycles of a doubleword brought: its line, what was found, whether the line buffer is a line to keep, how many
+// bytes were read and their number, the count of cycles, and how many of the writes have landed.
+pub struct CarriedRead {
+    pub line: u32,
+    pub found: Found,
+    pub kept: bool,
+    pub buffer: [u8; 16],
+    pub count: usize,
+    pub value: u32,
+    pub cycles: usize,
+    pub landed: usize,
+}
+
+// The doubleword at a cursor up to its last cycle, by lent fields of the directory. may_fill: CD = 0 and PCD = 0; landed: how many of
+// the writes have landed.
+pub fn carried_next<'a>(
+    tags: &'a [u32; LINES],
+    valid: &'a [bool; LINES],
+    may_fill: bool,
+    ram: &mut [u8],
+    parity: &mut [u8],
+    data: &[u8],
+    answers: &[u8],
+    log: &mut [u32],
+    cursor: AccessCursor,
+    carried: CarriedWrites,
+    landed: usize,
+) -> CarriedRead
+    requires { ⌜ (0 < cursor .left) × AccessNeeds cursor (length (now ram)) (length (now parity)) (length (now «data»)) (length (now answers)) (length (now log))
+        × CarriedNeeds carried (length (now ram)) (length (now parity)) × (landed ≤ carried .count) × (due (cursor .cycles) (leftFrom carried landed) ≡ []) ⌝ }
+    ensures { λ r. ⌜ CarriedNext (lookupIn (now (tags .entry)) (now (valid .entry)) (lineAddress cursor))
+        (begunBy (lookupIn (now (tags .entry)) (now (valid .entry)) (lineAddress cursor)) «may_fill» (lentMemory (ram .entry) (parity .entry)) (leftFrom carried landed) (cursor .cycles) (now («data» .entry)) (nextDoubleword cursor (now (answers .entry))))
+        carried landed (lentMemory (ram .entry) (parity .entry)) cursor (now (log .entry)) r (lentMemory (ram .exit) (parity .exit)) (now (log .exit)) ⌝ }
+{
+    let w = cursor.wanted();
+    let group = cursor.group_of(answers);
+    let first = cursor.cycles;
+    if let Found::At(way) = ways::lookup(tags, valid, w.line) {
+        return hit_read(data, w, way, landed);
+    }
+    if may_fill & (group[0] % 2 == 1) {
+        return fill_read(ram, parity, group, log, w, carried, first, landed);
+    }
+    plain_read(ram, parity, group, log, w, carried, first, landed)
+}
+
+// The end of a doubleword, by the directory after the snoops of what landed: a kept line goes into the data array, in the victim's
+// place. Answers the directory's change.
+pub fn settle<'a>(
+    valid: &'a [bool; LINES],
+    lru: &'a [u8; SETS],
+    data: &mut [u8],
+    read: CarriedRead,
+) -> Change
+    requires { ⌜ (length (now «data») ≡ dataSize) × FoundBelow (read .found) ⌝ }
+    ensures { λ r. ⌜ (r ≡ settledChange (read .kept) (victimIn (now (valid .entry)) (now (lru .entry)) (setOf (read .line))) (read .found)) × BelowFour r
+        × (now («data» .exit) ≡ keptArray (read .kept) (victimIn (now (valid .entry)) (now (lru .entry)) (setOf (read .line))) (read .line) (read .buffer) (now («data» .entry))) ⌝ }
+{
+    if read.kept {
+        let way = ways::victim(valid, lru, ways::set_of(read.line));
+        let offset = data_offset(read.line, way);
+        let buffer = read.buffer;
+        copy_line(&buffer[..], 0, data, offset);
+        return Change::Fill(way);
+    }
+    let found = read.found;
+    match found {
+        Found::At(way) => Change::Use(way),
+        Found::Nothing => Change::Unchanged,
+    }
+}
