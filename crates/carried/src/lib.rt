@@ -1,8 +1,9 @@
 // The external writes that a read carries: which of them are due, what they store, whether they lie in a line.
 ghost use mathlib.Core.Path.{_≡_};
-ghost use Prim.Native.Nat.{_*_, _-_, _/_, _≤_, suc};
+ghost use Prim.Native.Nat.{_+_, _*_, _-_, _/_, _≤_, suc};
 ghost use lib.ListN.{length};
-ghost use Rattle.memory.specs.Parity.{lentMemory};
+ghost use Rattle.words.specs.Bytes.{bytesAt};
+ghost use Rattle.memory.specs.Parity.{lentMemory, stored};
 ghost use Rattle.carried.specs.Carried.{due, inLine, landed, later};
 ghost use Rattle.carried.specs.CarriedCode.{CarriedNeeds, leftFrom, writesFrom};
 use memory::store_bytes;
@@ -40,6 +41,21 @@ pub fn due_end(carried: CarriedWrites, from: usize, number: usize) -> usize
     to
 }
 
+// One write lands.
+fn land_one(
+    bytes: &[u8; 64],
+    from: usize,
+    count: usize,
+    ram: &mut [u8],
+    parity: &mut [u8],
+    address: u32,
+)
+    requires { ⌜ (from + count ≤ 64) × (address + count ≤ length (now ram)) × (address + count ≤ 4 * length (now parity)) ⌝ }
+    ensures { λ _. ⌜ lentMemory (ram .exit) (parity .exit) ≡ stored (lentMemory (ram .entry) (parity .entry)) address (bytesAt (now (bytes .entry)) from count) ⌝ }
+{
+    store_bytes(&bytes[..], from, ram, parity, address as usize, count);
+}
+
 // The writes of some places land: their bytes go into RAM, with their parity.
 pub fn land(carried: CarriedWrites, from: usize, to: usize, ram: &mut [u8], parity: &mut [u8])
     requires { ⌜ (from ≤ to) × (to ≤ carried .count) × CarriedNeeds carried (length (now ram)) (length (now parity)) ⌝ }
@@ -48,9 +64,8 @@ pub fn land(carried: CarriedWrites, from: usize, to: usize, ram: &mut [u8], pari
     let bytes = carried.bytes;
     let mut k = from;
     while k < to {
-        let address = carried.addresses[k] as usize;
         let count = carried.lengths[k] as usize;
-        store_bytes(&bytes[..], 16 * k, ram, parity, address, count);
+        land_one(&bytes, 16 * k, count, ram, parity, carried.addresses[k]);
         k += 1;
     }
 }
