@@ -70,32 +70,74 @@ std::vector<uint32_t> fresh_log(size_t words)
     return made;
 }
 
-// How many fields a letter has, at least and at most. R and W may come with no answers.
+// How many fields a letter has, at least and at most. R and W may come with no answers; those of Q are a field
+// even where there is none.
 const std::map<char, std::pair<size_t, size_t>> field_counts{{'N', {6, 6}}, {'T', {2, 2}}, {'K', {2, 2}},
     {'L', {2, 2}}, {'M', {2, 2}}, {'P', {2, 2}}, {'R', {3, 4}}, {'W', {3, 4}}, {'r', {3, 3}}, {'w', {3, 3}},
     {'X', {1, 65}}, {'S', {1, 1}}, {'F', {0, 0}}, {'C', {2, 2}}, {'Z', {0, 0}}, {'V', {1, 1}}, {'B', {2, 2}},
-    {'p', {20, 20}}, {'t', {2, 2}}};
+    {'p', {20, 20}}, {'t', {2, 2}}, {'Q', {5, 81}}};
+
+constexpr size_t answers_place = 3; // among the fields of R, W and Q
 
 bool is_digits(const std::string &field) { return field.find_first_not_of("0123456789") == field.npos; }
 
 bool is_number(const std::string &field)
 {
-    return is_digits(field) && field.size() <= 10 && std::strtoull(field.c_str(), nullptr, 10) <= UINT32_MAX;
+    return !field.empty() && is_digits(field) && field.size() <= 10 &&
+           std::strtoull(field.c_str(), nullptr, 10) <= UINT32_MAX;
 }
 
-// A letter and its fields: numbers, but for the answers of R and W, which are a run of digits.
-bool has_form(const std::string &text)
+// What stands between blanks: the letter and its fields.
+std::vector<std::string> words_of(const std::string &text)
+{
+    std::vector<std::string> words;
+    std::istringstream line(text);
+    for (std::string word; std::getline(line, word, ' ');)
+        words.push_back(word);
+    return words;
+}
+
+// The writes that a Q carries, from its count on; whether all their fields are there and no others.
+bool take_carried(std::istringstream &line, unit486_carried_writes &carried)
+{
+    line >> carried.count;
+    for (uint32_t k = 0; k < carried.count && k < UNIT486_CARRIED_MOST; ++k) {
+        line >> carried.cycles[k] >> carried.addresses[k] >> carried.lengths[k];
+        for (uint32_t j = 0; j < carried.lengths[k] && j < UNIT486_LINE_BYTES; ++j) {
+            uint32_t byte = 0;
+            line >> byte;
+            carried.bytes[k][j] = static_cast<uint8_t>(byte);
+        }
+    }
+    return !line.fail() && line.eof();
+}
+
+bool has_carried_form(const std::string &text)
 {
     std::istringstream line(text);
-    const std::vector<std::string> words{std::istream_iterator<std::string>(line), {}};
-    if (words.empty() || words[0] != text.substr(0, 1))
-        return false;
+    std::string word;
+    for (size_t k = 0; k <= answers_place + 1; ++k) // the letter too
+        std::getline(line, word, ' ');
+    unit486_carried_writes carried{};
+    return take_carried(line, carried);
+}
+
+// A letter and its fields: numbers, but for answers, which are a run of digits.
+bool has_form(const std::string &text)
+{
+    std::vector<std::string> words = words_of(text);
     const auto found = field_counts.find(text[0]);
-    const size_t fields = words.size() - 1;
-    const bool answers = fields == 4 && (text[0] == 'R' || text[0] == 'W');
-    return found != field_counts.end() && fields >= found->second.first && fields <= found->second.second &&
-           std::all_of(words.begin() + 1, words.end() - answers, is_number) &&
-           (!answers || is_digits(words.back()));
+    if (found == field_counts.end() || words[0].size() != 1)
+        return false;
+    words.erase(words.begin());
+    if (words.size() < found->second.first || words.size() > found->second.second)
+        return false;
+    if (std::strchr("RWQ", text[0]) && words.size() > answers_place) {
+        if (!is_digits(words[answers_place]))
+            return false;
+        words.erase(words.begin() + answers_place);
+    }
+    return std::all_of(words.begin(), words.end(), is_number) && (text[0] != 'Q' || has_carried_form(text));
 }
 
 // A unit with its log, on which the lines of a script are run.
@@ -162,7 +204,9 @@ struct ScriptUnit {
     {
         uint32_t address = 0, width = 0, third = 0;
         std::string digits;
-        line >> address >> width >> third >> digits;
+        line >> address >> width >> third;
+        line.get(); // the blank before the answers
+        std::getline(line, digits, ' ');
         Bytes answers(digits.begin(), digits.end());
         for (uint8_t &answer : answers)
             answer = static_cast<uint8_t>(answer - '0');
@@ -171,6 +215,12 @@ struct ScriptUnit {
             baseline::board_answers(address, width, answers.data());
         }
         unit486_buffers buffers = lent();
+        if (letter == 'Q') {
+            unit486_carried_writes carried{};
+            take_carried(line, carried);
+            return baseline::read_carrying(directory, buffers, address, width, third != 0, answers.data(),
+                answers.size(), log.data(), log.size(), carried);
+        }
         if (letter == 'R' || letter == 'r')
             return baseline::read(directory, buffers, address, width, third != 0, answers.data(),
                 answers.size(), log.data(), log.size());
@@ -180,7 +230,7 @@ struct ScriptUnit {
 
     unit486_result call(char letter, std::istringstream &line)
     {
-        if (std::strchr("RrWw", letter))
+        if (std::strchr("RrWwQ", letter))
             return access(letter, line);
         const std::vector<uint32_t> fields{std::istream_iterator<uint32_t>(line), {}};
         switch (letter) {
