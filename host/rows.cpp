@@ -70,31 +70,19 @@ std::vector<uint32_t> fresh_log(size_t words)
     return made;
 }
 
-// How many fields a letter has, at least and at most. R and W may come with no answers; those of Q are a field
-// even where there is none.
+// How many fields a letter has, at least and at most. R and W may come with no answers.
 const std::map<char, std::pair<size_t, size_t>> field_counts{{'N', {6, 6}}, {'T', {2, 2}}, {'K', {2, 2}},
     {'L', {2, 2}}, {'M', {2, 2}}, {'P', {2, 2}}, {'R', {3, 4}}, {'W', {3, 4}}, {'r', {3, 3}}, {'w', {3, 3}},
     {'X', {1, 65}}, {'S', {1, 1}}, {'F', {0, 0}}, {'C', {2, 2}}, {'Z', {0, 0}}, {'V', {1, 1}}, {'B', {2, 2}},
     {'p', {20, 20}}, {'t', {2, 2}}, {'Q', {5, 81}}};
 
-constexpr size_t answers_place = 3; // among the fields of R, W and Q
+constexpr size_t answers_word = 4; // of R, W and Q, the letter being word 0
 
 bool is_digits(const std::string &field) { return field.find_first_not_of("0123456789") == field.npos; }
 
 bool is_number(const std::string &field)
 {
-    return !field.empty() && is_digits(field) && field.size() <= 10 &&
-           std::strtoull(field.c_str(), nullptr, 10) <= UINT32_MAX;
-}
-
-// What stands between blanks: the letter and its fields.
-std::vector<std::string> words_of(const std::string &text)
-{
-    std::vector<std::string> words;
-    std::istringstream line(text);
-    for (std::string word; std::getline(line, word, ' ');)
-        words.push_back(word);
-    return words;
+    return is_digits(field) && field.size() <= 10 && std::strtoull(field.c_str(), nullptr, 10) <= UINT32_MAX;
 }
 
 // The writes that a Q carries, from its count on; whether all their fields are there and no others.
@@ -116,8 +104,8 @@ bool has_carried_form(const std::string &text)
 {
     std::istringstream line(text);
     std::string word;
-    for (size_t k = 0; k <= answers_place + 1; ++k) // the letter too
-        std::getline(line, word, ' ');
+    for (size_t k = 0; k <= answers_word; ++k)
+        line >> word;
     unit486_carried_writes carried{};
     return take_carried(line, carried);
 }
@@ -125,19 +113,21 @@ bool has_carried_form(const std::string &text)
 // A letter and its fields: numbers, but for answers, which are a run of digits.
 bool has_form(const std::string &text)
 {
-    std::vector<std::string> words = words_of(text);
+    std::istringstream line(text);
+    std::vector<std::string> words{std::istream_iterator<std::string>(line), {}};
+    if (words.empty() || words[0] != text.substr(0, 1))
+        return false;
     const auto found = field_counts.find(text[0]);
-    if (found == field_counts.end() || words[0].size() != 1)
+    const size_t fields = words.size() - 1;
+    if (found == field_counts.end() || fields < found->second.first || fields > found->second.second)
         return false;
-    words.erase(words.begin());
-    if (words.size() < found->second.first || words.size() > found->second.second)
-        return false;
-    if (std::strchr("RWQ", text[0]) && words.size() > answers_place) {
-        if (!is_digits(words[answers_place]))
+    if (std::strchr("RWQ", text[0]) && fields >= answers_word) {
+        if (!is_digits(words[answers_word]))
             return false;
-        words.erase(words.begin() + answers_place);
+        words.erase(words.begin() + answers_word);
     }
-    return std::all_of(words.begin(), words.end(), is_number) && (text[0] != 'Q' || has_carried_form(text));
+    return std::all_of(words.begin() + 1, words.end(), is_number) &&
+           (text[0] != 'Q' || has_carried_form(text));
 }
 
 // A unit with its log, on which the lines of a script are run.
@@ -204,9 +194,7 @@ struct ScriptUnit {
     {
         uint32_t address = 0, width = 0, third = 0;
         std::string digits;
-        line >> address >> width >> third;
-        line.get(); // the blank before the answers
-        std::getline(line, digits, ' ');
+        line >> address >> width >> third >> digits;
         Bytes answers(digits.begin(), digits.end());
         for (uint8_t &answer : answers)
             answer = static_cast<uint8_t>(answer - '0');
