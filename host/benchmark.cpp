@@ -104,8 +104,8 @@ void fill_rows()
     row("fill of two lines (8 cycles)", cycles(8), reads(pairs, 4));
 }
 
-// Half of RAM away no line is held: it was filled 2,048 fills ago. A line whose fill is dropped is not held, so
-// that its next read has the cycles of a fill again.
+// Half of RAM away no line is held: it was filled 2,048 fills ago. A line whose fill is dropped is not held,
+// so that its next read has the cycles of a fill again.
 void carrying_rows()
 {
     row("fill during a write into another line (4 cycles)", cycles(4),

@@ -43,8 +43,8 @@ uint32_t moved_by(const uint32_t *record, const uint32_t *end, uint32_t address)
 }
 
 // "one landing before the first data leaves the fill valid. One landing later in the line being filled drops
-// that fill, with NW = 1 too." So RAM's line is what a kept fill's cycles brought. "The victim is chosen after a
-// fill's last cycle."
+// that fill, with NW = 1 too." So RAM's line is what a kept fill's cycles brought. "The victim is chosen
+// after a fill's last cycle."
 uint32_t read_miss(Carrying &access, uint32_t address, unsigned wanted, bool may_fill, const uint8_t *answers)
 {
     const uint32_t first = access.records.count;

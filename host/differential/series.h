@@ -136,17 +136,16 @@ public:
         make_sides(8192);
         choose_sets();
         restore_lengths();
-        const uint32_t mixed = 8;
         const std::pair<uint32_t, uint32_t> bytes[] = {
             {0, 1}, {5, 2}, {8, 4}, {12, 4}, {2, 4}, {7, 2}, {9, 4}, {13, 4}, {15, 2}};
-        for (uint32_t modes = 0; modes < 4; ++modes)
+        for (uint32_t modes = 0; modes < 4; ++modes) {
+            make_modes(modes % 2 != 0, modes / 2 != 0);
             for (const auto &[offset, width] : bytes)
-                for (const uint32_t answer : {1u, 3u, 5u, mixed})
+                for (const int answer : {1, 3, 5, mixed_answers})
                     for (uint32_t number = 0; number < 34; ++number)
-                        for (uint32_t line = 0; line < 4; ++line) {
-                            make_modes(modes % 2 != 0, modes / 2 != 0);
+                        for (uint32_t line = 0; line < 4; ++line)
                             check_carrying(offset, width, answer, number, line);
-                        }
+        }
     }
 
     // The event program on random lines.
@@ -158,6 +157,8 @@ public:
     }
 
 private:
+    static constexpr int mixed_answers = -1; // in place of one for all cycles
+
     uint64_t seed;
     Random random;
     Coverage &coverage;
@@ -532,7 +533,7 @@ private:
         check(call);
     }
 
-    // A read of an accepted address that carries four writes in cycle order, of which the first `count` count.
+    // A read of an accepted address with four good writes in cycle order, of which it carries `count`.
     Call next_carrying_read(uint32_t count)
     {
         Call call = next_call(Kind::read_carrying);
@@ -559,9 +560,9 @@ private:
         check(call);
     }
 
-    // A write of this number and at times more of this and the next numbers. Lines 0 to 3: that of the access's
-    // first byte, that of its last, and another of the set of each.
-    void check_carrying(uint32_t offset, uint32_t width, uint32_t answer, uint32_t number, uint32_t line)
+    // A write of this number, and at times more of this and the next numbers. Lines 0 to 3: that of the
+    // access's first byte, that of its last, and another of the set of each.
+    void check_carrying(uint32_t offset, uint32_t width, int answer, uint32_t number, uint32_t line)
     {
         Call call = next_call(Kind::read_carrying);
         call.address = random.below(3) * 2048 + sets[0] * 16 + offset;
@@ -573,8 +574,8 @@ private:
             add_write(call.carried, random, number + random.below(call.carried.count + 1),
                 lines[target] / 16 * 16 + random.below(16));
         std::sort(call.carried.cycles, call.carried.cycles + call.carried.count);
-        if (answer < 8)
-            sides.both([&](Side &side) { std::memset(side.answers.start(), int(answer), UNIT486_ANSWERS); });
+        if (answer != mixed_answers)
+            sides.both([&](Side &side) { std::memset(side.answers.start(), answer, UNIT486_ANSWERS); });
         make_set_for_carrying(call.address);
         if (last / 16 != call.address / 16)
             make_set_for_carrying(last);
