@@ -16,7 +16,7 @@ from . import carried
 from .random_lists import LISTS, Disagreement, RandomList, run_lists
 from .unit_calls import Mismatch, check
 
-_due, _spoiled = Reading.due, Reading.spoiled
+_due, _put, _spoiled = Reading.due, Reading.put, Reading.spoiled
 _fill, _read_doubleword = access._fill, access._read_doubleword
 _carried_number = refusal.carried_number
 
@@ -24,6 +24,12 @@ _carried_number = refusal.carried_number
 def _put_without_snoop(reading: Reading, write: CarriedWrite) -> None:
     memory.store_bytes(reading.ram, reading.parity, write.address, write.written)
     reading.landed += 1
+
+
+def _put_without_parity(reading: Reading, write: CarriedWrite) -> None:
+    parity = bytes(reading.parity)
+    _put(reading, write)
+    reading.parity[:] = parity
 
 
 def _spoiled_never(reading: Reading, first: int, address: int) -> bool:
@@ -77,10 +83,11 @@ def _sets_of_the_read(address: int, width: int, writes: Sequence[CarriedWrite]) 
 
 
 # What is replaced, by what, and whether agreement with the plain memory sees it. A fill dropped
-# without need, a later lookup and another victim leave every byte right; lists set no NW = 1 and
-# break no state; and the plain memory asks for 33 as the read does.
+# without need, a later lookup and another victim leave every byte right; that memory has no parity
+# and asks for 33 as the read does; lists set no NW = 1 and break no state.
 ALTERED: list[tuple[Any, str, Callable[..., Any], bool]] = [
     (Reading, "put", _put_without_snoop, True),
+    (Reading, "put", _put_without_parity, False),
     (Reading, "spoiled", _spoiled_never, True),
     (Reading, "spoiled", _spoiled_with_snoops_only, False),
     (Reading, "spoiled", _spoiled_from_the_first_cycle, False),

@@ -165,18 +165,23 @@ def _two_lines(script: Script) -> None:
     bytes from the lookup, and no write lands for it."""
     lower, upper = fill_records(LINE + 12, ALL_KEN), fill_records(ABOVE, ALL_KEN)
     last_two = Plain(plain_records(ABOVE, 2, NO_KEN))
-    cases: list[tuple[set[int], Sequence[int], list[tuple[int, int]], Course]] = [
-        ({4}, ALL_KEN, [(0, LINE + 14)], [Hit(1), Ends(LINE, 1), Fill(upper, 0)]),
-        ({4}, ALL_KEN, [(0, ABOVE)], [Hit(1), Fill(upper, 0)]),
-        ({4}, ALL_KEN, [(1, ABOVE)], [Hit(1), Fill(upper, None)]),
-        ({4}, ALL_KEN, [(4, ABOVE)], [Hit(1), Fill(upper, 0), Ends(ABOVE, 0)]),
-        ({4}, NO_KEN, [(0, ABOVE), (1, LINE + 14)], [Hit(1), last_two, Ends(LINE, 1)]),
-        ({5}, ALL_KEN, [(4, ABOVE)], [Fill(lower, 0), Hit(1), Ends(ABOVE, 1)]),
-        ({5}, ALL_KEN, [(3, ABOVE)], [Fill(lower, 0), Ends(ABOVE, 1), Fill(upper, 0)]),
-        ({5}, ALL_KEN, [(2, ABOVE), (4, ABOVE)], [Fill(lower, 0), Ends(ABOVE, 1), Fill(upper, 0)]),
-        ({5}, ALL_KEN, [(1, LINE), (3, LINE)], [Fill(lower, None), Hit(1)]),
+    cases: list[tuple[Sequence[int], Sequence[int], list[tuple[int, int]], Course]] = [
+        ((4,), ALL_KEN, [(0, LINE + 14)], [Hit(1), Ends(LINE, 1), Fill(upper, 0)]),
+        ((4,), ALL_KEN, [(0, ABOVE)], [Hit(1), Fill(upper, 0)]),
+        ((4,), ALL_KEN, [(1, ABOVE)], [Hit(1), Fill(upper, None)]),
+        ((4,), ALL_KEN, [(4, ABOVE)], [Hit(1), Fill(upper, 0), Ends(ABOVE, 0)]),
+        ((4,), NO_KEN, [(0, ABOVE), (1, LINE + 14)], [Hit(1), last_two, Ends(LINE, 1)]),
+        ((5,), ALL_KEN, [(4, ABOVE)], [Fill(lower, 0), Hit(1), Ends(ABOVE, 1)]),
+        ((5,), ALL_KEN, [(3, ABOVE)], [Fill(lower, 0), Ends(ABOVE, 1), Fill(upper, 0)]),
         (
-            {4, 5},
+            (5,),
+            ALL_KEN,
+            [(2, ABOVE), (4, ABOVE)],
+            [Fill(lower, 0), Ends(ABOVE, 1), Fill(upper, 0)],
+        ),
+        ((5,), ALL_KEN, [(1, LINE), (3, LINE)], [Fill(lower, None), Hit(1)]),
+        (
+            (4, 5),
             ALL_KEN,
             [(0, LINE + 15), (0, ABOVE)],
             [Hit(1), Hit(1), Ends(LINE, 1), Ends(ABOVE, 1)],
