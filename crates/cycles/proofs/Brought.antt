@@ -8,7 +8,7 @@ use native.Mathlib.Decide.{decLe, decLt}
 use lib.ListN.{length, getD, replicate}
 use lib.Seq.{length-sets}
 use lib.Dec.{eqb, ltb, leb}
-use borrow.Author.Tests.{eqb-true, eqb-false, leb-true, ltb-true}
+use borrow.Author.Tests.{eqb-true, eqb-false, leb-true, leb-false, ltb-true, le-leb, lt-leb, lt-ltb, le-ltb}
 use Rattle.laws.proofs.Tests.{both, by-test, same-or}
 use Rattle.laws.proofs.Lists.{sets-append}
 use Rattle.words.specs.Bytes.{bytesAt}
@@ -53,7 +53,7 @@ left-each x w ws g h =
     left-cases Each x w ws (λ e. h)
     (λ l. (record { some = omega arith; lanes = omega (arith, g .lanes); line = omega (arith, g .line) }, h))
 
-left-total : (x : ℕ) (w : Run) (ws : List Run) → sizeOf x w + total (wantedAfter x w ws) ≡ w .count + total ws
+pub left-total : (x : ℕ) (w : Run) (ws : List Run) → sizeOf x w + total (wantedAfter x w ws) ≡ w .count + total ws
 left-total x w ws = left-cases (λ l. sizeOf x w + total l ≡ w .count + total ws) x w ws (λ e. rw e) (λ l. omega arith)
 
 -- cycles do what the wanted bytes ask for, for any work that can be done in parts
@@ -86,7 +86,7 @@ module _ (ram : List ℕ) (line : ℕ) where
   SameByte b o = getD b o 0 ≡ getD ram (line + o) 0
 
   -- a byte of the line buffer that a cycle brings is RAM's
-  lands : (r : Run) (b : List ℕ) (o : ℕ) → r .from + r .count ≤ length b → r .from ≤ o → o < r .from + r .count → SameByte (bufferAfter ram line r b) o
+  pub lands : (r : Run) (b : List ℕ) (o : ℕ) → r .from + r .count ≤ length b → r .from ≤ o → o < r .from + r .count → SameByte (bufferAfter ram line r b) o
   lands r b o l p q =
       let e : r .from + (o - r .from) ≡ o = omega arith in
       let f : line + r .from + (o - r .from) ≡ line + o = omega arith in
@@ -140,7 +140,7 @@ all-below p (suc n) h o l =
     let q = both (p n) (allBelow p n) h in
     same-or _ o n (λ e. rw e (q .0)) (λ k. all-below p n (q .1) o (omega arith))
 
-burst-total : (q : ℕ) → total (burst q) ≡ 16
+pub burst-total : (q : ℕ) → total (burst q) ≡ 16
 unfolding burst
 burst-total zero = refl
 burst-total (suc zero) = refl
@@ -195,3 +195,41 @@ wanted-bytes ram line w g xs l =
     (bytes-same _ ram (w .from) (line + w .from) (w .count) λ o b.
     let e : line + (w .from + o) ≡ line + w .from + o = omega arith in
     rw e at (lands ram line w (replicate 16 0) (w .from + o) (g .line) (omega arith) (omega arith)))
+
+-- COVERAGE
+
+-- whether some bytes of a line are there, or were before
+abbrev pub covered : ℕ → Run → Bool → Bool
+covered o r before = (leb (r .from) o && ltb o (r .from + r .count)) || before
+
+covered-split : (o a m n : ℕ) (b : Bool) → covered o (run a (m + n)) b ≡ covered o (run (a + m) n) (covered o (run a m) b)
+covered-split o a m n b =
+    by-test (λ t. leb a o ≡ t → ((t && ltb o (a + (m + n))) || b) ≡ covered o (run (a + m) n) ((t && ltb o (a + m)) || b)) (leb a o)
+    (λ _ e.
+    let k = leb-true a o e in
+    elim (decLt o (a + m)) [
+      | yes p ↦ rw (lt-ltb o (a + (m + n)) (omega arith), lt-leb (a + m) o (omega arith), lt-ltb o (a + m) p)
+      | no p ↦ elim (decLt o (a + m + n)) [
+        | yes q ↦ rw (lt-ltb o (a + (m + n)) (omega arith), le-leb (a + m) o (omega arith), lt-ltb o (a + m + n) q)
+        | no q ↦ rw (le-ltb o (a + (m + n)) (omega arith), le-leb (a + m) o (omega arith), le-ltb o (a + m + n) (omega arith), le-ltb o (a + m) (omega arith))
+      ]
+    ])
+    (λ _ e. let k = leb-false a o e in rw (lt-leb (a + m) o (omega arith)))
+    refl
+
+-- a fill moves every byte of the line, a plain read every wanted one
+burst-covered : (q o : ℕ) → o < 16 → afterRuns (covered o) (burst q) false ≡ true
+unfolding burst allBelow
+burst-covered zero = all-below (λ o. afterRuns (covered o) (burst 0) false) 16 refl
+burst-covered (suc zero) = all-below (λ o. afterRuns (covered o) (burst 1) false) 16 refl
+burst-covered (suc (suc zero)) = all-below (λ o. afterRuns (covered o) (burst 2) false) 16 refl
+burst-covered (suc (suc (suc q))) = all-below (λ o. afterRuns (covered o) (burst 3) false) 16 refl
+
+pub fill-covered : (q : ℕ) (xs : List ℕ) → 16 ≤ length xs → (o : ℕ) → o < 16 → afterCycles (covered o) (cyclesOf xs (burst q)) false ≡ true
+fill-covered q xs l o k =
+    let t = burst-total q in
+    cycles-as-runs (covered o) (covered-split o) xs (burst q) (burst-each q) (omega arith) false ∙ burst-covered q o k
+
+pub wanted-covered : (w : Run) → OneDoubleword w → (xs : List ℕ) → 16 ≤ length xs → (o : ℕ) → w .from ≤ o → o < w .from + w .count → afterCycles (covered o) (cyclesOf xs (w ∷ [])) false ≡ true
+wanted-covered w g xs l o p q =
+    cycles-as-runs (covered o) (covered-split o) xs (w ∷ []) (g, tt) (omega (arith, g .line)) false ∙ rw (le-leb (w .from) o p, lt-ltb o (w .from + w .count) q)

@@ -1,0 +1,2 @@
+-- Laws of carried writes for the layers above.
+pub mod Landing
