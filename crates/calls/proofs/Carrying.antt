@@ -131,10 +131,13 @@ held-rest m n (w ∷ ws) g =
     (λ _ e. ap (λ (z : List ℕ). heldAtEnd z (w ∷ ws)) (held-stops m w ws n (ltb-false _ _ e) g))
     refl
 
-pub held-length : (m : List ℕ) (ws : List Carried) → length (heldAtEnd m ws) ≡ length m
-unfolding heldAtEnd
-held-length m [] = refl
-held-length m (w ∷ ws) = held-length (sets m (w .address) (w .bytes)) ws ∙ length-sets m (w .address) (w .bytes)
+pub held-length : (m : List ℕ) (ws : List Carried) (n : ℕ) → length (heldAfter m ws n) ≡ length m
+unfolding heldAfter
+held-length m [] n = refl
+held-length m (w ∷ ws) n =
+    by-test (λ b. length (heldAfter (cond b (sets m (w .address) (w .bytes)) m) ws n) ≡ length m) (ltb (w .cycle) n)
+    (λ _. held-length (sets m (w .address) (w .bytes)) ws n ∙ length-sets m (w .address) (w .bytes))
+    (λ _. held-length m ws n)
 
 -- RAM with what has landed
 pub landed-ram : (ws : List Carried) (m : Memory) → landed ws m .ram ≡ heldAtEnd (m .ram) ws

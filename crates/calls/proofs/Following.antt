@@ -15,13 +15,13 @@ use Rattle.words.specs.Bytes.{bytesAt}
 use Rattle.words.proofs.Places.{bytes-length, sets-below, sets-above}
 use Rattle.memory.specs.Parity.{Memory, wrongIn}
 use Rattle.carried.specs.Carried.{Carried}
-use Rattle.bus.specs.Bus.{Run, Cycle, none, wantedAfter, cyclesOf, afterCycles, bufferAfter}
+use Rattle.bus.specs.Bus.{Run, run, Cycle, burst, none, wantedAfter, cyclesOf, afterCycles, bufferAfter}
 use Rattle.bus.specs.Record.{Record, lanesOf, flagsOf, readRecord}
 use Rattle.bus.proofs.Flags.{lanes-below}
 use Rattle.bus.proofs.Sizing.{size-some}
-use Rattle.cycles.proofs.Brought.{OneDoubleword, Each, total, left-each, left-total, lands, covered}
+use Rattle.cycles.proofs.Brought.{OneDoubleword, Each, total, left-each, left-total, burst-each, lands, covered}
 use Rattle.reading.specs.Reading.{bufferOf, recordsOf}
-use Rattle.calls.specs.Plain.{heldAfter, groupsOf, withFirst, namedBy, moves, byteMoved}
+use Rattle.calls.specs.Plain.{heldAfter, groupsOf, withFirst, namedBy, moves, byteMoved, byteRead}
 use Rattle.calls.proofs.Cycles.{EachCycle}
 
 -- FLAGS
@@ -209,3 +209,40 @@ module _ (kind : ℕ) (q : ReadKind kind) (line : ℕ) (al : line % 16 ≡ 0) (a
         e
         ∙ sym (ap (λ (t : Bool). byteMoved m ws (suc n) (recordsOf kind at line (suc n) cs) (line + o) (cond t (getD (heldAfter m ws (suc n)) (line + o) 0) v))
         (record-moves kind q (at n) line al c (g .0) o ol))
+
+-- GROUPS
+
+-- the first group is of a doubleword above an address
+abbrev pub FirstAbove : ℕ → List (List Record) → Type 0
+FirstAbove a [] = Unit {0}
+FirstAbove a (g ∷ gs) = a < namedBy g
+
+module _ (m : List ℕ) (ws : List Carried) (n x : ℕ) where
+  -- of a byte whose doubleword has no group, of one whose doubleword the first group is of, of one above that
+  pub byte-hit : (gs : List (List Record)) → FirstAbove (x / 4 * 4) gs → byteRead m ws n gs x ≡ getD (heldAfter m ws n) x 0
+  unfolding byteRead byteMoved
+  byte-hit [] h = refl
+  byte-hit (g ∷ gs) h = rw (le-ltb (namedBy g) (x / 4 * 4) (omega arith), ne-eqb (namedBy g) (x / 4 * 4) (λ e. omega arith))
+
+  module _ (g : List Record) (gs : List (List Record)) where
+    pub byte-own : namedBy g ≡ x / 4 * 4 → byteRead m ws n (g ∷ gs) x ≡ byteMoved m ws n g x (getD (heldAfter m ws n) x 0)
+    unfolding byteRead
+    byte-own e = rw (le-ltb (namedBy g) (x / 4 * 4) (omega arith), eq-eqb (namedBy g) (x / 4 * 4) e)
+
+    pub byte-above : namedBy g < x / 4 * 4 → byteRead m ws n (g ∷ gs) x ≡ byteRead m ws (n + length g) gs x
+    unfolding byteRead
+    byte-above l = rw (lt-ltb (namedBy g) (x / 4 * 4) l)
+
+pub records-length : (kind : ℕ) (at : ℕ → Memory) (line n : ℕ) (cs : List Cycle) → length (recordsOf kind at line n cs) ≡ length cs
+unfolding recordsOf
+records-length kind at line n [] = refl
+records-length kind at line n (c ∷ cs) = rw (records-length kind at line (suc n) cs)
+
+-- a fill begins with its own doubleword
+pub burst-begins : (q : ℕ) → q < 4 → (xs : List ℕ) → 16 ≤ length xs → Begins (q * 4) (cyclesOf xs (burst q))
+unfolding burst
+burst-begins zero h xs l = cycles-begin xs (run 0 4) _ (burst-each 0) l
+burst-begins (suc zero) h xs l = cycles-begin xs (run 4 4) _ (burst-each 1) l
+burst-begins (suc (suc zero)) h xs l = cycles-begin xs (run 8 4) _ (burst-each 2) l
+burst-begins (suc (suc (suc zero))) h xs l = cycles-begin xs (run 12 4) _ (burst-each 3) l
+burst-begins (suc (suc (suc (suc q)))) h xs l = absurd (omega arith)

@@ -4,3 +4,8 @@ mod Carrying
 mod Cycles
 mod Doublewords
 mod Following
+pub mod Kept
+pub mod Coherence
+mod Snooping
+mod Landing
+mod Reading
