@@ -67,10 +67,9 @@ unfolding recordsOf readRecord
 no-error-reads kind q at a line l [] g n = tt
 no-error-reads kind q at a line l (c ∷ cs) g n =
     let w = g .0 in
-    let i = l n in
-    (
+    let i = l n in (
       rw (never-wrong (at n) (a n) (line + c .moved .from) (c .moved .count) (omega (arith, w .line)))
-      (no-error-flags (c .moved .from % 4) (c .moved .count) kind q (w .lanes) (c .last)),
+          (no-error-flags (c .moved .from % 4) (c .moved .count) kind q (w .lanes) (c .last)),
       no-error-reads kind q at a line l cs (g .1) (suc n),
     )
 

@@ -111,10 +111,13 @@ unfolding bytesBy bytesAt
 bytes-by-at l f i a zero h = refl
 bytes-by-at l f i a (suc n) h =
     let e : getD l i 0 ≡ f a = let y : i + 0 ≡ i = omega arith in let z : a + 0 ≡ a = omega arith in rw (y, z) at (h 0 (omega arith)) in
-    rw (e, bytes-by-at l f (suc i) (suc a) n (λ o k.
-    let y : i + suc o ≡ suc i + o = omega arith in
-    let z : a + suc o ≡ suc a + o = omega arith in
-    rw (y, z) at (h (suc o) (omega arith))))
+    rw (
+      e,
+      bytes-by-at l f (suc i) (suc a) n (λ o k.
+          let y : i + suc o ≡ suc i + o = omega arith in
+          let z : a + suc o ≡ suc a + o = omega arith in
+          rw (y, z) at (h (suc o) (omega arith))),
+    )
 
 -- those of an access are its bytes
 pub doublewords-by : (g : ℕ) (byte : ℕ → ℕ) (xs : List ℕ) (a n place : ℕ) → n ≤ 4 * g - a % 4 → allBy byte (doublewordsOf g xs a n place) ≡ bytesBy byte a n
@@ -153,8 +156,7 @@ unfolding doublewordsOf
 doublewords-ascending zero xs a n place = tt
 doublewords-ascending (suc g) xs a zero place = tt
 doublewords-ascending (suc g) xs a (suc n) place =
-    let k = min (suc n) (4 - a % 4) in
-    (
+    let k = min (suc n) (4 - a % 4) in (
       rw (in-doubleword a) (doublewords-above g (drop 16 xs) (a + k) (suc n - k) (place + k) (a / 4 * 4) (λ i. omega arith)),
       doublewords-ascending g (drop 16 xs) (a + k) (suc n - k) (place + k),
     )

@@ -118,10 +118,12 @@ module _ (kind : ℕ) (q : ReadKind kind) (mem : Memory) (line : ℕ) (al : line
       rw (x, y)
       (same-or _ (f / 4) (o / 4)
       (λ e.
-      rw (eq-eqb (line + f / 4 * 4) (line + o / 4 * 4) (omega arith),
-      flag-bits kind q (f % 4) n (g .some) w (c .last) (wrongIn mem (line + f) n) (o % 4) (omega arith),
-      leb-same (f % 4) (o % 4) f o (λ h. omega arith) (λ h. omega arith),
-      leb-same (suc (o % 4)) (f % 4 + n) (suc o) (f + n) (λ h. omega arith) (λ h. omega arith)))
+      rw (
+        eq-eqb (line + f / 4 * 4) (line + o / 4 * 4) (omega arith),
+        flag-bits kind q (f % 4) n (g .some) w (c .last) (wrongIn mem (line + f) n) (o % 4) (omega arith),
+        leb-same (f % 4) (o % 4) f o (λ h. omega arith) (λ h. omega arith),
+        leb-same (suc (o % 4)) (f % 4 + n) (suc o) (f + n) (λ h. omega arith) (λ h. omega arith),
+      ))
       (λ e.
       rw (ne-eqb (line + f / 4 * 4) (line + o / 4 * 4) (λ h. e (omega arith)))
       (sym (refuted (Within o f n) (λ h.

@@ -23,9 +23,12 @@ use Rattle.carried.specs.Carried.{Carried, due, later, landed, memoryAt, inLine
 use Rattle.carried.proofs.Landing.{landed-parted, in-line-parted}
 use Rattle.bus.specs.Bus.{Cycle, afterCycles, bufferAfter}
 use Rattle.reading.specs.Reading.{bufferOf}
-use Rattle.refusal.specs.Call.{State, state}
+use Rattle.refusal.specs.Call.{State, state, nextState}
+use Rattle.masters.specs.Masters.{externalWriteNumber}
+use Rattle.masters.proofs.External.{external-done}
 use Rattle.access.specs.Access.{underWay, snoopedBy, landedAfter}
-use Rattle.access.proofs.Landing.{landedOne}
+use Rattle.access.proofs.Landing.{landedOne, landed-first}
+use Rattle.calls.specs.Calls.{external, step}
 use Rattle.calls.specs.Plain.{heldAtEnd}
 use Rattle.calls.proofs.Memories.{stored-ram}
 use Rattle.calls.proofs.Carrying.{EachGood, due-good, later-good}
@@ -33,6 +36,12 @@ use Rattle.calls.proofs.Cycles.{EachCycle}
 use Rattle.calls.proofs.Kept.{landed-kept}
 use Rattle.calls.proofs.Coherence.{Coherent, other-line}
 use Rattle.calls.proofs.Snooping.{external-beside}
+
+-- one that lands does what an external write does that is accepted
+pub landed-external : (s : State) (w : Carried) (ws : List Carried) (n : ℕ) → externalWriteNumber (s .directory) (s .memory) (w .address) (w .bytes) ≡ 0 →
+    landedAfter (underWay s (w ∷ ws) n) ≡ landedAfter (underWay (nextState (step s (external (w .address) (w .bytes)))) ws n)
+unfolding step
+landed-external s w ws n z = rw (external-done s (w .address) (w .bytes) z) (landed-first s w ws n)
 
 -- beside the plain memory with the same writes put in
 pub landing-coherent : (n : ℕ) (ws : List Carried) (s : State) (m : List ℕ) → Coherent s m → EachGood (length m) ws → Coherent (landedAfter (underWay s ws n)) (heldAtEnd m ws)

@@ -244,8 +244,7 @@ module _ (m : List ℕ) (ws : List Carried) (good : EachGood (length m) ws) (ord
           read-missed e fillKind (record { whole = refl; most = omega arith }) (fillCycles w) each (quarter * 4) (burst-begins quarter (omega arith) (w .answers) (ok .enough)) (omega arith)
           (not (spoiled (u .writes) (u .cycle) w) && ken (lastAnswer 0 (fillCycles w)))
           (λ t.
-          let fresh = not-true _ (both (not (spoiled (u .writes) (u .cycle) w)) _ t .0) in
-          (
+          let fresh = not-true _ (both (not (spoiled (u .writes) (u .cycle) w)) _ t .0) in (
             enabled,
             λ o l.
                 rw same

@@ -8,7 +8,8 @@ use lib.Seq.{sets}
 use Rattle.words.specs.Bytes.{bytesAt, valueOf, bytesOf}
 use Rattle.carried.specs.Carried.{Carried}
 use Rattle.bus.specs.Record.{Record}
-use Rattle.calls.specs.Calls.{Call, read, write, external, snoop, flush, control, view, reset, testWrite, testRead}
+use Rattle.refusal.specs.Call.{State}
+use Rattle.calls.specs.Calls.{Call, read, write, external, snoop, flush, control, view, reset, testWrite, testRead, step, recordsLeft}
 
 -- What it answers to a call, and its bytes afterwards.
 pub record Plain : Type 0 where
@@ -159,3 +160,7 @@ plainRefused number m = record { number = number; value = 0; shown = []; memory 
 unfoldable pub plain : List ℕ → Call → List Record → Plain
 plain m c rs =
     cond (eqb (plainNumber m c) 0) (plainDone m c rs) (plainRefused (plainNumber m c) m)
+
+-- Beside the unit it is "told by the read's records where its cycles fall": the records that the unit's call left.
+abbrev pub plainTold : State → List ℕ → Call → Plain
+plainTold s m c = plain m c (recordsLeft (step s c))
