@@ -19,7 +19,7 @@ use Rattle.bus.specs.Bus.{Run, run, Cycle, burst, none, wantedAfter, cyclesOf, 
 use Rattle.bus.specs.Record.{Record, lanesOf, flagsOf, readRecord}
 use Rattle.bus.proofs.Flags.{lanes-below}
 use Rattle.bus.proofs.Sizing.{size-some}
-use Rattle.cycles.proofs.Brought.{OneDoubleword, Each, total, left-each, left-total, burst-each, lands, covered}
+use Rattle.cycles.proofs.Brought.{OneDoubleword, Each, total, left-each, left-total, burst-each, lands, counted}
 use Rattle.reading.specs.Reading.{bufferOf, recordsOf}
 use Rattle.calls.specs.Plain.{heldAfter, groupsOf, withFirst, namedBy, moves, byteMoved, byteRead}
 use Rattle.calls.proofs.Cycles.{EachCycle}
@@ -187,30 +187,48 @@ module _ (kind : ℕ) (q : ReadKind kind) (line : ℕ) (al : line % 16 ≡ 0) (a
           ]
         ]
 
+    -- one that has been moved is not moved again
+    counted-least : (cs : List Cycle) (i : ℕ) → i ≤ afterCycles (counted o) cs i
+    unfolding afterCycles
+    counted-least [] i = omega arith
+    counted-least (c ∷ cs) i =
+        by-test (λ t. i ≤ afterCycles (counted o) cs (cond t (suc i) i)) (Within o (c .moved .from) (c .moved .count))
+        (λ _. let h = counted-least cs (suc i) in omega arith)
+        (λ _. counted-least cs i)
+
+    byte-stays : (cs : List Cycle) (n i : ℕ) (b : List ℕ) → afterCycles (counted o) cs i ≡ i → getD (bufferOf at line n cs b) o 0 ≡ getD b o 0
+    unfolding bufferOf afterCycles
+    byte-stays [] n i b e = refl
+    byte-stays (c ∷ cs) n i b e =
+        by-test (λ t. Within o (c .moved .from) (c .moved .count) ≡ t → afterCycles (counted o) cs (cond t (suc i) i) ≡ i → getD (bufferOf at line n (c ∷ cs) b) o 0 ≡ getD b o 0)
+        (Within o (c .moved .from) (c .moved .count))
+        (λ _ t k. absurd (let h = counted-least cs (suc i) in omega arith))
+        (λ _ t k. byte-stays cs (suc n) i _ k ∙ other-byte (at n .ram) (c .moved) b t)
+        refl
+        e
+
     pub byte-moved : (cs : List Cycle) → EachCycle cs → (n : ℕ) → ((k : ℕ) → n ≤ k → at k .ram ≡ heldAfter m ws (suc k)) →
-        (b : List ℕ) → length b ≡ 16 → (v : ℕ) (seen : Bool) → (seen ≡ true → getD b o 0 ≡ v) → afterCycles (covered o) cs seen ≡ true →
+        (b : List ℕ) → length b ≡ 16 → (v : ℕ) → afterCycles (counted o) cs 0 ≡ 1 →
         getD (bufferOf at line n cs b) o 0 ≡ byteMoved m ws n (recordsOf kind at line n cs) (line + o) v
     unfolding bufferOf recordsOf byteMoved afterCycles
-    byte-moved [] g n same b l v seen h e = h e
-    byte-moved (c ∷ cs) g n same b l v seen h e =
+    byte-moved [] g n same b l v e = absurd (omega arith)
+    byte-moved (c ∷ cs) g n same b l v e =
         let w = c .moved in
         let f = w .from in
         let b′ = bufferAfter (at n .ram) line w b in
-        let l′ : length (bufferAfter (at n .ram) line w b) ≡ 16 = length-sets b f (bytesAt (at n .ram) (line + f) (w .count)) ∙ l in
-        let later : (k : ℕ) → suc n ≤ k → at k .ram ≡ heldAfter m ws (suc k) = λ k i. same k (omega arith) in
-        by-test (λ t. Within o f (w .count) ≡ t → afterCycles (covered o) cs (t || seen) ≡ true →
-        getD (bufferOf at line (suc n) cs b′) o 0 ≡ byteMoved m ws (suc n) (recordsOf kind at line (suc n) cs) (line + o) (cond t (getD (heldAfter m ws (suc n)) (line + o) 0) v))
+        let held = getD (heldAfter m ws (suc n)) (line + o) 0 in
+        let rest = byteMoved m ws (suc n) (recordsOf kind at line (suc n) cs) (line + o) v in
+        by-test (λ t. Within o f (w .count) ≡ t → afterCycles (counted o) cs (cond t 1 0) ≡ 1 → getD (bufferOf at line (suc n) cs b′) o 0 ≡ cond t held rest)
         (Within o f (w .count))
         (λ _ t k.
         let p = both (leb f o) (ltb o (f + w .count)) t in
-        byte-moved cs (g .1) (suc n) later b′ l′ _ true
-        (λ _. lands (at n .ram) line w b o (rw l (g .0 .line)) (leb-true f o (p .0)) (ltb-true o (f + w .count) (p .1)) ∙ ap (λ (x : List ℕ). getD x (line + o) 0) (same n (omega arith)))
-        k)
-        (λ _ t k. byte-moved cs (g .1) (suc n) later b′ l′ v seen (λ s. other-byte (at n .ram) w b t ∙ h s) k)
+        byte-stays cs (suc n) 1 b′ k
+        ∙ lands (at n .ram) line w b o (rw l (g .0 .line)) (leb-true f o (p .0)) (ltb-true o (f + w .count) (p .1))
+        ∙ ap (λ (x : List ℕ). getD x (line + o) 0) (same n (omega arith)))
+        (λ _ _ k. byte-moved cs (g .1) (suc n) (λ j i. same j (omega arith)) b′ (length-sets b f (bytesAt (at n .ram) (line + f) (w .count)) ∙ l) v k)
         refl
         e
-        ∙ sym (ap (λ (t : Bool). byteMoved m ws (suc n) (recordsOf kind at line (suc n) cs) (line + o) (cond t (getD (heldAfter m ws (suc n)) (line + o) 0) v))
-        (record-moves kind q (at n) line al c (g .0) o ol))
+        ∙ sym (ap (λ (t : Bool). cond t held rest) (record-moves kind q (at n) line al c (g .0) o ol))
 
 -- GROUPS
 

@@ -28,7 +28,7 @@ use Rattle.reading.specs.Reading.{Missed, bufferOf, recordsOf, fillCycles, read
 use Rattle.refusal.specs.Call.{State, state}
 use Rattle.access.specs.Access.{Progress, UnderWay, underWay, directoryAfter, readOne, readNext, landedAfter, readEach}
 use Rattle.access.proofs.Landing.{none-snooped}
-use Rattle.cycles.proofs.Brought.{burst-each, fill-buffer, covered, fill-covered, wanted-covered}
+use Rattle.cycles.proofs.Brought.{burst-each, fill-buffer, counted, fill-once, wanted-once}
 use Rattle.calls.specs.Plain.{heldAfter, heldAtEnd, groupsOf, namedBy, byteRead, bytesBy}
 use Rattle.calls.proofs.Carrying.{EachGood, Ordered, due-good, later-good, held-more, held-rest, held-length, landed-ram}
 use Rattle.calls.proofs.Cycles.{NoParityErrors, EachCycle, no-error-append, no-error-reads, cycles-within}
@@ -186,22 +186,22 @@ module _ (m : List ℕ) (ws : List Carried) (good : EachGood (length m) ws) (ord
         groups more = groups-first kind q (w .line) (ok .aligned) at cs (begins .ends) each (u .cycle) more
 
         -- a wanted byte
-        wanted-byte : (more : List Record) (o : ℕ) → o < w .wanted .count → afterCycles (covered (w .wanted .from + o)) cs false ≡ true →
+        wanted-byte : (more : List Record) (o : ℕ) → o < w .wanted .count → afterCycles (counted (w .wanted .from + o)) cs 0 ≡ 1 →
             getD buffer (w .wanted .from + o) 0 ≡ byteRead m ws (u .cycle) (groupsOf (records ++ more)) (address + o)
-        wanted-byte more o l cover =
+        wanted-byte more o l once =
             let i = w .wanted .from + o in
             let x : w .line + (w .wanted .from + o) ≡ address + o = omega arith in
             let v = getD (heldAfter m ws (u .cycle)) (address + o) 0 in
-            (rw x at (byte-moved kind q (w .line) (ok .aligned) at m ws i (omega (arith, ok .within .line)) cs each (u .cycle) at-held (replicate 16 0) refl v false (λ h. absurd (differ h refl)) cover))
+            (rw x at (byte-moved kind q (w .line) (ok .aligned) at m ws i (omega (arith, ok .within .line)) cs each (u .cycle) at-held (replicate 16 0) refl v once))
             ∙ sym (byte-own m ws (u .cycle) (address + o) records (groupsOf more) (starts ∙ sym (in-own (length m) w ok o l)))
             ∙ ap (λ (gs : List (List Record)). byteRead m ws (u .cycle) gs (address + o)) (sym (groups more))
 
         read-missed : (kept : Bool) → (kept ≡ true → (looked .cd ≡ false) × ((o : ℕ) → o < 16 → getD buffer o 0 ≡ getD (after .memory .ram) (w .line + o) 0)) →
-            ((o : ℕ) → o < w .wanted .count → afterCycles (covered (w .wanted .from + o)) cs false ≡ true) →
+            ((o : ℕ) → o < w .wanted .count → afterCycles (counted (w .wanted .from + o)) cs 0 ≡ 1) →
             ReadMatches m ws u w (settled (victimOf (directoryAfter u (length records)) (setOf (w .line))) (u .unit .memory) (u .writes) (u .cycle) (u .unit .array) w
             (record { buffer = buffer; kept = kept; records = records }))
         unfolding settled landedAfter
-        read-missed kept may cover =
+        read-missed kept may once =
             let c = during-coherent (length records) in
             let limits = k .unit .kept .limits in
             let x = due end (u .writes) in
@@ -211,7 +211,7 @@ module _ (m : List ℕ) (ws : List Carried) (good : EachGood (length m) ws) (ord
                     enabled = snooped-cd x looked limits ∙ may t .0;
                     brought = λ o l. may t .1 o l ∙ ap (λ (z : List ℕ). getD z (w .line + o) 0) (c .beside .rams);
                   });
-              gives = λ more z. bytes-by-at buffer _ (w .wanted .from) address (w .wanted .count) (λ o l. wanted-byte more o l (cover o l));
+              gives = λ more z. bytes-by-at buffer _ (w .wanted .from) address (w .wanted .count) (λ o l. wanted-byte more o l (once o l));
               passes = λ more y l.
                   ap (λ (gs : List (List Record)). byteRead m ws (u .cycle) gs y) (groups more) ∙ byte-above m ws (u .cycle) y records (groupsOf more) (rw starts l);
               named = λ a l more z. rw (groups more, starts) l;
@@ -230,7 +230,7 @@ module _ (m : List ℕ) (ws : List Carried) (good : EachGood (length m) ws) (ord
           let g = ok .within in
           read-missed e plainKind (record { whole = refl; most = omega arith }) (plainCycles w) (cycles-within (w .answers) (r ∷ []) (g, tt)) (r .from)
           (cycles-begin (w .answers) r [] (g, tt) (let a = ok .enough in let b = g .line in omega arith)) refl false (λ h. absurd (differ h refl))
-          (λ o l. wanted-covered r g (w .answers) (ok .enough) (r .from + o) (omega arith) (omega arith))
+          (λ o l. wanted-once r g (w .answers) (ok .enough) (r .from + o) (omega arith) (omega arith))
 
       read-fill : lookupOf looked (w .line) ≡ Nothing → looked .cd ≡ false → Leaves (fillMiss (u .unit .memory) (u .writes) (u .cycle) w)
       unfolding fillMiss spoiled landedAfter
@@ -251,7 +251,7 @@ module _ (m : List ℕ) (ws : List Carried) (good : EachGood (length m) ws) (ord
                 (ap (λ (z : List ℕ). getD z o 0) (last-buffer (length m) (w .line) (ok .aligned) (u .writes) (under-kept u k .good) (u .unit .memory) (u .cycle) last fresh (fillCycles w) each (u .cycle) (omega arith) (omega arith) (replicate 16 0))
                 ∙ fill-buffer (landed (due last (u .writes)) (u .unit .memory) .ram) (w .line) quarter (w .answers) (ok .enough) o l),
           ))
-          (λ o l. fill-covered quarter (w .answers) (ok .enough) (w .wanted .from + o) (omega arith))
+          (λ o l. fill-once quarter (w .answers) (ok .enough) (w .wanted .from + o) (omega arith))
 
       read-found : (mayFill : Bool) → (mayFill ≡ true → looked .cd ≡ false) → (f : Found) → lookupOf looked (w .line) ≡ f →
           let n = length (readMiss mayFill (u .unit .memory) (u .writes) (u .cycle) w .records) in

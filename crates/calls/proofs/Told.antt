@@ -42,7 +42,7 @@ module _ (m : List ℕ) (a : ℕ) where
   byte-moved-alone : (n : ℕ) (rs : List Record) → byteMoved m [] n rs a (getD m a 0) ≡ getD m a 0
   unfolding byteMoved heldAfter
   byte-moved-alone n [] = refl
-  byte-moved-alone n (r ∷ rs) = ap (byteMoved m [] (suc n) rs a) (same-cond (moves r a) (getD m a 0)) ∙ byte-moved-alone (suc n) rs
+  byte-moved-alone n (r ∷ rs) = ap (cond (moves r a) (getD m a 0)) (byte-moved-alone (suc n) rs) ∙ same-cond (moves r a) (getD m a 0)
 
   byte-alone : (n : ℕ) (gs : List (List Record)) → byteRead m [] n gs a ≡ getD m a 0
   unfolding byteRead heldAfter

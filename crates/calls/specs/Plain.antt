@@ -110,11 +110,12 @@ namedBy (r ∷ rs) = r .address
 abbrev pub moves : Record → ℕ → Bool
 moves r a = eqb (r .address) (a / 4 * 4) && eqb (r .flags / 2 ^ (a % 4) % 2) 1
 
--- "every wanted byte is what it holds at that byte's cycle": a byte over the cycles of a group, from number n on. Cycle n finds the writes numbered up to n put in.
+-- "every wanted byte is what it holds at that byte's cycle": the byte at an address, by the cycles of a group from number n on, or another where none moved
+-- it. Before cycle n the writes numbered up to n have been put in.
 unfoldable pub byteMoved : List ℕ → List Carried → ℕ → List Record → ℕ → ℕ → ℕ
-byteMoved m ws n [] a byte = byte
-byteMoved m ws n (r ∷ rs) a byte =
-    byteMoved m ws (suc n) rs a (cond (moves r a) (getD (heldAfter m ws (suc n)) a 0) byte)
+byteMoved m ws n [] a unmoved = unmoved
+byteMoved m ws n (r ∷ rs) a unmoved =
+    cond (moves r a) (getD (heldAfter m ws (suc n)) a 0) (byteMoved m ws (suc n) rs a unmoved)
 
 -- "or at the lookup for a hit": the byte at an address, by the groups of the cycles from number n on. "the lower one completed first (H)": groups of lower
 -- doublewords come before its lookup. Without a group its doubleword hit.

@@ -196,40 +196,40 @@ wanted-bytes ram line w g xs l =
     let e : line + (w .from + o) ≡ line + w .from + o = omega arith in
     rw e at (lands ram line w (replicate 16 0) (w .from + o) (g .line) (omega arith) (omega arith)))
 
--- COVERAGE
+-- EACH BYTE ONCE
 
--- whether some bytes of a line are there, or were before
-abbrev pub covered : ℕ → Run → Bool → Bool
-covered o r before = (leb (r .from) o && ltb o (r .from + r .count)) || before
+-- how often a byte of a line is moved
+abbrev pub counted : ℕ → Run → ℕ → ℕ
+counted o r before = cond (leb (r .from) o && ltb o (r .from + r .count)) (suc before) before
 
-covered-split : (o a m n : ℕ) (b : Bool) → covered o (run a (m + n)) b ≡ covered o (run (a + m) n) (covered o (run a m) b)
-covered-split o a m n b =
-    by-test (λ t. leb a o ≡ t → ((t && ltb o (a + (m + n))) || b) ≡ covered o (run (a + m) n) ((t && ltb o (a + m)) || b)) (leb a o)
+counted-split : (o a m n before : ℕ) → counted o (run a (m + n)) before ≡ counted o (run (a + m) n) (counted o (run a m) before)
+counted-split o a m n before =
+    by-test (λ t. leb a o ≡ t → cond (t && ltb o (a + (m + n))) (suc before) before ≡ counted o (run (a + m) n) (cond (t && ltb o (a + m)) (suc before) before)) (leb a o)
     (λ _ e.
     let k = leb-true a o e in
     elim (decLt o (a + m)) [
       | yes p ↦ rw (lt-ltb o (a + (m + n)) (omega arith), lt-leb (a + m) o (omega arith), lt-ltb o (a + m) p)
       | no p ↦ elim (decLt o (a + m + n)) [
-        | yes q ↦ rw (lt-ltb o (a + (m + n)) (omega arith), le-leb (a + m) o (omega arith), lt-ltb o (a + m + n) q)
+        | yes q ↦ rw (lt-ltb o (a + (m + n)) (omega arith), le-leb (a + m) o (omega arith), lt-ltb o (a + m + n) q, le-ltb o (a + m) (omega arith))
         | no q ↦ rw (le-ltb o (a + (m + n)) (omega arith), le-leb (a + m) o (omega arith), le-ltb o (a + m + n) (omega arith), le-ltb o (a + m) (omega arith))
       ]
     ])
     (λ _ e. let k = leb-false a o e in rw (lt-leb (a + m) o (omega arith)))
     refl
 
--- a fill moves every byte of the line, a plain read every wanted one
-burst-covered : (q o : ℕ) → o < 16 → afterRuns (covered o) (burst q) false ≡ true
+-- a fill moves every byte of the line once, a plain read every wanted one
+burst-counted : (q o : ℕ) → o < 16 → eqb (afterRuns (counted o) (burst q) 0) 1 ≡ true
 unfolding burst allBelow
-burst-covered zero = all-below (λ o. afterRuns (covered o) (burst 0) false) 16 refl
-burst-covered (suc zero) = all-below (λ o. afterRuns (covered o) (burst 1) false) 16 refl
-burst-covered (suc (suc zero)) = all-below (λ o. afterRuns (covered o) (burst 2) false) 16 refl
-burst-covered (suc (suc (suc q))) = all-below (λ o. afterRuns (covered o) (burst 3) false) 16 refl
+burst-counted zero = all-below (λ o. eqb (afterRuns (counted o) (burst 0) 0) 1) 16 refl
+burst-counted (suc zero) = all-below (λ o. eqb (afterRuns (counted o) (burst 1) 0) 1) 16 refl
+burst-counted (suc (suc zero)) = all-below (λ o. eqb (afterRuns (counted o) (burst 2) 0) 1) 16 refl
+burst-counted (suc (suc (suc q))) = all-below (λ o. eqb (afterRuns (counted o) (burst 3) 0) 1) 16 refl
 
-pub fill-covered : (q : ℕ) (xs : List ℕ) → 16 ≤ length xs → (o : ℕ) → o < 16 → afterCycles (covered o) (cyclesOf xs (burst q)) false ≡ true
-fill-covered q xs l o k =
+pub fill-once : (q : ℕ) (xs : List ℕ) → 16 ≤ length xs → (o : ℕ) → o < 16 → afterCycles (counted o) (cyclesOf xs (burst q)) 0 ≡ 1
+fill-once q xs l o k =
     let t = burst-total q in
-    cycles-as-runs (covered o) (covered-split o) xs (burst q) (burst-each q) (omega arith) false ∙ burst-covered q o k
+    cycles-as-runs (counted o) (counted-split o) xs (burst q) (burst-each q) (omega arith) 0 ∙ eqb-true _ 1 (burst-counted q o k)
 
-pub wanted-covered : (w : Run) → OneDoubleword w → (xs : List ℕ) → 16 ≤ length xs → (o : ℕ) → w .from ≤ o → o < w .from + w .count → afterCycles (covered o) (cyclesOf xs (w ∷ [])) false ≡ true
-wanted-covered w g xs l o p q =
-    cycles-as-runs (covered o) (covered-split o) xs (w ∷ []) (g, tt) (omega (arith, g .line)) false ∙ rw (le-leb (w .from) o p, lt-ltb o (w .from + w .count) q)
+pub wanted-once : (w : Run) → OneDoubleword w → (xs : List ℕ) → 16 ≤ length xs → (o : ℕ) → w .from ≤ o → o < w .from + w .count → afterCycles (counted o) (cyclesOf xs (w ∷ [])) 0 ≡ 1
+wanted-once w g xs l o p q =
+    cycles-as-runs (counted o) (counted-split o) xs (w ∷ []) (g, tt) (omega (arith, g .line)) 0 ∙ rw (le-leb (w .from) o p, lt-ltb o (w .from + w .count) q)
