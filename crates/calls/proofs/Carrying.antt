@@ -1,16 +1,16 @@
 -- Laws of the writes that a read carries: what an accepted list of them knows, and the plain memory's bytes as they are put in.
-use Prim.Native.Nat.{ℕ, _+_, _*_, _/_, _%_, _≤_, _<_}
+use Prim.Native.Nat.{ℕ, _≤_, _<_}
 use mathlib.Core.Path.{_≡_, refl, sym, _∙_, ap}
 use mathlib.Core.Bool.{Bool, true, false, cond, not, _||_}
 use mathlib.Core.List.{List, [], _∷_}
 use native.Mathlib.Omega.{arith}
 use lib.Dec.{eqb, ltb}
-use lib.ListN.{length, getD}
+use lib.ListN.{length}
 use lib.Seq.{sets, length-sets}
-use borrow.Author.Tests.{eqb-true, eqb-false, ltb-true, ltb-false, lt-ltb, le-ltb, not-true, not-false}
+use borrow.Author.Tests.{eqb-true, ltb-true, ltb-false, lt-ltb, le-ltb, not-true, not-false}
 use Rattle.laws.proofs.Tests.{both, neither, by-test}
 use Rattle.memory.specs.Parity.{Memory, stored}
-use Rattle.carried.specs.Carried.{Carried, due, later, landed, inLine}
+use Rattle.carried.specs.Carried.{Carried, due, later, landed}
 use Rattle.refusal.specs.Refusal.{when, externalNumber, inOrder, anyRefused, carriedNumber}
 use Rattle.refusal.proofs.Accepted.{GoodExternal, external-accepted}
 use Rattle.calls.specs.Plain.{heldAfter, heldAtEnd}

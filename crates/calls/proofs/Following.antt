@@ -1,14 +1,14 @@
 -- The plain memory follows a read by its records: each is of the group of its doubleword, and says which bytes its cycle moved.
 use Prim.Native.Nat.{ℕ, zero, suc, _+_, _*_, _/_, _%_, _^_, _≤_, _<_}
 use mathlib.Core.Path.{_≡_, refl, sym, _∙_, ap}
-use mathlib.Core.Bool.{Bool, true, false, cond, _&&_, _||_}
+use mathlib.Core.Bool.{Bool, true, false, cond, _&&_}
 use mathlib.Core.List.{List, [], _∷_, _++_}
 use native.Mathlib.Omega.{arith}
 use native.Mathlib.Decide.{decLt}
 use lib.Dec.{eqb, leb, ltb}
 use lib.ListN.{length, getD}
 use lib.Seq.{length-sets}
-use borrow.Author.Tests.{eq-eqb, ne-eqb, leb-true, leb-false, ltb-true, ltb-false, le-leb, lt-leb, lt-ltb, le-ltb}
+use borrow.Author.Tests.{eq-eqb, ne-eqb, leb-true, leb-false, ltb-true, le-leb, lt-ltb, le-ltb}
 use Rattle.laws.proofs.Below.{four}
 use Rattle.laws.proofs.Tests.{both, refuted, by-test, same-or}
 use Rattle.words.specs.Bytes.{bytesAt}
@@ -21,7 +21,7 @@ use Rattle.bus.proofs.Flags.{lanes-below}
 use Rattle.bus.proofs.Sizing.{size-some}
 use Rattle.cycles.proofs.Brought.{OneDoubleword, Each, total, left-each, left-total, burst-each, lands, counted}
 use Rattle.reading.specs.Reading.{bufferOf, recordsOf}
-use Rattle.calls.specs.Plain.{heldAfter, groupsOf, withFirst, namedBy, moves, byteMoved, byteRead}
+use Rattle.calls.specs.Plain.{heldAfter, groupsOf, namedBy, moves, byteMoved, byteRead}
 use Rattle.calls.proofs.Cycles.{EachCycle}
 
 -- FLAGS

@@ -22,7 +22,7 @@ use Rattle.carried.specs.Carried.{Carried, due, later, landed}
 use Rattle.carried.proofs.Landing.{due-none, due-left}
 use Rattle.bus.specs.Groups.{groupCount}
 use Rattle.doubleword.specs.Doubleword.{Doubleword, Done, doublewordsOf, changed}
-use Rattle.reading.specs.Reading.{keptChange, keptArray, readHit, Missed, readMiss, settled, readDone}
+use Rattle.reading.specs.Reading.{keptChange, keptArray, readHit, readMiss, settled, readDone}
 use Rattle.writing.specs.Writing.{writeThrough, hitArray, writeDone}
 use Rattle.refusal.specs.Refusal.{orElse, lentNumber, argumentNumber, carriedNumber, memoryNumber, externalNumber}
 use Rattle.refusal.proofs.Accepted.{or-zero, GoodMemory, GoodExternal, arguments-accepted, external-accepted}

@@ -1,7 +1,7 @@
 -- What lands during a read: as many external writes, each of which keeps the invariant. Those that lie in other lines leave the bytes of a line.
 use Prim.Native.Nat.{ℕ, suc, _+_, _*_, _/_, _%_, _≤_, _<_}
 use mathlib.Core.Path.{_≡_, refl, sym, _∙_, ap}
-use mathlib.Core.Bool.{Bool, false}
+use mathlib.Core.Bool.{false}
 use mathlib.Core.List.{List, [], _∷_}
 use native.Mathlib.Omega.{arith}
 use lib.Dec.{eqb}
@@ -9,7 +9,6 @@ use lib.ListN.{length, getD}
 use lib.Seq.{sets, length-sets}
 use borrow.Author.Tests.{eqb-false}
 use Rattle.laws.proofs.Tests.{neither}
-use Rattle.ways.specs.declared.ways.Found.{Found}
 use Rattle.ways.specs.declared.ways.Found.the-variants.{Nothing}
 use Rattle.ways.specs.Address.{setOf, tagOf}
 use Rattle.directory.specs.declared.steps.Directory.{Directory}
@@ -23,7 +22,7 @@ use Rattle.carried.specs.Carried.{Carried, due, later, landed, memoryAt, inLine
 use Rattle.carried.proofs.Landing.{landed-parted, in-line-parted}
 use Rattle.bus.specs.Bus.{Cycle, afterCycles, bufferAfter}
 use Rattle.reading.specs.Reading.{bufferOf}
-use Rattle.refusal.specs.Call.{State, state, nextState}
+use Rattle.refusal.specs.Call.{State, nextState}
 use Rattle.masters.specs.Masters.{externalWriteNumber}
 use Rattle.masters.proofs.External.{external-done}
 use Rattle.access.specs.Access.{underWay, snoopedBy, landedAfter}

@@ -24,7 +24,7 @@ use Rattle.diagnostics.specs.Diagnostics.{testNumber, testWriteNumber}
 use Rattle.diagnostics.proofs.Laws.{test-write-done, test-write-refused, test-number-arises, test-read-number}
 use Rattle.calls.specs.Calls.{Call, read, write, external, snoop, flush, control, view, reset, testWrite, testRead, step, viewNumberOf}
 use Rattle.calls.specs.Plain.{someAbove, outOfOrder, someRefused, plainNumber}
-use Rattle.calls.specs.Matches.{Kind, testWriting, testReading, reading, other, kindOf, numbersOf, oneOf, Arises}
+use Rattle.calls.specs.Matches.{testWriting, testReading, reading, other, kindOf, numbersOf, oneOf, Arises}
 use Rattle.calls.proofs.Kept.{Kept}
 use Rattle.calls.proofs.Coherence.{Coherent}
 

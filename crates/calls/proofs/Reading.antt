@@ -26,7 +26,7 @@ use Rattle.bus.specs.Record.{Record, plainKind, fillKind}
 use Rattle.doubleword.specs.Doubleword.{Doubleword, Done, changed, plainCycles}
 use Rattle.reading.specs.Reading.{Missed, bufferOf, recordsOf, fillCycles, readHit, plainMiss, spoiled, fillMiss, readMiss, keptChange, keptArray, settled, readDone}
 use Rattle.refusal.specs.Call.{State, state}
-use Rattle.access.specs.Access.{Progress, UnderWay, underWay, directoryAfter, readOne, readNext, landedAfter, readEach}
+use Rattle.access.specs.Access.{Progress, UnderWay, directoryAfter, readOne, readNext, landedAfter, readEach}
 use Rattle.access.proofs.Landing.{none-snooped}
 use Rattle.cycles.proofs.Brought.{burst-each, fill-buffer, counted, fill-once, wanted-once}
 use Rattle.calls.specs.Plain.{heldAfter, heldAtEnd, groupsOf, namedBy, byteRead, bytesBy}
@@ -34,7 +34,7 @@ use Rattle.calls.proofs.Carrying.{EachGood, Ordered, due-good, later-go
 use Rattle.calls.proofs.Cycles.{NoParityErrors, EachCycle, no-error-append, no-error-reads, cycles-within}
 use Rattle.calls.proofs.Doublewords.{Proper, EachProper, ownAddress, in-own, allBy, Above, Ascending, bytes-by-at, above-same}
 use Rattle.calls.proofs.Following.{ReadKind, Begins, FirstAbove, groups-first, byte-moved, byte-hit, byte-own, byte-above, records-length, cycles-begin, burst-begins}
-use Rattle.calls.proofs.Kept.{Kept, KeptIn, UnderKept, landing-kept, during-kept, landedDuring, read-one-kept}
+use Rattle.calls.proofs.Kept.{KeptIn, UnderKept, landing-kept, landedDuring, read-one-kept}
 use Rattle.calls.proofs.Coherence.{Beside, Coherent, kept-in, fewer-beside, held-bytes, filled-lines}
 use Rattle.calls.proofs.Landing.{landing-coherent, snooped-missing, snooped-cd, last-buffer}
 
@@ -300,7 +300,6 @@ module _ (m : List ℕ) (ws : List Carried) (good : EachGood (length m) ws) (ord
   read-all (w ∷ ds) u k g a =
       let here = readOne pcd u w in
       let h = read-one m ws good order u k w (g .0) pcd in
-      let next = readNext u w (readOne pcd u w) in
       let r = read-all ds (readNext u w (readOne pcd u w)) (rest-beside u k w (g .0)) (g .1) (a .1) in
       let more = readEach pcd (readNext u w (readOne pcd u w)) ds .records in
       record {

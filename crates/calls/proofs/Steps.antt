@@ -22,7 +22,7 @@ use Rattle.bus.specs.Record.{Record}
 use Rattle.doubleword.specs.Doubleword.{doublewordsOf}
 use Rattle.directory.specs.Outcome.{outcome}
 use Rattle.refusal.specs.Call.{State, state, After, onDirectory, refused, nextState}
-use Rattle.access.specs.Access.{operandOf, readNumber, writeNumber, writeOne, underWay, readAll, writeAll}
+use Rattle.access.specs.Access.{operandOf, readNumber, writeNumber, underWay, readAll, writeAll}
 use Rattle.masters.specs.Masters.{externalWriteNumber}
 use Rattle.refusal.specs.Refusal.{argumentNumber, valueNumber, carriedNumber}
 use Rattle.refusal.proofs.Accepted.{or-zero, arguments-accepted, external-accepted}

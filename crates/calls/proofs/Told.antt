@@ -1,5 +1,5 @@
 -- The records that the plain memory is told: of an accepted read those of its cycles, and of one that carries nothing it needs none.
-use Prim.Native.Nat.{ℕ, zero, suc, _+_, _*_, _/_, _≤_}
+use Prim.Native.Nat.{ℕ, suc, _+_, _*_, _/_}
 use mathlib.Core.Path.{_≡_, refl, sym, _∙_, ap}
 use mathlib.Core.Bool.{Bool, true, false, cond, true≢false}
 use mathlib.Core.List.{List, [], _∷_}
@@ -17,7 +17,7 @@ use Rattle.refusal.proofs.Accepted.{or-zero, arguments-accepted}
 use Rattle.access.specs.Access.{underWay, readNumber, readAll}
 use Rattle.access.proofs.Calls.{read-done}
 use Rattle.calls.specs.Calls.{Call, read, write, external, snoop, flush, control, view, reset, testWrite, testRead, step, recordsLeft}
-use Rattle.calls.specs.Plain.{heldAfter, heldAtEnd, groupsOf, namedBy, moves, byteMoved, byteRead, bytesBy, bytesRead, Plain, plainAccepted, plainRefused, plainNumber, plainDone, plain}
+use Rattle.calls.specs.Plain.{heldAfter, heldAtEnd, groupsOf, namedBy, moves, byteMoved, byteRead, Plain, plainAccepted, plainRefused, plainNumber, plainDone, plain}
 use Rattle.calls.proofs.Counts.{reads-most, records-left}
 use Rattle.calls.proofs.Doublewords.{bytes-by-at}
 

@@ -140,7 +140,7 @@ plainAccepted value bytes m = record { number = 0; value = value; shown = bytes;
 
 -- "A write or external write replaces its bytes; a read gives its bytes; a view gives its sixteen; snoop, flush, control and reset do nothing";
 -- a read's value is that "with the bytes taken little-endian". Test calls change no RAM, so it does nothing at them either. It is told the records that the
--- call left; a read alone asks for them, and one that carries nothing gives the same bytes whatever they are.
+-- call left. Only a read asks for them, and one that carries nothing gives the same bytes whatever they are (`told-alone`).
 unfoldable pub plainDone : List ℕ → Call → List Record → Plain
 plainDone m (read address width pcd answers log writes) rs = plainAccepted (valueOf (bytesRead m writes rs address width)) [] (heldAtEnd m writes)
 plainDone m (write address width value answers log) rs = plainAccepted 0 [] (sets m address (bytesOf width value))
@@ -153,7 +153,7 @@ plainDone m reset rs = plainAccepted 0 [] m
 plainDone m (testWrite set way tag mark bytes) rs = plainAccepted 0 [] m
 plainDone m (testRead set way) rs = plainAccepted 0 [] m
 
--- "a call meeting 4 to 10 does nothing and answers that number."
+-- "a call meeting 4 to 10 does nothing and answers that number."; so does one meeting 33.
 abbrev pub plainRefused : ℕ → List ℕ → Plain
 plainRefused number m = record { number = number; value = 0; shown = []; memory = m }
 
