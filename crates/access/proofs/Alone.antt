@@ -18,7 +18,7 @@ use Rattle.reading.specs.ReadingCode.{readAlone}
 use Rattle.reading.proofs.Alone.{done-alone}
 use Rattle.reading.proofs.ReadDoublewords.{read-memory}
 use Rattle.refusal.specs.Call.{State}
-use Rattle.refusal.specs.Refusal.{orElse, lentNumber, argumentNumber, carriedNumber, statesNumberOf, carriedStatesNumber, inOrder, anyRefused}
+use Rattle.refusal.specs.Refusal.{orElse, lentNumber, argumentNumber, carriedNumber, statesNumberOf, carriedStatesNumberIn, inOrder, anyRefused}
 use Rattle.refusal.proofs.Accepted.{zero-or, first-or}
 use Rattle.access.specs.Access.{Progress, next, allOf, underWay, snoopedBy, readOne, readNext, landedAfter, readEach, readNumber}
 
@@ -64,7 +64,7 @@ pub number-alone : (s : State) (address width : ℕ) (answers log : List ℕ) �
     readNumber s address width answers log []
     ≡ orElse (lentNumber (length (s .memory .ram)) (length (s .memory .parity)) (length (s .array)))
     (orElse (argumentNumber (length (s .memory .ram)) address width answers (length log)) (statesNumberOf (s .directory) address width))
-unfolding readNumber carriedNumber carriedStatesNumber inOrder anyRefused
+unfolding readNumber carriedNumber carriedStatesNumberIn inOrder anyRefused
 number-alone s address width answers log =
     ap (λ (x : ℕ). orElse (lentNumber (length (s .memory .ram)) (length (s .memory .parity)) (length (s .array))) (orElse (argumentNumber (length (s .memory .ram)) address width answers (length log)) x))
     (none-after (statesNumberOf (s .directory) address width))
