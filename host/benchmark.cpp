@@ -85,11 +85,13 @@ void hit_rows()
 
 // All of RAM in turn, 32 tags for each set: each line is gone before it is read again. The lines that are
 // held at first come last.
+Addresses every(uint32_t bytes)
+{
+    return in_order([=](uint32_t k) { return (held_bytes + k * bytes) % ram_bytes; });
+}
+
 void fill_rows()
 {
-    const auto every = [](uint32_t bytes) {
-        return in_order([=](uint32_t k) { return (held_bytes + k * bytes) % ram_bytes; });
-    };
     const Addresses lines = every(UNIT486_LINE_BYTES);
     Addresses pairs = every(2 * UNIT486_LINE_BYTES);
     for (uint32_t &address : pairs)
@@ -100,6 +102,16 @@ void fill_rows()
     row("read miss with fill, BS8# (16 cycles)", cycles(16), reads(lines, 4),
         answered(UNIT486_KEN | UNIT486_BS8));
     row("fill of two lines (8 cycles)", cycles(8), reads(pairs, 4));
+}
+
+// Half of RAM away no line is held: it was filled 2,048 fills ago. A line whose fill is dropped is not held,
+// so that its next read has the cycles of a fill again.
+void carrying_rows()
+{
+    row("fill during a write into another line (4 cycles)", cycles(4),
+        carrying_reads(every(UNIT486_LINE_BYTES), ram_bytes / 2));
+    row("fill that a write into its line drops (4 cycles)", cycles(4),
+        carrying_reads(not_held(each_line()), UNIT486_LINE_BYTES / 2));
 }
 
 void plain_read_rows()
@@ -237,6 +249,7 @@ int main(int argc, char **)
     std::printf("|---|---|---|---|\n");
     hit_rows();
     fill_rows();
+    carrying_rows();
     plain_read_rows();
     write_rows();
     master_rows();

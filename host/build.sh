@@ -29,10 +29,10 @@ out=target/host
 mkdir -p $out
 # The header must be C too.
 echo '#include "unit486.h"' | $cxx -x c -std=c11 -Wall -Wextra -Wpedantic -Werror -Ihost/include -fsyntax-only -
-for part in unit program; do
+for part in unit carrying program; do
     $cxx $flags ${CXXFLAGS_BASELINE:--O2} -c host/baseline/$part.cpp -o $out/baseline_$part.o
 done
-baseline="$out/baseline_unit.o $out/baseline_program.o"
+baseline="$out/baseline_unit.o $out/baseline_carrying.o $out/baseline_program.o"
 $cxx $flags -O2 host/example/example.cpp "$calls" -o $out/example
 $cxx $flags -O2 host/differential.cpp $baseline "$calls" "$program" -o $out/differential
 $cxx $flags -O2 host/benchmark.cpp $baseline "$calls" "$program" -o $out/benchmark

@@ -39,6 +39,8 @@ int main(int argc, char **argv)
     Series series(seed, coverage);
     series.large(200);
     series.test_limits();
+    series.carried_limits();
+    series.carrying();
     while (coverage.calls < calls) {
         series.hot(3000);
         series.refused(1500);

@@ -74,7 +74,9 @@ std::vector<uint32_t> fresh_log(size_t words)
 const std::map<char, std::pair<size_t, size_t>> field_counts{{'N', {6, 6}}, {'T', {2, 2}}, {'K', {2, 2}},
     {'L', {2, 2}}, {'M', {2, 2}}, {'P', {2, 2}}, {'R', {3, 4}}, {'W', {3, 4}}, {'r', {3, 3}}, {'w', {3, 3}},
     {'X', {1, 65}}, {'S', {1, 1}}, {'F', {0, 0}}, {'C', {2, 2}}, {'Z', {0, 0}}, {'V', {1, 1}}, {'B', {2, 2}},
-    {'p', {20, 20}}, {'t', {2, 2}}};
+    {'p', {20, 20}}, {'t', {2, 2}}, {'Q', {5, 81}}};
+
+constexpr size_t answers_word = 4; // of R, W and Q, the letter being word 0
 
 bool is_digits(const std::string &field) { return field.find_first_not_of("0123456789") == field.npos; }
 
@@ -83,19 +85,49 @@ bool is_number(const std::string &field)
     return is_digits(field) && field.size() <= 10 && std::strtoull(field.c_str(), nullptr, 10) <= UINT32_MAX;
 }
 
-// A letter and its fields: numbers, but for the answers of R and W, which are a run of digits.
+// The writes that a Q carries, from its count on; whether all their fields are there and no others.
+bool take_carried(std::istringstream &line, unit486_carried_writes &carried)
+{
+    line >> carried.count;
+    for (uint32_t k = 0; k < carried.count && k < UNIT486_CARRIED_MOST; ++k) {
+        line >> carried.cycles[k] >> carried.addresses[k] >> carried.lengths[k];
+        for (uint32_t j = 0; j < carried.lengths[k] && j < UNIT486_LINE_BYTES; ++j) {
+            uint32_t byte = 0;
+            line >> byte;
+            carried.bytes[k][j] = static_cast<uint8_t>(byte);
+        }
+    }
+    return !line.fail() && line.eof();
+}
+
+bool has_carried_form(const std::string &text)
+{
+    std::istringstream line(text);
+    std::string word;
+    for (size_t k = 0; k <= answers_word; ++k)
+        line >> word;
+    unit486_carried_writes carried{};
+    return take_carried(line, carried);
+}
+
+// A letter and its fields: numbers, but for answers, which are a run of digits.
 bool has_form(const std::string &text)
 {
     std::istringstream line(text);
-    const std::vector<std::string> words{std::istream_iterator<std::string>(line), {}};
+    std::vector<std::string> words{std::istream_iterator<std::string>(line), {}};
     if (words.empty() || words[0] != text.substr(0, 1))
         return false;
     const auto found = field_counts.find(text[0]);
     const size_t fields = words.size() - 1;
-    const bool answers = fields == 4 && (text[0] == 'R' || text[0] == 'W');
-    return found != field_counts.end() && fields >= found->second.first && fields <= found->second.second &&
-           std::all_of(words.begin() + 1, words.end() - answers, is_number) &&
-           (!answers || is_digits(words.back()));
+    if (found == field_counts.end() || fields < found->second.first || fields > found->second.second)
+        return false;
+    if (std::strchr("RWQ", text[0]) && fields >= answers_word) {
+        if (!is_digits(words[answers_word]))
+            return false;
+        words.erase(words.begin() + answers_word);
+    }
+    return std::all_of(words.begin() + 1, words.end(), is_number) &&
+           (text[0] != 'Q' || has_carried_form(text));
 }
 
 // A unit with its log, on which the lines of a script are run.
@@ -171,6 +203,12 @@ struct ScriptUnit {
             baseline::board_answers(address, width, answers.data());
         }
         unit486_buffers buffers = lent();
+        if (letter == 'Q') {
+            unit486_carried_writes carried{};
+            take_carried(line, carried);
+            return baseline::read_carrying(directory, buffers, address, width, third != 0, answers.data(),
+                answers.size(), log.data(), log.size(), carried);
+        }
         if (letter == 'R' || letter == 'r')
             return baseline::read(directory, buffers, address, width, third != 0, answers.data(),
                 answers.size(), log.data(), log.size());
@@ -180,7 +218,7 @@ struct ScriptUnit {
 
     unit486_result call(char letter, std::istringstream &line)
     {
-        if (std::strchr("RrWw", letter))
+        if (std::strchr("RrWwQ", letter))
             return access(letter, line);
         const std::vector<uint32_t> fields{std::istream_iterator<uint32_t>(line), {}};
         switch (letter) {

@@ -11,6 +11,7 @@ from checks.unit_calls import run_script
 from scripts.bench import bench
 from scripts.board import board
 from scripts.burst import burst
+from scripts.carried import carried
 from scripts.diagnostics import diagnostics
 from scripts.ken import ken
 from scripts.modes import modes
@@ -29,7 +30,7 @@ CRATE = "crates/replay"
 def scripts() -> tuple[Script, ...]:
     """Tables and examples first, then random calls."""
     records = (bench(), sizing(), burst(), ken())
-    rules = (modes(), parity(), numbers(), states(), board(), views(), diagnostics())
+    rules = (modes(), parity(), numbers(), states(), board(), views(), diagnostics(), carried())
     return (*records, *rules, *random_scripts())
 
 

@@ -7,7 +7,16 @@ Prints one line per group and `ok` at the end; stops with exit 1 at the first mi
 import sys
 from collections.abc import Callable
 
-from checks import diagnostics, event_files, random_lists, readings, replays, vectors
+from checks import (
+    altered,
+    carried,
+    diagnostics,
+    event_files,
+    random_lists,
+    readings,
+    replays,
+    vectors,
+)
 from checks.unit_calls import Mismatch, done
 
 GROUPS: list[tuple[str, Callable[[], None]]] = [
@@ -24,8 +33,10 @@ GROUPS: list[tuple[str, Callable[[], None]]] = [
     ("program example", vectors.program_example),
     ("readings of document 01", readings.readings),
     ("readings of C-11", diagnostics.readings),
+    ("readings of C-12, and its timing", carried.readings),
     ("random lists against the plain memory", random_lists.random_lists),
     ("random lists with test calls", random_lists.lists_with_test_calls),
+    ("altered carrying reads", altered.altered_models),
     ("refused calls", random_lists.refused_calls),
     ("call scripts", replays.replays),
     ("event files", event_files.event_file_checks),

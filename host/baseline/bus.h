@@ -44,11 +44,18 @@ inline void read_cycle(
     records.put(address, lanes | flags | (wrong ? UNIT486_FLAG_WRONG_PARITY : 0), word);
 }
 
+// The wanted lanes of an access: 0 to 3 in the lower doubleword, 4 to 7 in the upper one.
+inline unsigned wanted_lanes(uint32_t address, uint32_t width) { return ((1u << width) - 1) << address % 4; }
+
+// Ahead of a cycle of a read that carries no writes.
+constexpr auto nothing_lands = [] {};
+
 // The cycles of a read that is no fill: "the wanted bytes only".
-inline void read_cycles(
-    const unit486_buffers &lent, uint32_t address, unsigned wanted, const uint8_t *answers, Records &records)
+template <class Land> void read_cycles(const unit486_buffers &lent, uint32_t address, unsigned wanted,
+    const uint8_t *answers, Records &records, Land land)
 {
     do {
+        land();
         const unsigned lanes = moved_lanes(wanted, *answers++);
         wanted &= ~lanes;
         read_cycle(lent, address, lanes, wanted ? 0 : UNIT486_FLAG_LAST, records);
@@ -56,8 +63,8 @@ inline void read_cycles(
 }
 
 // "Fill: all four bytes of each doubleword of the line". Answers whether the last cycle has KEN#.
-inline bool fill_cycles(
-    const unit486_buffers &lent, uint32_t address, const uint8_t *answers, Records &records)
+template <class Land> bool fill_cycles(
+    const unit486_buffers &lent, uint32_t address, const uint8_t *answers, Records &records, Land land)
 {
     unsigned answer = 0;
     for (unsigned offset = 0; offset < UNIT486_LINE_BYTES; offset += 4) {
@@ -65,6 +72,7 @@ inline bool fill_cycles(
         const uint32_t doubleword = address ^ offset;
         unsigned wanted = all_lanes;
         do {
+            land();
             answer = *answers++;
             const unsigned lanes = moved_lanes(wanted, answer);
             wanted &= ~lanes;

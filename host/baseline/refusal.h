@@ -62,15 +62,35 @@ inline uint32_t value_number(uint32_t width, uint32_t value)
     return uint64_t{value} >> 8 * width != 0 ? UNIT486_LARGE_VALUE : UNIT486_DONE;
 }
 
-// 1, 2, 10. "External write empty, over 16 bytes, across lines or beyond RAM."
+// 10. "External write empty, over 16 bytes, across lines or beyond RAM."
+inline bool good_external_write(const unit486_buffers &lent, uint32_t address, size_t count)
+{
+    if (count == 0 || count > UNIT486_LINE_BYTES || address % 16 + count > UNIT486_LINE_BYTES)
+        return false;
+    return address + count <= lent.ram_length;
+}
+
+// 1, 2, 10.
 inline uint32_t external_input_number(const unit486_buffers &lent, uint32_t address, size_t count)
 {
     const uint32_t number = memory_number(lent);
     if (number != UNIT486_DONE)
         return number;
-    if (count == 0 || count > UNIT486_LINE_BYTES || address % 16 + count > UNIT486_LINE_BYTES)
-        return UNIT486_WRONG_EXTERNAL_WRITE;
-    return address + count > lent.ram_length ? UNIT486_WRONG_EXTERNAL_WRITE : UNIT486_DONE;
+    return good_external_write(lent, address, count) ? UNIT486_DONE : UNIT486_WRONG_EXTERNAL_WRITE;
+}
+
+// 33. Document 02: "more than four writes, they aren't in cycle order or one would be refused by 10". Equal
+// numbers are in order.
+inline uint32_t carried_number(const unit486_buffers &lent, const unit486_carried_writes &carried)
+{
+    if (carried.count > UNIT486_CARRIED_MOST)
+        return UNIT486_WRONG_CARRIED_WRITES;
+    for (uint32_t k = 0; k < carried.count; ++k) {
+        const bool in_order = k == 0 || carried.cycles[k] >= carried.cycles[k - 1];
+        if (!in_order || !good_external_write(lent, carried.addresses[k], carried.lengths[k]))
+            return UNIT486_WRONG_CARRIED_WRITES;
+    }
+    return UNIT486_DONE;
 }
 
 // 1, 3, 5. "view: address not in RAM"

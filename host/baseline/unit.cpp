@@ -5,6 +5,7 @@
 #include <cstring>
 
 #include "bus.h"
+#include "lines.h"
 #include "refusal.h"
 
 namespace baseline {
@@ -37,12 +38,6 @@ uint32_t snoop(Directory &directory, uint32_t address)
     return number;
 }
 
-// Where the byte of an address stands in the data array, by the index of its line.
-static size_t data_offset(unsigned index, uint32_t address)
-{
-    return size_t{index * UNIT486_LINE_BYTES} + address % UNIT486_LINE_BYTES;
-}
-
 // "Read miss: a fill when CD = 0, PCD = 0 and the first cycle has KEN#. Otherwise the wanted bytes only."
 // A fill brings in RAM's line as it stands, so what the cycles brought is read from RAM. Apart from
 // read_doubleword, which stays short for hits.
@@ -50,12 +45,10 @@ static size_t data_offset(unsigned index, uint32_t address)
     unsigned wanted, bool may_fill, const uint8_t *answers, Records &records)
 {
     if (!may_fill || !(answers[0] & UNIT486_KEN)) {
-        read_cycles(lent, address, wanted, answers, records);
-    } else if (fill_cycles(lent, address, answers, records)) {
+        read_cycles(lent, address, wanted, answers, records, nothing_lands);
+    } else if (fill_cycles(lent, address, answers, records, nothing_lands)) {
         // "It is kept only if the last cycle also has KEN#".
-        const uint32_t line = line_address(address);
-        const size_t offset = data_offset(fill(directory, address), line);
-        std::memcpy(lent.data + offset, lent.ram + line, UNIT486_LINE_BYTES);
+        keep_fill(directory, lent, address);
     }
     return load(lent.ram + address) & lane_bits[wanted];
 }
@@ -72,9 +65,6 @@ static uint32_t read_doubleword(Directory &directory, unit486_buffers &lent, uin
     use(directory, set, way);
     return load(lent.data + data_offset(line_index(set, way), address)) & lane_bits[wanted];
 }
-
-// The wanted lanes of an access: 0 to 3 in the lower doubleword, 4 to 7 in the upper one.
-static unsigned wanted_lanes(uint32_t address, uint32_t width) { return ((1u << width) - 1) << address % 4; }
 
 unit486_result read(Directory &directory, unit486_buffers &lent, uint32_t address, uint32_t width, bool pcd,
     const uint8_t *answers, size_t answers_length, uint32_t *log, size_t log_length)
@@ -137,27 +127,15 @@ unit486_result write(Directory &directory, unit486_buffers &lent, uint32_t addre
     return {UNIT486_DONE, 0, records.count};
 }
 
-// "An external write puts 1 to 16 bytes of one line into RAM, sets their parity, then snoops. It leaves
-// no record."
 uint32_t external_write(
     Directory &directory, unit486_buffers &lent, uint32_t address, const uint8_t *bytes, size_t count)
 {
     uint32_t number = external_input_number(lent, address, count);
     if (number == UNIT486_DONE)
         number = state_number(directory, set_of(address));
-    if (number != UNIT486_DONE)
-        return number;
-    std::memcpy(lent.ram + address, bytes, count);
-    // The written lanes of the line's sixteen, four for each doubleword.
-    const unsigned written = ((1u << count) - 1) << address % 16;
-    const uint32_t line = line_address(address);
-    for (unsigned k = 0; k < 4; ++k) {
-        const unsigned lanes = written >> 4 * k & all_lanes;
-        if (lanes != 0)
-            store_parity(lent.parity[line / 4 + k], lanes, load(lent.ram + line + 4 * k));
-    }
-    invalidate(directory, address);
-    return UNIT486_DONE;
+    if (number == UNIT486_DONE)
+        put_external(directory, lent, address, bytes, count);
+    return number;
 }
 
 uint32_t view_number(const Directory &directory, const unit486_buffers &lent, uint32_t address)

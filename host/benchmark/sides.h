@@ -19,6 +19,7 @@ struct Side {
     uint8_t answers[UNIT486_ANSWERS];
     uint32_t log[UNIT486_LOG_WORDS] = {};
     uint8_t shown[UNIT486_LINE_BYTES] = {};
+    unit486_carried_writes carried = {};
     uint32_t number = UNIT486_DONE; // that each call is to answer
     uint64_t other_numbers = 0;
     uint64_t sum = 0;
@@ -69,6 +70,11 @@ struct Library {
         return unit486_read(&side.directory, &side.lent, address, width, pcd, side.answers, UNIT486_ANSWERS,
             side.log, UNIT486_LOG_WORDS);
     }
+    static unit486_result read_carrying(Side &side, uint32_t address, uint32_t width)
+    {
+        return unit486_read_carrying(&side.directory, &side.lent, address, width, false, side.answers,
+            UNIT486_ANSWERS, side.log, UNIT486_LOG_WORDS, &side.carried);
+    }
     static unit486_result write(Side &side, uint32_t address, uint32_t width, uint32_t value)
     {
         return unit486_write(&side.directory, &side.lent, address, width, value, side.answers,
@@ -102,6 +108,11 @@ struct Baseline {
     {
         return baseline::read(side.directory, side.lent, address, width, pcd, side.answers, UNIT486_ANSWERS,
             side.log, UNIT486_LOG_WORDS);
+    }
+    static unit486_result read_carrying(Side &side, uint32_t address, uint32_t width)
+    {
+        return baseline::read_carrying(side.directory, side.lent, address, width, false, side.answers,
+            UNIT486_ANSWERS, side.log, UNIT486_LOG_WORDS, side.carried);
     }
     static unit486_result write(Side &side, uint32_t address, uint32_t width, uint32_t value)
     {

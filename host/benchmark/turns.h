@@ -81,6 +81,19 @@ inline auto reads(const Addresses &addresses, uint32_t width, bool pcd = false)
         [=](Side &side, auto unit, uint32_t address) { return unit.read(side, address, width, pcd); });
 }
 
+// Reads of four bytes, during which four bytes at a distance from them are written before the third cycle.
+inline auto carrying_reads(const Addresses &addresses, uint32_t distance)
+{
+    return each(addresses, [=](Side &side, auto unit, uint32_t address) {
+        side.carried.count = 1;
+        side.carried.cycles[0] = 2;
+        side.carried.addresses[0] = (address + distance) % ram_bytes;
+        side.carried.lengths[0] = 4;
+        std::memset(side.carried.bytes[0], static_cast<int>(address / UNIT486_LINE_BYTES), 4);
+        return unit.read_carrying(side, address, 4);
+    });
+}
+
 // Values of the whole width.
 inline auto writes(const Addresses &addresses, uint32_t width)
 {

@@ -17,6 +17,8 @@ enum class Kind {
     drop_line,
     external_write,
     read,
+    read_carrying,
+    read_carrying_none,
     write,
     view,
     view_number,
@@ -26,11 +28,11 @@ enum class Kind {
     run,
 };
 
-constexpr size_t kinds = 16;
+constexpr size_t kinds = 18;
 
 constexpr const char *kind_names[kinds] = {"reset", "reset_by_value", "control", "control_by_value", "flush",
-    "snoop", "drop_line", "external_write", "read", "write", "view", "view_number", "test_write", "test_read",
-    "board_answers", "run"};
+    "snoop", "drop_line", "external_write", "read", "read_carrying", "read_carrying_none", "write", "view",
+    "view_number", "test_write", "test_read", "board_answers", "run"};
 
 // The arguments that are not lent; each call takes those that it receives.
 struct Call {
@@ -45,7 +47,14 @@ struct Call {
     uint32_t way = 0;
     uint32_t tag = 0;
     bool mark = false;
+    unit486_carried_writes carried{};
 };
+
+inline bool is_access(const Call &call)
+{
+    return call.kind == Kind::read || call.kind == Kind::read_carrying ||
+           call.kind == Kind::read_carrying_none || call.kind == Kind::write;
+}
 
 inline bool is_test(const Call &call)
 {
@@ -81,6 +90,10 @@ inline unit486_result call_library(Side &side, const Call &call)
     case Kind::read:
         return unit486_read(directory, &lent, call.address, call.width, call.pcd, side.answers.start(),
             side.answers.length, side.log.start(), side.log.length);
+    case Kind::read_carrying:
+    case Kind::read_carrying_none:
+        return unit486_read_carrying(directory, &lent, call.address, call.width, call.pcd,
+            side.answers.start(), side.answers.length, side.log.start(), side.log.length, &call.carried);
     case Kind::write:
         return unit486_write(directory, &lent, call.address, call.width, call.value, side.answers.start(),
             side.answers.length, side.log.start(), side.log.length);
@@ -98,6 +111,7 @@ inline unit486_result call_library(Side &side, const Call &call)
     }
 }
 
+// A carrying read that carries nothing is the read.
 inline unit486_result call_baseline(Side &side, const Call &call)
 {
     unit486_buffers lent = side.lent();
@@ -114,8 +128,12 @@ inline unit486_result call_baseline(Side &side, const Call &call)
         return number_only(
             baseline::external_write(directory, lent, call.address, side.bytes.start(), side.bytes.length));
     case Kind::read:
+    case Kind::read_carrying_none:
         return baseline::read(directory, lent, call.address, call.width, call.pcd, side.answers.start(),
             side.answers.length, side.log.start(), side.log.length);
+    case Kind::read_carrying:
+        return baseline::read_carrying(directory, lent, call.address, call.width, call.pcd,
+            side.answers.start(), side.answers.length, side.log.start(), side.log.length, call.carried);
     case Kind::write:
         return baseline::write(directory, lent, call.address, call.width, call.value, side.answers.start(),
             side.answers.length, side.log.start(), side.log.length);
@@ -141,6 +159,18 @@ inline void print_bytes(const char *name, const Lent<uint8_t> &bytes)
     std::printf("\n");
 }
 
+inline void print_carried(const unit486_carried_writes &carried)
+{
+    std::printf("  carried writes: %" PRIu32 "\n", carried.count);
+    for (uint32_t k = 0; k < carried.count && k < UNIT486_CARRIED_MOST; ++k) {
+        std::printf("    before cycle %" PRIu32 ": address %" PRIu32 " (%#" PRIx32 "), length %" PRIu32 ":",
+            carried.cycles[k], carried.addresses[k], carried.addresses[k], carried.lengths[k]);
+        for (const uint8_t byte : carried.bytes[k])
+            std::printf(" %u", byte);
+        std::printf("\n");
+    }
+}
+
 // The call and all lengths; answers and bytes as they are after it, which no call but board_answers
 // changes.
 inline void print_call(const Call &call, const Side &side)
@@ -155,6 +185,7 @@ inline void print_call(const Call &call, const Side &side)
         side.parity.length, side.data.length, side.log.length);
     print_bytes("answers", side.answers);
     print_bytes("bytes of an external write or a test write", side.bytes);
+    print_carried(call.carried);
 }
 
 // Which call differed, and where.

@@ -48,6 +48,36 @@ enum Condition {
     external_write_dropped_planted_line,
     flush_of_planted_lines,
     refused_by_planted_tag,
+    carried_none,
+    carried_one_to_three,
+    carried_four,
+    carried_dropped_line,
+    carried_kept_line_by_nw,
+    carried_over_another,
+    carried_between_bytes_of_doubleword,
+    carried_in_plain_read,
+    carried_at_first_cycle_of_fill,
+    carried_spoiled_fill,
+    carried_spoiled_fill_with_nw,
+    carried_spoiled_fill_of_16_cycles,
+    carried_spoiled_fill_at_last_cycle,
+    carried_spoiled_fill_before_upper,
+    carried_chose_the_victim,
+    carried_made_upper_miss,
+    carried_after_lower_hit,
+    carried_after_upper_hit,
+    carried_dropped_line_just_filled,
+    carried_past_last_cycle,
+    carried_with_no_cycle,
+    carried_too_many,
+    carried_out_of_order,
+    carried_empty,
+    carried_too_long,
+    carried_across_lines,
+    carried_beyond_ram,
+    carried_fault_before_state,
+    carried_fault_after_other,
+    carried_refused_by_state,
     run_whole_output,
     run_output_cut,
     run_without_last_newline,
@@ -94,6 +124,36 @@ constexpr const char *condition_names[conditions] = {
     "external writes that dropped a planted line",
     "flushes and resets of planted lines",
     "calls that a tag planted twice refused (21)",
+    "carrying reads of no write",
+    "carrying reads of 1 to 3 writes",
+    "carrying reads of 4 writes",
+    "carried writes to a held line",
+    "carried writes to a held line with NW = 1",
+    "carried writes over bytes of another of the same number",
+    "carried writes between two cycles of their doubleword",
+    "carried writes during a plain read",
+    "carried writes at the first cycle of a fill of their line",
+    "carried writes that dropped a fill",
+    "carried writes that dropped a fill with NW = 1",
+    "carried writes that dropped a fill of 16 cycles",
+    "carried writes that dropped a fill at its last cycle",
+    "fills dropped so that the upper doubleword missed",
+    "carried writes that dropped the line which became the victim",
+    "carried writes that made the upper doubleword miss",
+    "carried writes to the line where the lower doubleword hit",
+    "carried writes to the line where the upper doubleword hit",
+    "carried writes to the line that the lower one filled",
+    "carried writes past the last cycle",
+    "carried writes of a read with no cycle",
+    "33: more than four",
+    "33: not in cycle order",
+    "33: an empty write",
+    "33: a write over 16 bytes",
+    "33: a write across lines",
+    "33: a write beyond RAM",
+    "33 where the read's sets have a state number",
+    "1 to 7 where 33 would be met too",
+    "21 to 23 of a carried write's set alone",
     "runs with their whole output",
     "runs whose output was cut",
     "runs without a last newline",
@@ -117,6 +177,8 @@ constexpr uint64_t possible_numbers[kinds] = {
     bits_of(0) | state_bits,
     bits_of(0) | state_bits,
     bits_of(0, 1, 2, 10) | state_bits,
+    bits_of(0, 1, 2, 3, 4, 5, 6, 7) | state_bits,
+    bits_of(0, 1, 2, 3, 4, 5, 6, 7, 33) | state_bits,
     bits_of(0, 1, 2, 3, 4, 5, 6, 7) | state_bits,
     bits_of(0, 1, 2, 3, 4, 5, 6, 7, 8) | state_bits,
     bits_of(0, 1, 3, 5) | state_bits,
@@ -158,8 +220,10 @@ public:
         if (result.number != UNIT486_DONE)
             return;
         const bool held = is_held(before, call.address);
-        if (call.kind == Kind::read)
+        if (call.kind == Kind::read || call.kind == Kind::read_carrying_none)
             note_read(before, call, result, side);
+        else if (call.kind == Kind::read_carrying)
+            note_records(result, side);
         else if (call.kind == Kind::write)
             note_write(before, call, result, side);
         else if (held && (call.kind == Kind::snoop || call.kind == Kind::drop_line))
@@ -179,15 +243,15 @@ public:
     bool report() const
     {
         bool good = true;
-        std::printf("%-16s number: how often\n", "call");
+        std::printf("%-18s number: how often\n", "call");
         for (size_t kind = 0; kind < kinds; ++kind) {
-            std::printf("%-16s", kind_names[kind]);
+            std::printf("%-18s", kind_names[kind]);
             for (uint32_t number = 0; number < numbers_counted; ++number)
                 good = report_number(kind, number) && good;
             std::printf("\n");
         }
         for (size_t k = 0; k < conditions; ++k) {
-            std::printf("%-58s %10" PRIu64 "%s\n", condition_names[k], met[k], met[k] ? "" : "  NEVER MET");
+            std::printf("%-60s %10" PRIu64 "%s\n", condition_names[k], met[k], met[k] ? "" : "  NEVER MET");
             good = good && met[k] != 0;
         }
         return good;
@@ -229,7 +293,9 @@ private:
     {
         const bool held = planted.holds(before, call.address);
         switch (call.kind) {
-        case Kind::read: note(read_of_planted_line, held); break;
+        case Kind::read:
+        case Kind::read_carrying:
+        case Kind::read_carrying_none: note(read_of_planted_line, held); break;
         case Kind::write: note(write_of_planted_line, held); break;
         case Kind::view: note(view_of_planted_line, held); break;
         case Kind::snoop:

@@ -46,9 +46,12 @@ public:
         return way != baseline::no_way && lines[baseline::line_index(baseline::set_of(address), way)];
     }
 
-    // After an accepted call. A fill changes the victim's tag or finds it invalid.
+    // After an accepted call. A fill changes the victim's tag or finds it invalid, but where a carried write
+    // dropped the line of that tag just before.
     void follow(const unit486_directory &before, const Call &call, const unit486_directory &after)
     {
+        for (uint32_t k = 0; k < call.carried.count && !before.nw; ++k)
+            forget_line(before, call.carried.addresses[k]);
         for (size_t k = 0; k < UNIT486_LINES; ++k)
             lines[k] = lines[k] && after.valid[k] && after.tags[k] == before.tags[k];
         if (call.kind == Kind::test_write)
@@ -57,4 +60,11 @@ public:
 
 private:
     std::array<bool, UNIT486_LINES> lines{};
+
+    void forget_line(const unit486_directory &directory, uint32_t address)
+    {
+        const unsigned way = baseline::lookup(directory, address);
+        if (way != baseline::no_way)
+            lines[baseline::line_index(baseline::set_of(address), way)] = false;
+    }
 };

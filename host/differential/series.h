@@ -8,6 +8,8 @@
 #include <utility>
 
 #include "calls.h"
+#include "carried.h"
+#include "carried_notes.h"
 #include "coverage.h"
 #include "event_text.h"
 #include "runs.h"
@@ -109,6 +111,43 @@ public:
             }
     }
 
+    // Reads that carry writes on either side of every limit of 33, in each place of the list.
+    void carried_limits()
+    {
+        name = "carried limits";
+        make_sides(2048);
+        choose_sets();
+        set_control(false, false);
+        for (const uint32_t count : {1u, 2u, 3u, 4u, 5u, 6u, UINT32_MAX})
+            for (uint32_t place = 0; place < UNIT486_CARRIED_MOST; ++place) {
+                for (const uint32_t address : {0u, 1u, 15u, 2032u, 2047u, 2048u, UINT32_MAX - 15, UINT32_MAX})
+                    for (const uint32_t length : {0u, 1u, 2u, 15u, 16u, 17u, UINT32_MAX})
+                        check_carried_place(count, place, address, length);
+                for (const uint32_t number : {0u, 1u, 2u, 3u, UINT32_MAX - 1, UINT32_MAX})
+                    check_carried_number(count, place, number);
+            }
+    }
+
+    // Reads of every start, sizing and mode that carry writes at every number into each line that they may
+    // meet.
+    void carrying()
+    {
+        name = "carrying";
+        make_sides(8192);
+        choose_sets();
+        restore_lengths();
+        const std::pair<uint32_t, uint32_t> bytes[] = {
+            {0, 1}, {5, 2}, {8, 4}, {12, 4}, {2, 4}, {7, 2}, {9, 4}, {13, 4}, {15, 2}};
+        for (uint32_t modes = 0; modes < 4; ++modes) {
+            make_modes(modes % 2 != 0, modes / 2 != 0);
+            for (const auto &[offset, width] : bytes)
+                for (const int answer : {1, 3, 5, mixed_answers})
+                    for (uint32_t number = 0; number < 34; ++number)
+                        for (uint32_t line = 0; line < 4; ++line)
+                            check_carrying(offset, width, answer, number, line);
+        }
+    }
+
     // The event program on random lines.
     void events(uint32_t runs)
     {
@@ -118,6 +157,8 @@ public:
     }
 
 private:
+    static constexpr int mixed_answers = -1; // in place of one for all cycles
+
     uint64_t seed;
     Random random;
     Coverage &coverage;
@@ -183,14 +224,51 @@ private:
         });
     }
 
-    // The touched sets of a call, made anew.
+    void make_modes(bool cd, bool nw)
+    {
+        sides.both([&](Side &side) { side.directory.cd = cd, side.directory.nw = nw; });
+    }
+
+    // The touched sets of a call, made anew; of carried writes so many that well-formed ones are common.
     void make_sets(const Call &call)
     {
-        const bool cd = random.percent(40), nw = random.percent(40);
-        sides.both([&](Side &side) { side.directory.cd = cd, side.directory.nw = nw; });
+        const bool cd = random.percent(40);
+        make_modes(cd, random.percent(40));
+        for (uint32_t k = 0; k < call.carried.count && k < UNIT486_CARRIED_MOST; ++k)
+            if (random.percent(40))
+                make_set(call.carried.addresses[k]);
         make_set(call.address);
         if (call.address % 16 + call.width > 16)
             make_set(call.address + call.width - 1);
+    }
+
+    // The set of an address, well formed, with all four tags of the series' RAM. The address's own line is
+    // held now and then; a line beyond RAM takes its place most of the time, so that full sets are common.
+    void make_set_for_carrying(uint32_t at)
+    {
+        const uint32_t first = at / 16 % 128 * 4;
+        uint32_t tags[4] = {0, 1, 2, 3};
+        bool valid[4];
+        for (uint32_t way = 0; way < 4; ++way)
+            std::swap(tags[way], tags[random.below(4)]);
+        const bool held = random.percent(20), replaced = random.percent(70);
+        for (uint32_t way = 0; way < 4; ++way) {
+            const bool own = tags[way] == at / 2048;
+            valid[way] = own && !replaced ? held : random.percent(90);
+            tags[way] = own && replaced ? 9 : tags[way];
+        }
+        const uint8_t lru = static_cast<uint8_t>(random.below(8));
+        put_set(first, tags, valid, lru);
+    }
+
+    void put_set(uint32_t first, const uint32_t *tags, const bool *valid, uint8_t lru)
+    {
+        sides.both([&](Side &side) {
+            std::memcpy(side.directory.tags + first, tags, 4 * sizeof *tags);
+            std::memcpy(side.directory.valid + first, valid, 4 * sizeof *valid);
+            side.directory.lru[first / 4] = lru;
+        });
+        coverage.planted.forget_set(first / 4);
     }
 
     void make_set(uint32_t at)
@@ -205,12 +283,7 @@ private:
         uint8_t lru = static_cast<uint8_t>(random.below(8));
         for (uint32_t faults = random.percent(70) ? 0 : random.between(1, 2); faults > 0; --faults)
             add_state_fault(tags, valid, lru);
-        sides.both([&](Side &side) {
-            std::memcpy(side.directory.tags + first, tags, sizeof tags);
-            std::memcpy(side.directory.valid + first, valid, sizeof valid);
-            side.directory.lru[first / 4] = lru;
-        });
-        coverage.planted.forget_set(first / 4);
+        put_set(first, tags, valid, lru);
     }
 
     // A fault, or what only looks like one: a stale tag.
@@ -287,11 +360,11 @@ private:
         const struct {
             uint32_t below;
             Kind kind;
-        } table[] = {{410, Kind::read}, {640, Kind::write}, {660, Kind::test_write}, {680, Kind::test_read},
-            {770, Kind::external_write}, {830, Kind::snoop}, {880, Kind::drop_line}, {920, Kind::view},
-            {940, Kind::view_number}, {955, Kind::board_answers}, {975, Kind::control},
-            {985, Kind::control_by_value}, {992, Kind::flush}, {997, Kind::reset},
-            {1000, Kind::reset_by_value}};
+        } table[] = {{300, Kind::read}, {395, Kind::read_carrying}, {410, Kind::read_carrying_none},
+            {640, Kind::write}, {660, Kind::test_write}, {680, Kind::test_read}, {770, Kind::external_write},
+            {830, Kind::snoop}, {880, Kind::drop_line}, {920, Kind::view}, {940, Kind::view_number},
+            {955, Kind::board_answers}, {975, Kind::control}, {985, Kind::control_by_value},
+            {992, Kind::flush}, {997, Kind::reset}, {1000, Kind::reset_by_value}};
         size_t k = 0;
         while (roll >= table[k].below)
             ++k;
@@ -317,8 +390,26 @@ private:
             call.width = random.pick({0u, 1u, 2u, 3u, 4u, 5u, 8u, UINT32_MAX});
         }
         choose_line(call);
+        if (kind == Kind::read_carrying || kind == Kind::read_carrying_none)
+            call.carried = none_carried(random);
+        if (kind == Kind::read_carrying)
+            carry(call, random.below(UNIT486_CARRIED_MOST + 1));
         lend_contents(call);
         return call;
+    }
+
+    // Writes in cycle order: half of them in the lines of the access.
+    void carry(Call &call, uint32_t count)
+    {
+        std::array<uint32_t, UNIT486_CARRIED_MOST> numbers;
+        for (uint32_t k = 0; k < count; ++k)
+            numbers[k] = k > 0 && random.percent(30) ? numbers[k - 1] : random_cycle(random);
+        std::sort(numbers.begin(), numbers.begin() + count);
+        for (uint32_t k = 0; k < count; ++k) {
+            const uint32_t byte = call.address + random.pick({0u, call.width - 1});
+            const uint32_t in_line = byte - byte % 16 + random.below(16);
+            add_write(call.carried, random, numbers[k], random.percent(50) ? in_line : address());
+        }
     }
 
     // The line of a test call: most of the time the one that holds the address, if one does, since a tag
@@ -353,6 +444,10 @@ private:
     {
         if (is_test(call))
             return with_wrong_line(call);
+        if (call.kind == Kind::read_carrying && random.percent(60)) {
+            add_carried_fault(call.carried, random, ram_length);
+            return call;
+        }
         const uint8_t above = static_cast<uint8_t>(random.pick({8u, 9u, 16u, 128u, 255u}));
         const uint32_t at = random.below(UNIT486_ANSWERS);
         switch (random.below(4)) {
@@ -370,7 +465,7 @@ private:
     // New answers, log words and bytes for a call, the same on both sides.
     void lend_contents(const Call &call)
     {
-        if (call.kind == Kind::read || call.kind == Kind::write) {
+        if (is_access(call)) {
             uint8_t answers[64];
             make_answers(call, answers);
             const uint32_t base = random.word();
@@ -438,6 +533,55 @@ private:
         check(call);
     }
 
+    // A read of an accepted address with four good writes in cycle order, of which it carries `count`.
+    Call next_carrying_read(uint32_t count)
+    {
+        Call call = next_call(Kind::read_carrying);
+        call.address = random.below(ram_length - 4);
+        call.carried.count = 0;
+        for (uint32_t k = 0; k < UNIT486_CARRIED_MOST; ++k)
+            add_write(call.carried, random, 1 + k / 2, random.below(ram_length));
+        call.carried.count = count;
+        return call;
+    }
+
+    void check_carried_place(uint32_t count, uint32_t place, uint32_t address, uint32_t length)
+    {
+        Call call = next_carrying_read(count);
+        call.carried.addresses[place] = address;
+        call.carried.lengths[place] = length;
+        check(call);
+    }
+
+    void check_carried_number(uint32_t count, uint32_t place, uint32_t number)
+    {
+        Call call = next_carrying_read(count);
+        call.carried.cycles[place] = number;
+        check(call);
+    }
+
+    // A write of this number, and at times more of this and the next numbers. Lines 0 to 3: that of the
+    // access's first byte, that of its last, and another of the set of each.
+    void check_carrying(uint32_t offset, uint32_t width, int answer, uint32_t number, uint32_t line)
+    {
+        Call call = next_call(Kind::read_carrying);
+        call.address = random.below(3) * 2048 + sets[0] * 16 + offset;
+        call.width = width;
+        call.carried.count = 0;
+        const uint32_t last = call.address + width - 1;
+        const uint32_t lines[] = {call.address, last, call.address ^ 2048, last ^ 2048};
+        for (uint32_t target = line; call.carried.count < 1 + random.below(4); target = random.below(4))
+            add_write(call.carried, random, number + random.below(call.carried.count + 1),
+                lines[target] / 16 * 16 + random.below(16));
+        std::sort(call.carried.cycles, call.carried.cycles + call.carried.count);
+        if (answer != mixed_answers)
+            sides.both([&](Side &side) { std::memset(side.answers.start(), answer, UNIT486_ANSWERS); });
+        make_set_for_carrying(call.address);
+        if (last / 16 != call.address / 16)
+            make_set_for_carrying(last);
+        check(call);
+    }
+
     void check(const Call &call)
     {
         const unit486_directory before = sides.baseline.directory;
@@ -457,5 +601,7 @@ private:
             std::exit(1);
         }
         coverage.note_call(before, call, baseline, sides.baseline);
+        if (call.kind == Kind::read_carrying)
+            CarriedNotes(coverage, before, call, baseline, sides.baseline).note();
     }
 };

@@ -1,5 +1,6 @@
 // A host's first steps: compare versions, fill a line, hit it, let another master write, read the new byte;
-// then a diagnostic disk's test of the cache. Ends with 1 if a step is not as unit486.h says.
+// then a fieldbus card that writes during a fill, and a diagnostic disk's test of the cache. Ends with 1 if a
+// step is not as unit486.h says.
 #include <cstdio>
 #include <cstring>
 #include <vector>
@@ -45,6 +46,15 @@ struct Host {
         unit486_board_answers(address, width, answers);
         return unit486_read(
             &directory, &lent, address, width, false, answers, UNIT486_ANSWERS, log, UNIT486_LOG_WORDS);
+    }
+
+    // A read during which other masters write.
+    unit486_result read_carrying(uint32_t address, uint32_t width, const unit486_carried_writes &carried)
+    {
+        uint8_t answers[UNIT486_ANSWERS];
+        unit486_board_answers(address, width, answers);
+        return unit486_read_carrying(&directory, &lent, address, width, false, answers, UNIT486_ANSWERS, log,
+            UNIT486_LOG_WORDS, &carried);
     }
 
     unit486_result write(uint32_t address, uint32_t width, uint32_t value)
@@ -99,6 +109,50 @@ static void another_master(Host &host)
     expect_number("read beyond RAM: number", host.read(65534, 4).number, UNIT486_BEYOND_RAM);
 }
 
+static constexpr uint32_t batch_address = 0x2348;
+
+// A fieldbus card's new batch number, which lands before a cycle of the read that carries it.
+static unit486_carried_writes batch_write(uint8_t batch, uint32_t cycle)
+{
+    unit486_carried_writes carried = {};
+    carried.count = 1;
+    carried.cycles[0] = cycle;
+    carried.addresses[0] = batch_address;
+    carried.lengths[0] = 1;
+    carried.bytes[0][0] = batch;
+    return carried;
+}
+
+// A batch number changes while its line comes in. Its own doubleword comes in first, in cycle 0.
+static void card_writes_during_fill(Host &host)
+{
+    host.write(batch_address, 1, 41);
+    unit486_result result = host.read_carrying(batch_address, 1, batch_write(42, 2));
+    expect("read, the card writes before cycle 2: cycles", result.cycles, 4);
+    expect("  value, as in RAM at cycle 0", result.value, 41);
+    result = host.read(batch_address, 1);
+    expect("read again, a fill as that was dropped: cycles", result.cycles, 4);
+    expect("  value, not stale", result.value, 42);
+
+    unit486_flush(&host.directory);
+    result = host.read_carrying(batch_address, 1, batch_write(43, 0));
+    expect("read, the card writes before cycle 0: cycles", result.cycles, 4);
+    expect("  value", result.value, 43);
+    result = host.read(batch_address, 1);
+    expect("read again, a hit as that fill was kept: cycles", result.cycles, 0);
+    expect("  value", result.value, 43);
+
+    result = host.read_carrying(batch_address, 1, batch_write(44, 0));
+    expect("hit: the card writes after it; value", result.value, 43);
+    result = host.read(batch_address, 1);
+    expect("  read again, a fill: value", result.value, 44);
+
+    unit486_carried_writes carried = batch_write(45, 0);
+    carried.count = UNIT486_CARRIED_MOST + 1;
+    expect_number("read that carries five writes: number",
+        host.read_carrying(batch_address, 1, carried).number, UNIT486_WRONG_CARRIED_WRITES);
+}
+
 // A line planted and read back, as a diagnostic disk does it. Its tag and set are those of an address in RAM,
 // where other bytes stand: reads there differ from RAM until the flush ends what was planted.
 static void cache_test(Host &host)
@@ -138,6 +192,7 @@ int main(int argc, char **)
     Host host;
     fill_and_hit(host);
     another_master(host);
+    card_writes_during_fill(host);
     cache_test(host);
     std::printf(all_as_documented ? "all as documented\n" : "NOT as documented\n");
     return all_as_documented ? 0 : 1;

@@ -1,5 +1,5 @@
 /* The 486 cache and bus unit, for a host in C (C11) or C++ (C++17). The rules are document 01's; those of
-   the test calls are document 02's, request C-11.
+   the test calls and of carried writes are document 02's, requests C-11 and C-12.
 
    Link with target/staticlib/libhost.a, which `rt staticlib host` writes for x86-64; a host that calls
    unit486_run links target/staticlib/libprogram.a too, which `rt staticlib program` writes. The unit
@@ -33,9 +33,30 @@
    to it. After the call all of it is the caller's again.
 
    NUMBERS. Each call but those that are never refused answers one of enum unit486_number. 0: done. Else
-   nothing lent has changed, the directory is as it was given, and value and count are 0. Lowest first, 1
-   to 10 before 21 to 23; where two sets are touched, all of the lower address's set comes before the
-   other. Each only from calls that receive the thing. A test call answers 3, 31 or 32, lowest first.
+   nothing lent has changed, the directory is as it was given, and value and count are 0. Lowest first, but
+   33 comes after 10 and before 21: 1 to 10, 33, 21 to 23. Where several sets are touched, all of one comes
+   before the next: the access's own sets, the lower address's first, then those of carried writes in list
+   order. Each only from calls that receive the thing. A test call answers 3, 31 or 32, lowest first.
+
+   CARRIED WRITES, for fieldbus cards, which write while a line is coming in. unit486_read_carrying is
+   unit486_read with up to four external writes that land during it, each numbered by the cycle before which
+   it does; with none it is unit486_read. Cycles count from 0 over the access, through both doublewords.
+   Before a cycle moves its bytes, the writes numbered up to it that have not landed land, in list order:
+   bytes and parity into RAM, then a snoop, which changes nothing with NW = 1. Each byte, each record and
+   its UNIT486_FLAG_WRONG_PARITY are of RAM as it is at that cycle. The writes leave no record.
+
+     lookup      comes before the writes at the number of the doubleword's first cycle land. A hit makes no
+                 cycle, so nothing lands for it, and its bytes are those of the data array then
+     fill        a write at the number of its first cycle leaves it valid, and it brings those bytes in. One
+                 at the number of a later cycle of it, in the line being filled, drops it, with NW = 1 too:
+                 cycles and flags are as ever, and the line is not held
+     victim      is chosen after the fill's last cycle, so after the snoops of what has landed
+     the rest    numbered past the last cycle, and all where there is none, lands after the value is taken
+
+   A host that compares the calls with a memory of its own puts each write into it before the cycle of its
+   number, and what is left at the end: a wanted byte is what that memory holds at the cycle that moves it,
+   or at the lookup for a hit. The records tell where the cycles fall: each doubleword that missed has a
+   group of them, which ends with UNIT486_FLAG_LAST and starts at the doubleword's own address.
 
    TEST CALLS, for diagnostic disks, which load cache lines by hand and read them back. Both work only with
    CD = 1 and look at no state of a set, so that a disk sees what the directory holds, ill formed or not.
@@ -58,7 +79,7 @@ extern "C" {
 #endif
 
 /* Of this header's layout and calls. */
-#define UNIT486_VERSION 6
+#define UNIT486_VERSION 7
 
 enum {
     UNIT486_SETS = 128,
@@ -71,6 +92,7 @@ enum {
     UNIT486_RAM_MOST = 16777216,
     UNIT486_ANSWERS = 32,
     UNIT486_LOG_WORDS = 96,
+    UNIT486_CARRIED_MOST = 4,     /* external writes that a read may carry */
     UNIT486_INPUT_MOST = 65536,   /* bytes of event lines that unit486_run runs */
     UNIT486_OUTPUT_MOST = 2883654 /* bytes that are enough for the output of every input */
 };
@@ -93,7 +115,8 @@ enum unit486_number {
     UNIT486_LARGE_TAG = 22,            /* a valid tag of a touched set is above 2,097,151 */
     UNIT486_LARGE_LRU = 23,            /* the LRU number of a touched set is above 7 */
     UNIT486_TEST_WITH_CD_0 = 31,       /* this and the next from test calls only */
-    UNIT486_WRONG_TEST_LINE = 32       /* set above 127, way above 3, or a test write's tag above 2,097,151 */
+    UNIT486_WRONG_TEST_LINE = 32,      /* set above 127, way above 3, or a test write's tag above 2,097,151 */
+    UNIT486_WRONG_CARRIED_WRITES = 33  /* more than four, not in cycle order, or one that 10 would refuse */
 };
 
 /* Bits of an answer. */
@@ -146,6 +169,17 @@ typedef struct unit486_test_line {
     uint8_t bytes[16];
 } unit486_test_line;
 
+/* The external writes that a read carries: the first `count` elements of each array; those from there on are
+   not looked at. Write k lands before cycle cycles[k] and puts the first lengths[k] of bytes[k] into RAM from
+   addresses[k] on. A number is not smaller than the one before it. */
+typedef struct unit486_carried_writes {
+    uint32_t count;
+    uint32_t cycles[4];
+    uint32_t addresses[4];
+    uint32_t lengths[4];
+    uint8_t bytes[4][16];
+} unit486_carried_writes;
+
 static_assert(sizeof(bool) == 1, "a valid mark is one byte");
 static_assert(offsetof(unit486_directory, tags) == 0, "layout of the directory");
 static_assert(offsetof(unit486_directory, valid) == 2048, "layout of the directory");
@@ -166,6 +200,12 @@ static_assert(offsetof(unit486_test_line, valid) == 8, "layout of a test line");
 static_assert(offsetof(unit486_test_line, lru) == 9, "layout of a test line");
 static_assert(offsetof(unit486_test_line, bytes) == 10, "layout of a test line");
 static_assert(sizeof(unit486_test_line) == 28, "layout of a test line");
+static_assert(offsetof(unit486_carried_writes, count) == 0, "layout of carried writes");
+static_assert(offsetof(unit486_carried_writes, cycles) == 4, "layout of carried writes");
+static_assert(offsetof(unit486_carried_writes, addresses) == 20, "layout of carried writes");
+static_assert(offsetof(unit486_carried_writes, lengths) == 36, "layout of carried writes");
+static_assert(offsetof(unit486_carried_writes, bytes) == 52, "layout of carried writes");
+static_assert(sizeof(unit486_carried_writes) == 116, "layout of carried writes");
 
 /* A pointer and its length stand together below. */
 /* clang-format off */
@@ -182,6 +222,15 @@ unit486_result unit486_read_in_place(
     const uint8_t *ram, size_t ram_length, const uint8_t *parity, size_t parity_length,
     uint8_t *data, size_t data_length, uint32_t address, uint32_t width, bool pcd,
     const uint8_t *answers, size_t answers_length, uint32_t *log, size_t log_length);
+
+/* The same read with the external writes that land during it: into RAM and parity, each with its snoop.
+   0 to 7, 33, or 21 to 23. */
+unit486_result unit486_read_carrying_in_place(
+    uint32_t *tags, bool *valid, uint8_t *lru, bool cd, bool nw,
+    uint8_t *ram, size_t ram_length, uint8_t *parity, size_t parity_length,
+    uint8_t *data, size_t data_length, uint32_t address, uint32_t width, bool pcd,
+    const uint8_t *answers, size_t answers_length, uint32_t *log, size_t log_length,
+    unit486_carried_writes carried);
 
 /* A write of 1, 2 or 4 bytes: through to RAM and, on a hit, into the data array; with CD = NW = 1 a hit
    stays in the data array. */
@@ -280,6 +329,17 @@ static inline unit486_result unit486_read(
         directory->tags, directory->valid, directory->lru, directory->cd,
         lent->ram, lent->ram_length, lent->parity, lent->parity_length, lent->data, lent->data_length,
         address, width, pcd, answers, answers_length, log, log_length);
+}
+
+static inline unit486_result unit486_read_carrying(
+    unit486_directory *directory, unit486_buffers *lent, uint32_t address, uint32_t width, bool pcd,
+    const uint8_t *answers, size_t answers_length, uint32_t *log, size_t log_length,
+    const unit486_carried_writes *carried)
+{
+    return unit486_read_carrying_in_place(
+        directory->tags, directory->valid, directory->lru, directory->cd, directory->nw,
+        lent->ram, lent->ram_length, lent->parity, lent->parity_length, lent->data, lent->data_length,
+        address, width, pcd, answers, answers_length, log, log_length, *carried);
 }
 
 static inline unit486_result unit486_write(
@@ -384,6 +444,8 @@ static inline const char *unit486_number_text(uint32_t number)
     case UNIT486_TEST_WITH_CD_0: return "test call with CD = 0";
     case UNIT486_WRONG_TEST_LINE:
         return "test call with a set above 127, a way above 3 or a tag above 2,097,151";
+    case UNIT486_WRONG_CARRIED_WRITES:
+        return "over 4 carried writes, out of cycle order, or one that 10 would refuse";
     default: return "no number of this unit";
     }
 }

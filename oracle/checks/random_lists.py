@@ -1,5 +1,5 @@
-"""Random lists of calls against the plain memory, with test calls and without, and random calls
-that are refused."""
+"""Random lists of calls, carrying reads among them, against the plain memory, with test calls and
+without, and random calls that are refused."""
 
 import random
 from collections import Counter
@@ -10,6 +10,7 @@ from unit486_model import access, memory
 from unit486_model import directory as steps
 from unit486_model.access import Result
 from unit486_model.bus import ANSWERS, KEN, LOG_WORDS, WIDTHS
+from unit486_model.carried import CARRIED_MOST, CarriedWrite
 from unit486_model.directory import LINE_BYTES, SETS, TAG_LIMIT, WAYS, Directory
 from unit486_model.events import NUMBER_LIMIT, Unit
 from unit486_model.plain import Comparison, PlainMemory
@@ -21,6 +22,7 @@ from .unit_calls import (
     check,
     external,
     read,
+    read_carrying,
     snapshot,
     test_read,
     test_write,
@@ -51,9 +53,9 @@ class Disagreement(Mismatch):
 class RandomList:
     """A list of random calls from reset, each compared with the plain memory."""
 
-    # How often a read is drawn for each write, and the share of the rare calls. In some lists
-    # reads prevail, so that sets become full and lines are replaced.
-    shares = ((3, 0.1), (30, 0.02))
+    # How often a read and a carrying read are drawn for each write, and the share of the rare
+    # calls. In some lists reads prevail, so that sets become full and lines are replaced.
+    shares = ((3, 3, 0.1), (30, 3, 0.02))
 
     def __init__(self, seed: int) -> None:
         self.random = random.Random(seed)
@@ -102,8 +104,9 @@ class RandomList:
         return [self.random.getrandbits(32) for _ in range(LOG_WORDS + extra)]
 
     def run(self) -> None:
-        reads, rarity = self.random.choice(self.shares)
-        calls = (*[self.read] * reads, self.write, self.external, self.view)
+        reads, carrying, rarity = self.random.choice(self.shares)
+        accesses = (*[self.read] * reads, *[self.read_carrying] * carrying, self.write)
+        calls = (*accesses, self.external, self.view)
         self.control()
         for _ in range(CALLS):
             self.random.choice(self.rare() if self.random.random() < rarity else calls)()
@@ -135,12 +138,41 @@ class RandomList:
         answers, log = self.answers(), self.log()
         before, lines = list(log), valid_and_tags(self.unit.directory)
         result = read(self.unit, address, width, answers, pcd, log)
-        number, value = self.plain.read(address, width, pcd, answers, len(log))
-        self.compared("read", result.number, number)
-        self.agree("value", result.value, value)
+        expected = self.plain.read(address, width, pcd, answers, len(log))
+        self.read_gives("read", result, expected)
         self.logged(result, log, before)
-        self.met["hit"] += not result.number and not result.cycles
         self.met["replaced"] += replaced(lines, valid_and_tags(self.unit.directory))
+
+    def read_gives(self, call: str, result: Result, expected: tuple[int, int]) -> None:
+        number, value = expected
+        self.compared(call, result.number, number)
+        self.agree("value", result.value, value)
+        self.met["hit"] += not result.number and not result.cycles
+
+    def read_carrying(self) -> None:
+        address, width, pcd = self.address(), self.width(), self.random.random() < 0.1
+        answers, log, carried = self.answers(), self.log(), self.carried(address)
+        before = list(log)
+        result = read_carrying(self.unit, address, width, carried, answers, pcd, log)
+        told = (len(log), carried, result.records)
+        expected = self.plain.read_carrying(address, width, pcd, answers, *told)
+        self.read_gives("carrying read", result, expected)
+        self.logged(result, log, before)
+        between = [write for write in carried if write.cycle < result.cycles]
+        self.met["landed between cycles"] += bool(between)
+        after = len(between) < len(carried) and not result.number
+        self.met["landed after the value"] += after
+
+    def carried(self, address: int) -> list[CarriedWrite]:
+        """Up to four writes, often at equal numbers, in the lines that are read or anywhere."""
+        count = self.random.randint(1, CARRIED_MOST + self.wrong())
+        cycles = [self.random.choice((0, 0, 1, 1, 2, 3, 4, 5, 9, 40)) for _ in range(count)]
+        writes = []
+        for cycle in cycles if self.wrong() else sorted(cycles):
+            near = (address + self.random.randrange(20)) % len(self.unit.ram)
+            place = near if self.random.random() < 0.6 else self.address()
+            writes.append(CarriedWrite(cycle, place, self.external_bytes(place)))
+        return writes
 
     def write(self) -> None:
         address, width = self.address(), self.width()
@@ -154,11 +186,14 @@ class RandomList:
 
     def external(self) -> None:
         address = self.address()
-        room = LINE_BYTES - address % LINE_BYTES
-        count = self.random.randrange(20) if self.wrong() else self.random.randint(1, room)
-        written = self.random.randbytes(count)
+        written = self.external_bytes(address)
         number = external(self.unit, address, written).number
         self.compared("external", number, self.plain.external_write(address, written))
+
+    def external_bytes(self, address: int) -> bytes:
+        room = LINE_BYTES - address % LINE_BYTES
+        count = self.random.randrange(20) if self.wrong() else self.random.randint(1, room)
+        return self.random.randbytes(count)
 
     def view(self) -> None:
         address = self.address()
@@ -197,7 +232,7 @@ class ListWithTestCalls(RandomList):
     """A list with test calls too, compared in stretches: from an accepted test write to the next
     flush or reset the plain memory is still fed, and what differs from it is counted only."""
 
-    shares = ((2, 0.2), (6, 0.15))
+    shares = ((2, 1, 0.2), (6, 2, 0.15))
 
     def rare(self) -> Calls:
         test_calls = (*[self.test_write] * 3, self.test_read)
@@ -319,6 +354,9 @@ def random_lists() -> None:
         check(f"{kind} met", met[kind] > 50, True)
     for kind in ("control refused", "hit", "replaced", "view of a held line"):
         check(f"{kind} met", met[kind] > 50, True)
+    for kind in ("carrying read", "landed between cycles", "landed after the value"):
+        check(f"{kind} met", met[kind] > 1000, True)
+    check("carrying read refused", met["carrying read refused"] > 50, True)
 
 
 def ill_formed_directory(source: random.Random) -> Directory:
@@ -352,7 +390,7 @@ def refused_calls() -> None:
         if number:
             check(f"untouched after {number}", snapshot(unit), before)
             check("log untouched", log, log_before)
-    expected = {0, 1, 2, 3, 4, 5, 6, 7, 8, 9, 10, 21, 22, 23, 31, 32}
+    expected = {0, 1, 2, 3, 4, 5, 6, 7, 8, 9, 10, 21, 22, 23, 31, 32, 33}
     check("numbers met", set(met), expected)
 
 
@@ -360,9 +398,14 @@ def _any_call(source: random.Random, unit: Unit, log: list[int]) -> int:
     address = source.choice((0, 1, 13, 14, 15, 16, 2046, 2050, 99999))
     width = source.choice((1, 2, 4, 4, 4, 3))
     answers = [source.randrange(8) for _ in range(ANSWERS)] + [0] * (source.random() < 0.1)
-    call = source.randrange(9)
+    call = source.randrange(11)
     if call < 2:
         return read(unit, address, width, answers, False, log).number
+    if call > 8:
+        cycles = [source.choice((0, 0, 1, 4)) for _ in range(source.randrange(1, 4))]
+        place = source.choice((0, 9, 16, 2050))
+        carried = [CarriedWrite(cycle, place, bytes(source.choice((1, 7)))) for cycle in cycles]
+        return read_carrying(unit, address, width, carried, answers, False, log).number
     if call == 2:
         value = source.choice((1, 255, 256, 4294967295))
         return write(unit, address, width, value, answers, log).number

@@ -20,12 +20,14 @@ RANDOM = (
     "long.txt",
     "refused.txt",
     "planted.txt",
+    "carrying.txt",
 )
 RANDOM_CALLS = 5000
 
 # The numbers of each call, by what it receives.
 NUMBERS = {
     "R": (0, 1, 2, 3, 4, 5, 6, 7, 21, 22, 23),
+    "Q": (0, 1, 2, 3, 4, 5, 6, 7, 21, 22, 23, 33),
     "W": (0, 1, 2, 3, 4, 5, 6, 7, 8, 21, 22, 23),
     "X": (0, 1, 2, 10, 21, 22, 23),
     "S": (0, 21, 22, 23),
@@ -50,6 +52,17 @@ CONDITIONS = (
     "reads of bytes RAM never held",
     "21 after a tag planted twice",
 )
+# What carrying reads meet, in a script of their own.
+CARRIED_CONDITIONS = (
+    "carrying hits",
+    "carrying fills kept",
+    "carried at a kept fill's first cycle",
+    "fills dropped by carried writes",
+    "lines that carried writes end",
+    "carried into a plain read",
+    "carried past the last cycle",
+    "carrying, wrong parity",
+)
 # Above every number of the papers that a call answers.
 NUMBER_ROOM = 64
 LENGTHS = (15, 16, 17, 24, 32, 2064, 65_536)
@@ -72,6 +85,9 @@ def replays() -> None:
         check(f"numbers of {letter}", met, set(numbers))
     for condition in CONDITIONS:
         check(f"{condition} met", at_random[condition] > 20, True)
+    for condition in CARRIED_CONDITIONS:
+        check(f"{condition} met at random", at_random[condition] > 0, True)
+        check(f"{condition} met", total[condition] > 5, True)
     _marks([line for script in scripts.values() for line in script.lines])
     lengths = {int(line.split()[1]) for s in scripts.values() for line in s.lines if line[0] == "N"}
     check("RAM lengths", lengths >= set(LENGTHS), True)
@@ -81,7 +97,8 @@ def _marks(lines: list[str]) -> None:
     """Every mark of the scripts is 0 or 1, and a line with another one would be found."""
     check("other marks", [line for line in lines if not marks_are_0_or_1(line)], [])
     sixteen = " 7" * 16
-    for line in ("K 5 2", "M 2 0", "M 0 2", "C 2 0", "C 0 2", "R 0 4 2 1", "r 0 4 2"):
+    reads = ("R 0 4 2 1", "Q 0 4 2 1 0", "r 0 4 2")
+    for line in ("K 5 2", "M 2 0", "M 0 2", "C 2 0", "C 0 2", *reads):
         check(line, marks_are_0_or_1(line), False)
     for mark in ("0", "1", "2", "01", "256", "4294967295"):
         found = marks_are_0_or_1(f"p 4 1 5 {mark}{sixteen}")

@@ -10,6 +10,7 @@ from unit486_model import access, diagnostics, memory
 from unit486_model import directory as steps
 from unit486_model.access import Part, Result
 from unit486_model.bus import ANSWERS, DOUBLEWORDS, GROUP, KEN, LOG_WORDS
+from unit486_model.carried import CarriedWrite
 from unit486_model.diagnostics import TestLine
 from unit486_model.directory import Directory, line_index
 from unit486_model.events import Unit
@@ -66,6 +67,20 @@ def read(
     log = [0] * LOG_WORDS if log is None else log
     lent = (unit.directory, unit.ram, unit.parity, unit.data)
     return access.read(*lent, address, width, pcd, answers, log)
+
+
+def read_carrying(
+    unit: Unit,
+    address: int,
+    width: int,
+    carried: Sequence[CarriedWrite],
+    answers: Sequence[int] = tuple(ALL_KEN),
+    pcd: bool = False,
+    log: list[int] | None = None,
+) -> Result:
+    log = [0] * LOG_WORDS if log is None else log
+    lent = (unit.directory, unit.ram, unit.parity, unit.data)
+    return access.read_carrying(*lent, address, width, pcd, answers, log, carried)
 
 
 def write(

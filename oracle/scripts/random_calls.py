@@ -4,6 +4,7 @@ from collections.abc import Callable, Sequence
 from dataclasses import dataclass
 
 from unit486_model.bus import ANSWERS, KEN, LOG_WORDS, WIDTHS
+from unit486_model.carried import CARRIED_MOST, CarriedWrite
 from unit486_model.directory import LINE_BYTES, LRU_LIMIT, SETS, TAG_LIMIT, WAY_BYTES, WAYS
 from unit486_model.memory import parity_length
 from unit486_model.refusal import DATA_BYTES
@@ -30,9 +31,9 @@ class Kind:
     wrong: float = 0.0
     # The share of parity bytes that are changed at the start.
     faults: float = 0.0
-    # Whether lines are stored at the start, and whether they may break a set's state.
+    # Whether lines are stored at the start, and the share of sets whose state they may break.
     stored: bool = False
-    ill_formed: bool = False
+    ill_formed: float = 0.0
     # The share of units that have wrong lengths.
     wrong_lengths: float = 0.0
 
@@ -51,7 +52,7 @@ KINDS = (
         "RRRRRWWWWWXXXSSSCFrVV",
         wrong=0.08,
         stored=True,
-        ill_formed=True,
+        ill_formed=0.5,
         wrong_lengths=0.4,
     ),
     Kind(
@@ -61,6 +62,18 @@ KINDS = (
         (4128, 8224),
         "ppppppttttRRRRRRrrrWWwXSVVFFZC",
         wrong=0.04,
+        wrong_lengths=0.2,
+    ),
+    Kind(
+        "carrying",
+        26,
+        4,
+        (32, 64, 2080),
+        "QQQQQQQQr",
+        wrong=0.02,
+        faults=0.08,
+        stored=True,
+        ill_formed=0.25,
         wrong_lengths=0.2,
     ),
 )
@@ -78,6 +91,7 @@ class RandomCalls:
         self.calls: dict[str, Callable[[], object]] = {
             "R": self._read,
             "W": self._write,
+            "Q": self._read_carrying,
             "r": self._board_read,
             "w": self._board_write,
             "X": self._external,
@@ -142,7 +156,7 @@ class RandomCalls:
 
     def _store_lines(self, set_index: int) -> None:
         """Lines that fills did not bring in, and an LRU number; at times a broken state."""
-        broken = self.kind.ill_formed and self.source.chance(0.5)
+        broken = bool(self.kind.ill_formed) and self.source.chance(self.kind.ill_formed)
         tags = self.source.sample((0, 1, 2, 5, 1000, TAG_LIMIT - 1, TAG_LIMIT), WAYS)
         if broken and self.source.chance(0.6):
             choices = (0, 1, 6, 900, TAG_LIMIT, TAG_LIMIT + 1, 2**31, 2**32 - 1)
@@ -221,6 +235,32 @@ class RandomCalls:
         if self._wrong():
             count = self.source.choice((0, room, room + 1, LINE_BYTES, LINE_BYTES + 1, 30))
         self.script.external(address, self.source.bytes_of(count))
+
+    def _read_carrying(self) -> None:
+        """Mostly by doublewords, in cycles of which the numbers of the writes often fall."""
+        address, width, pcd = self._address(), self._width(), self.source.chance(0.08)
+        answers = [self.source.choice((1, 1, 1, 1, 5, 2))] * ANSWERS
+        if self.source.chance(0.2):
+            answers = self._answers() or [0]
+        count = self.source.between(1, CARRIED_MOST)
+        cycles = [self.source.choice((0, 0, 1, 2, 3, 4, 6, 2**32 - 1)) for _ in range(count)]
+        cycles = cycles if self._wrong() else sorted(cycles)
+        carried = [self._carried_write(cycle, address) for cycle in cycles]
+        lengths = [len(write.written) for write in carried]
+        if self._wrong() and count == CARRIED_MOST:
+            count = self.source.choice((CARRIED_MOST + 1, 2**32 - 1))
+        self.script.read_lending(address, width, count, lengths, carried, answers, pcd)
+
+    def _carried_write(self, cycle: int, address: int) -> CarriedWrite:
+        """Mostly in the lines that are read, or in others of their sets."""
+        length = max(len(self.script.unit.ram), LINE_BYTES)
+        near = (address + WAY_BYTES * self.source.below(2) + self.source.below(8)) % length
+        place = near if self.source.chance(0.8) else self._address()
+        room = LINE_BYTES - place % LINE_BYTES
+        count = self.source.between(1, min(room, 2))
+        if self._wrong():
+            count = self.source.choice((0, room + 1, LINE_BYTES + 1))
+        return CarriedWrite(cycle, place, self.source.bytes_of(count))
 
     def _control(self) -> None:
         """Mostly back to the mode that fills."""

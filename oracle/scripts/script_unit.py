@@ -12,6 +12,7 @@ are 0 or 1.
     P index mask                      the parity byte, exclusive-or the mask
     R address width pcd answers       calls; answers are digits, one for each answer
     W address width value answers
+    Q address width pcd answers count then for each write: cycle address length byte ..
     r address width pcd               a read and a write with the board's answers
     w address width value
     X address byte ..
@@ -23,6 +24,9 @@ are 0 or 1.
     p set way tag mark byte ..        a test write with its sixteen bytes
     t set way                         a test read
     B address width                   the board's answers
+
+Q is a read that carries `count` writes. Its line has the first four of them, if there are as many,
+and the first sixteen bytes of each: a larger count or length is 33's, whatever comes after.
 
 A row has the letter and fields with a tab before each. A call's fields are number, value, cycle
 count, three words for each record, and the digests of directory, RAM, parity array, data array
@@ -40,7 +44,8 @@ from unit486_model import access, board, diagnostics, memory
 from unit486_model import directory as steps
 from unit486_model.access import Result
 from unit486_model.bus import RECORD_WORDS
-from unit486_model.directory import Directory
+from unit486_model.carried import CARRIED_MOST, CarriedWrite
+from unit486_model.directory import LINE_BYTES, Directory
 from unit486_model.events import Unit
 
 # The log's words before a call, so that words which the call leaves alone show.
@@ -54,7 +59,7 @@ LOG_ROOM = 128
 FIELD_ROOM = 64
 
 # The fields that are 0 or 1, by their place after the letter.
-ZERO_OR_ONE = {"K": (1,), "M": (0, 1), "R": (2,), "r": (2,), "C": (0, 1), "p": (3,)}
+ZERO_OR_ONE = {"K": (1,), "M": (0, 1), "R": (2,), "Q": (2,), "r": (2,), "C": (0, 1), "p": (3,)}
 
 
 def contents(seed: int, length: int) -> bytearray:
@@ -90,6 +95,21 @@ def marks_are_0_or_1(line: str) -> bool:
     number for either."""
     letter, *fields = line.split(" ")
     return all(fields[place] in ("0", "1") for place in ZERO_OR_ONE.get(letter, ()))
+
+
+def carried_writes(fields: list[int]) -> list[CarriedWrite]:
+    """The writes of a Q line, from their count on. One write more stands for any count above four,
+    one byte more for any length above sixteen."""
+    count, *left = fields
+    writes = []
+    for _ in range(min(count, CARRIED_MOST)):
+        cycle, address, length, *left = left
+        given = min(length, LINE_BYTES)
+        written, left = left[:given], left[given:]
+        more = [0] if length > LINE_BYTES else []
+        writes.append(CarriedWrite(cycle, address, bytes(written + more)))
+    assert not left, fields
+    return writes + writes[:1] if count > CARRIED_MOST else writes
 
 
 @dataclass
@@ -141,6 +161,8 @@ class ScriptUnit:
     def _call(self, letter: str, fields: list[str]) -> Result:
         if letter in "RrWw":
             return self._access(letter, *(int(field) for field in fields[:3]), fields[3:])
+        if letter == "Q":
+            return self._read_carrying(fields)
         numbers = [int(field) for field in fields]
         if letter == "X":
             lent = (self.unit.directory, self.unit.ram, self.unit.parity)
@@ -177,12 +199,23 @@ class ScriptUnit:
         """A read or a write; the third field is PCD or the value."""
         unit = self.unit
         lent = (unit.directory, unit.ram, unit.parity, unit.data, address, width)
-        answers = [int(digit) for digit in "".join(given)]
+        answers = _answers("".join(given))
         if letter in "rw":
             answers = board.answers(address, width)
         if letter in "Rr":
             return access.read(*lent, third == 1, answers, self.log)
         return access.write(*lent, third, answers, self.log)
+
+    def _read_carrying(self, fields: list[str]) -> Result:
+        unit = self.unit
+        address, width, pcd = (int(field) for field in fields[:3])
+        answers, carried = _answers(fields[3]), carried_writes([int(field) for field in fields[4:]])
+        lent = (unit.directory, unit.ram, unit.parity, unit.data, address, width)
+        return access.read_carrying(*lent, pcd == 1, answers, self.log, carried)
+
+
+def _answers(digits: str) -> list[int]:
+    return [int(digit) for digit in digits]
 
 
 def new_script_unit(line: str) -> tuple[ScriptUnit, str]:

@@ -6,14 +6,16 @@ from collections.abc import Sequence
 from unit486_model import directory as steps
 from unit486_model.access import Result
 from unit486_model.bus import FILL, LAST, LOG_WORDS, WRONG
+from unit486_model.carried import CARRIED_MOST, CarriedWrite
 from unit486_model.diagnostics import TestLine
-from unit486_model.directory import Directory, line_index
+from unit486_model.directory import LINE_BYTES, Directory, line_index
 from unit486_model.events import Unit
 from unit486_model.memory import parity_length
 from unit486_model.refusal import DATA_BYTES
 
 from checks.unit_calls import ALL_KEN, valid_and_tags
 
+from .carried_counts import after_carrying
 from .planted_lines import PlantedLines
 from .script_unit import (
     DATA_ROOM,
@@ -122,6 +124,37 @@ class Script:
     ) -> Result:
         return self._call(_fields("R", address, width, int(pcd), _digits(answers)))
 
+    def read_carrying(
+        self,
+        address: int,
+        width: int,
+        carried: Sequence[CarriedWrite],
+        answers: Sequence[int] = ALL_KEN,
+        pcd: bool = False,
+    ) -> Result:
+        lengths = [len(write.written) for write in carried]
+        return self.read_lending(address, width, len(carried), lengths, carried, answers, pcd)
+
+    def read_lending(
+        self,
+        address: int,
+        width: int,
+        count: int,
+        lengths: Sequence[int],
+        carried: Sequence[CarriedWrite],
+        answers: Sequence[int] = ALL_KEN,
+        pcd: bool = False,
+    ) -> Result:
+        """A carrying read whose count of writes and whose lengths may be any numbers."""
+        assert answers, "the line has a field of answers, which cannot be empty"
+        assert len(carried) >= min(count, CARRIED_MOST), "the line has the first four writes"
+        fields = [_fields("Q", address, width, int(pcd), _digits(answers), count)]
+        for length, write in zip(lengths, carried[:CARRIED_MOST]):
+            written = write.written[:LINE_BYTES]
+            assert len(written) == min(length, LINE_BYTES), write
+            fields += [str(field) for field in (write.cycle, write.address, length, *written)]
+        return self._call(" ".join(fields))
+
     def write(
         self, address: int, width: int, value: int, answers: Sequence[int] = ALL_KEN
     ) -> Result:
@@ -184,7 +217,10 @@ class Script:
         self.met += self._planted_lines.after_call(self.unit, line, result)
         self.lines.append(line)
         self.rows.append(row)
-        self._count(line[0], result, before, valid_and_tags(self.directory))
+        after = valid_and_tags(self.directory)
+        self._count(line[0], result, before, after)
+        if line[0] == "Q" and result.number == 0:
+            self.met += after_carrying(line, result, before, after)
         return result
 
     def _count(
@@ -199,10 +235,11 @@ class Script:
         met[f"{COUNTED_AS.get(letter, letter)} {result.number}"] += 1
         if result.number == 0 and result.cycles == 0 and letter in "RrWw":
             met["read hits" if letter in "Rr" else "writes inside"] += 1
-        fills = sum(1 for flag in flags if flag & FILL and flag & LAST)
-        kept = sum(old != new for old, new in zip(before, after)) if letter in "Rr" else 0
-        met["fills kept"] += kept
-        met["fills dropped"] += fills - kept
+        if letter in "Rr":
+            fills = sum(1 for flag in flags if flag & FILL and flag & LAST)
+            kept = sum(old != new for old, new in zip(before, after))
+            met["fills kept"] += kept
+            met["fills dropped"] += fills - kept
         met["lines replaced"] += letter != "p" and sum(
             old != new and old[0] and new[0] for old, new in zip(before, after)
         )

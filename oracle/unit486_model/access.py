@@ -11,6 +11,7 @@ from typing import NamedTuple
 from . import bus, memory, refusal
 from . import directory as steps
 from .bus import Cycle, Doubleword, Record
+from .carried import CarriedWrite, Reading, land
 from .directory import LINE_BYTES, Directory
 from .memory import DOUBLEWORD_BYTES
 
@@ -47,81 +48,99 @@ def read(
     answers: Sequence[int],
     log: list[int],
 ) -> Result:
-    """A CPU read: its doublewords in ascending order, each with its own group of answers."""
+    """A CPU read that carries no writes."""
+    lent = (directory, ram, parity, data)
+    return read_carrying(*lent, address, width, pcd, answers, log, ())
+
+
+def read_carrying(
+    directory: Directory,
+    ram: bytearray,
+    parity: bytearray,
+    data: bytearray,
+    address: int,
+    width: int,
+    pcd: bool,
+    answers: Sequence[int],
+    log: list[int],
+    carried: Sequence[CarriedWrite],
+) -> Result:
+    """A CPU read: its doublewords in ascending order, each with its own group of answers, and the
+    external writes that land in between. These leave no record."""
     number = (
         refusal.ram_number(len(ram))
         or refusal.parity_number(len(ram), len(parity))
         or refusal.data_number(len(data))
         or refusal.argument_number(len(ram), address, width, answers, len(log))
-        or refusal.states_number(directory, steps.sets_of(address, width))
+        or refusal.carried_number(len(ram), carried)
+        or refusal.states_number(directory, _sets_of(address, width, carried))
     )
     if number:
         return Result(number)
+    reading = Reading(directory, ram, parity, data, carried)
     words, records = 0, []
     for index, doubleword in enumerate(bus.doublewords(address, width)):
-        group = bus.groups(answers)[index]
-        word, made = _read_doubleword(directory, ram, parity, data, doubleword, pcd, group)
+        word, made = _read_doubleword(reading, doubleword, pcd, bus.groups(answers)[index])
         words |= word << WORD_BITS * index
         records += made
+    reading.end()
     bus.put_records(log, records)
     value = words >> 8 * (address % DOUBLEWORD_BYTES)
     return Result(0, value, len(records), tuple(records))
 
 
+def _sets_of(address: int, width: int, carried: Sequence[CarriedWrite]) -> list[int]:
+    """Rule (C-12): "State numbers: the read's sets first, then the writes' in list order"."""
+    return steps.sets_of(address, width) + [steps.set_of(write.address) for write in carried]
+
+
 def _read_doubleword(
-    directory: Directory,
-    ram: bytearray,
-    parity: bytearray,
-    data: bytearray,
-    doubleword: Doubleword,
-    pcd: bool,
-    group: Sequence[int],
+    reading: Reading, doubleword: Doubleword, pcd: bool, group: Sequence[int]
 ) -> tuple[int, list[Record]]:
     """The wanted bytes of one doubleword in their lanes, and the records of its cycles."""
+    directory = reading.directory
+    # C-12: "A doubleword is looked up before a write lands ahead of its first cycle."
     way = steps.lookup(directory, doubleword.address)
     if way is not None:
         # "Read hit: from the data array, no cycle, whatever CD and PCD are."
         steps.use(directory, steps.set_of(doubleword.address), way)
         offset = _byte_offset(doubleword.address, way)
-        return memory.read_lanes(data, offset, doubleword.wanted), []
+        return memory.read_lanes(reading.data, offset, doubleword.wanted), []
     # "Read miss: a fill when CD = 0, PCD = 0 and the first cycle has KEN#."
     if not directory.cd and not pcd and group[0] & bus.KEN:
-        return _fill(directory, ram, parity, data, doubleword, group)
+        return _fill(reading, doubleword, group)
     # "Otherwise the wanted bytes only."
-    records = _read_cycles(ram, parity, bus.plain_cycles(doubleword, group), 0)
+    records = _read_cycles(reading, bus.plain_cycles(doubleword, group), 0)
     return sum(record.word for record in records), records
 
 
 def _fill(
-    directory: Directory,
-    ram: bytearray,
-    parity: bytearray,
-    data: bytearray,
-    doubleword: Doubleword,
-    group: Sequence[int],
+    reading: Reading, doubleword: Doubleword, group: Sequence[int]
 ) -> tuple[int, list[Record]]:
     """A fill. "It is kept only if the last cycle also has KEN#; others in between don't
     matter. ... A dropped one changes neither directory nor data array"."""
+    first = reading.cycle
     cycles = bus.fill_cycles(doubleword, group)
-    records = _read_cycles(ram, parity, cycles, bus.FILL)
+    records = _read_cycles(reading, cycles, bus.FILL)
     line = _filled_line(records)
-    if cycles[-1].answer & bus.KEN:
-        way = steps.fill(directory, doubleword.address)
+    if cycles[-1].answer & bus.KEN and not reading.spoiled(first, doubleword.address):
+        # C-12: "The victim is chosen after a fill's last cycle."
+        way = steps.fill(reading.directory, doubleword.address)
         start = steps.data_offset(steps.set_of(doubleword.address), way)
-        data[start : start + LINE_BYTES] = line
+        reading.data[start : start + LINE_BYTES] = line
     # The read takes what came in, also where the fill is dropped.
     return memory.read_lanes(line, doubleword.address % LINE_BYTES, doubleword.wanted), records
 
 
-def _read_cycles(
-    ram: bytearray, parity: bytearray, cycles: list[Cycle], kind: int
-) -> list[Record]:
-    """Read cycles one after the other. "Parity never alters data"."""
+def _read_cycles(reading: Reading, cycles: list[Cycle], kind: int) -> list[Record]:
+    """Read cycles one after the other, each of RAM and parity as they are then. "Parity never
+    alters data"."""
     records = []
     for index, cycle in enumerate(cycles):
-        wrong = memory.lanes_wrong(ram, parity, cycle.address, cycle.lanes)
+        reading.begin_cycle()
+        wrong = memory.lanes_wrong(reading.ram, reading.parity, cycle.address, cycle.lanes)
         flags = bus.flags(cycles, index, kind) + (bus.WRONG if wrong else 0)
-        word = memory.read_lanes(ram, cycle.address, cycle.lanes)
+        word = memory.read_lanes(reading.ram, cycle.address, cycle.lanes)
         records.append(Record(cycle.address, flags, word))
     return records
 
@@ -207,8 +226,7 @@ def _copy_lanes(data: bytearray, offset: int, lanes: int, word: int) -> None:
 def external_write(
     directory: Directory, ram: bytearray, parity: bytearray, address: int, written: bytes
 ) -> Result:
-    """Rule: "An external write puts 1 to 16 bytes of one line into RAM, sets their parity, then
-    snoops. It leaves no record"."""
+    """An external write that is a call of its own. "It leaves no record"."""
     number = (
         refusal.ram_number(len(ram))
         or refusal.parity_number(len(ram), len(parity))
@@ -217,8 +235,7 @@ def external_write(
     )
     if number:
         return Result(number)
-    memory.store_bytes(ram, parity, address, written)
-    steps.invalidate(directory, address)
+    land(directory, ram, parity, address, written)
     return Result(0)
 
 

@@ -7,6 +7,7 @@ receives with `or`, which keeps "Lowest number first, this list before the next"
 from collections.abc import Sequence
 
 from .bus import ANSWER_LIMIT, ANSWERS, LOG_WORDS, WIDTHS
+from .carried import CARRIED_MOST, CarriedWrite
 from .directory import LINE_BYTES, LINES, SETS, TAG_LIMIT, WAYS, Directory, state_number
 from .memory import RAM_LEAST, RAM_MOST, RAM_STEP, parity_length
 
@@ -67,6 +68,16 @@ def external_number(ram: int, address: int, count: int) -> int:
     if address % LINE_BYTES + count > LINE_BYTES:
         return 10
     return 10 if address + count > ram else 0
+
+
+def carried_number(ram: int, carried: Sequence[CarriedWrite]) -> int:
+    """Rule (C-12): "33 where there are more than four writes, they aren't in cycle order or one
+    would be refused by 10, after 10". Equal numbers are in cycle order."""
+    cycles = [write.cycle for write in carried]
+    if len(carried) > CARRIED_MOST or cycles != sorted(cycles):
+        return 33
+    refused = (external_number(ram, write.address, len(write.written)) for write in carried)
+    return 33 if any(refused) else 0
 
 
 def cd_number(cd: bool) -> int:
