@@ -57,7 +57,7 @@ finished p d m array log log₀ value v cycles es el en ev =
     ∙ ap (λ (l : List ℕ). after (outcome (p .state .directory) 0 v (length (p .records))) (p .state .memory) (p .state .array) l) el
 
 -- what the loops leave is what an accepted call leaves
-whole : {rest p : Progress} {cycles : ℕ} {log log₀ : List ℕ} → AccessInvariant rest p log₀ cycles log → (d : Directory) (m : Memory) (array : List ℕ) → rest ≡ progress (state d m array) [] [] →
+pub whole : {rest p : Progress} {cycles : ℕ} {log log₀ : List ℕ} → AccessInvariant rest p log₀ cycles log → (d : Directory) (m : Memory) (array : List ℕ) → rest ≡ progress (state d m array) [] [] →
     (value v : ℕ) → value ≡ v → after (outcome d 0 value cycles) m array log ≡ accepted v p log₀
 whole {p = p} {cycles = cycles} {log = log} {log₀ = log₀} g d m array e value v ev =
     let r = access-invariant-end g (state d m array) e in
@@ -75,7 +75,7 @@ module _ (d : Directory) (m : Memory) (array : List ℕ) (address width : ℕ) (
   argument = argumentNumber (length (m .ram)) address width answers (length log)
 
   -- what the loops start with, whatever number is asked for later
-  needs-begin : (later : ℕ) → orElse lent (orElse argument later) ≡ 0 →
+  pub needs-begin : (later : ℕ) → orElse lent (orElse argument later) ≡ 0 →
       AccessNeeds (accessBegin address width) (length (m .ram)) (length (m .parity)) (length array) (length answers) (length log)
   needs-begin later z =
       let p = or-zero lent (orElse argument later) z in
