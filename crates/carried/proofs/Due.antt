@@ -84,3 +84,11 @@ in-line-append line (w ∷ a) b =
     by-test (λ t. (t || inLine line (a ++ b)) ≡ ((t || inLine line a) || inLine line b)) (eqb (w .address / 16 * 16) line)
     (λ _. refl)
     (λ _. in-line-append line a b)
+
+-- of those left after a cycle none is due before it
+pub due-early : (n k : ℕ) (ws : List Carried) → n ≤ k → due n (later k ws) ≡ []
+due-early n k ws h = left-nil (due n (later k ws)) _ (due-then n k h (later k ws) ∙ due-none k ws)
+  where
+    left-nil : (a b : List Carried) → a ++ b ≡ [] → a ≡ []
+    left-nil [] b e = refl
+    left-nil (w ∷ a) b e = cc

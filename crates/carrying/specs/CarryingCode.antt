@@ -12,7 +12,7 @@ use Rattle.words.specs.Bytes.{bytesAt, valueOf}
 use Rattle.memory.specs.Parity.{Memory}
 use Rattle.carried.specs.declared.CarriedWrites.{CarriedWrites}
 use Rattle.carried.specs.Carried.{Carried, due, later, landed, memoryAt, inLine}
-use Rattle.carried.specs.CarriedCode.{writesFrom, leftFrom}
+use Rattle.carried.specs.CarriedCode.{writesFrom, leftFrom, CarriedNeeds}
 use Rattle.bus.specs.Bus.{run, Cycle, bufferAfter}
 use Rattle.bus.specs.Groups.{groupSize}
 use Rattle.bus.specs.Record.{Record, readRecord, logged}
@@ -84,6 +84,23 @@ pub record RunNeeds (line from count first used ram parity answers log : ℕ) : 
 
 -- ONE DOUBLEWORD
 
+-- Before its first cycle nothing is brought.
+abbrev pub noneBrought : ℕ → Brought
+noneBrought landed = record { used = 0; landed = landed; buffer = replicate 16 0; spoiled = false }
+
+-- What the cycles of a miss need.
+pub record MissNeeds (carried : CarriedWrites) (line first from ram parity answers log : ℕ) : Type 0 where
+  pub aligned : line % 16 ≡ 0
+  pub inside : line + 16 ≤ ram
+  pub small : ram ≤ 16777216
+  pub bits : ram ≤ 4 * parity
+  pub served : answers ≡ groupSize
+  pub records : 3 * (first + groupSize) ≤ log
+  pub few : first ≤ 32
+  pub writes : CarriedNeeds carried ram parity
+  pub within : from ≤ carried .count
+  pub due : due first (leftFrom carried from) ≡ []
+
 -- What the lookup and the cycles of a doubleword brought, by what the lookup found.
 pub record Begun : Type 0 where
   pub kept : Bool
@@ -106,6 +123,20 @@ begunBy Nothing mayFill m ws first array w =
       buffer = missed .buffer;
       bytes = bytesAt (missed .buffer) (w .wanted .from) (w .wanted .count);
       records = missed .records;
+    }
+
+-- What the code hands back, from what was found and brought.
+abbrev pub carriedRead : ℕ → Found → Brought → Bool → ℕ → ℕ → CarriedRead
+carriedRead line f b kept count value =
+    record {
+      line = line;
+      found = f;
+      kept = kept;
+      buffer = b .buffer;
+      count = count;
+      value = value;
+      cycles = b .used;
+      landed = b .landed;
     }
 
 -- What the code hands back and leaves for that.

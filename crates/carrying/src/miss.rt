@@ -1,11 +1,25 @@
-// The cycles of a miss.
+// The cycles of a miss, with the writes that land before each.
+ghost use mathlib.Core.Path.{_≡_};
+ghost use mathlib.Core.Bool.{false};
+ghost use mathlib.Core.List.{[], _∷_};
+ghost use Prim.Native.Nat.{_+_, _*_, _%_, _≤_, _<_};
+ghost use lib.ListN.{length, replicate};
+ghost use Rattle.memory.specs.Parity.{lentMemory};
+ghost use Rattle.carried.specs.Carried.{due};
+ghost use Rattle.carried.specs.CarriedCode.{CarriedNeeds, leftFrom};
+ghost use Rattle.bus.specs.Bus.{burst, cyclesOf, run};
+ghost use Rattle.bus.specs.Groups.{groupSize};
+ghost use Rattle.bus.specs.Record.{fillKind, plainKind};
+ghost use Rattle.carrying.specs.CarryingCode.{CyclesBrought, MissNeeds, noneBrought};
 use crate::cycle::Brought;
 use crate::run::run_cycles;
 use carried::CarriedWrites;
 use cycles::burst_order;
 
-// Nothing brought yet.
-fn none_brought(landed: usize) -> Brought {
+// Before the first cycle of a doubleword: nothing is brought.
+fn none_brought(landed: usize) -> Brought
+    ensures { λ r. ⌜ r ≡ noneBrought landed ⌝ }
+{
     Brought {
         used: 0,
         landed,
@@ -14,7 +28,7 @@ fn none_brought(landed: usize) -> Brought {
     }
 }
 
-// The wanted bytes only.
+// The wanted bytes only: so many of a doubleword, from an offset of a line on.
 pub fn plain_miss(
     ram: &mut [u8],
     parity: &mut [u8],
@@ -26,7 +40,11 @@ pub fn plain_miss(
     count: usize,
     first: usize,
     landed: usize,
-) -> Brought {
+) -> Brought
+    requires { ⌜ MissNeeds carried line first landed (length (now ram)) (length (now parity)) (length (now answers)) (length (now log)) × (0 < count) × (from % 4 + count ≤ 4) × (from < 16) ⌝ }
+    ensures { λ r. ⌜ CyclesBrought plainKind line first carried landed (lentMemory (ram .entry) (parity .entry)) (cyclesOf (now (answers .entry)) (run from count ∷ [])) (noneBrought landed) r (lentMemory (ram .exit) (parity .exit)) (now (log .entry)) (now (log .exit)) × (r .used ≤ groupSize) ⌝ }
+{
+    let start = none_brought(landed);
     run_cycles(
         ram,
         parity,
@@ -39,11 +57,11 @@ pub fn plain_miss(
         0,
         true,
         first,
-        none_brought(landed),
+        start,
     )
 }
 
-// All four doublewords of the line, in burst order.
+// A fill: all four doublewords of the line, in burst order.
 pub fn fill_miss(
     ram: &mut [u8],
     parity: &mut [u8],
@@ -54,12 +72,14 @@ pub fn fill_miss(
     start: usize,
     first: usize,
     landed: usize,
-) -> Brought {
+) -> Brought
+    requires { ⌜ MissNeeds carried line first landed (length (now ram)) (length (now parity)) (length (now answers)) (length (now log)) × (start < 4) ⌝ }
+    ensures { λ r. ⌜ CyclesBrought fillKind line first carried landed (lentMemory (ram .entry) (parity .entry)) (cyclesOf (now (answers .entry)) (burst start)) (noneBrought landed) r (lentMemory (ram .exit) (parity .exit)) (now (log .entry)) (now (log .exit)) × (0 < r .used) × (r .used ≤ groupSize) ⌝ }
+{
     let order = burst_order(start);
     let mut now = none_brought(landed);
     let mut turn: usize = 0;
     while turn < 4 {
-        let from = order[turn];
         now = run_cycles(
             ram,
             parity,
@@ -67,7 +87,7 @@ pub fn fill_miss(
             log,
             carried,
             line,
-            from,
+            order[turn],
             4,
             32,
             turn == 3,

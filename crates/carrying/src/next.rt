@@ -1,17 +1,21 @@
 // The next doubleword of a read that carries writes.
 ghost use mathlib.Core.Path.{_≡_};
 ghost use mathlib.Core.List.{[]};
-ghost use Prim.Native.Nat.{_≤_, _<_};
+ghost use mathlib.Core.Bool.{false};
+ghost use Prim.Native.Nat.{_+_, _*_, _/_, _%_, _^_, _≤_, _<_};
 ghost use lib.ListN.{length};
-ghost use Rattle.ways.specs.Address.{dataSize, setOf};
+ghost use Rattle.ways.specs.Address.{dataOffset, dataSize, setOf};
+ghost use Rattle.ways.specs.declared.ways.Found.the-variants.{At, Nothing};
 ghost use Rattle.ways.specs.Ways.{lookupIn, victimIn};
+ghost use Rattle.words.specs.Bytes.{bytesAt, valueOf};
 ghost use Rattle.memory.specs.Parity.{lentMemory};
 ghost use Rattle.carried.specs.Carried.{due};
 ghost use Rattle.carried.specs.CarriedCode.{CarriedNeeds, leftFrom};
 ghost use Rattle.doubleword.specs.DoublewordCode.{BelowFour};
 ghost use Rattle.doubleword.specs.Cursor.{AccessNeeds, lineAddress, nextDoubleword};
 ghost use Rattle.reading.specs.Reading.{keptArray};
-ghost use Rattle.carrying.specs.CarryingCode.{CarriedNext, FoundBelow, begunBy, settledChange};
+ghost use Rattle.carrying.specs.CarryingCode.{CarriedNext, FoundBelow, begunBy, carriedRead, noneBrought, settledChange, useOf};
+use crate::cycle::Brought;
 use crate::miss::fill_miss;
 use crate::miss::plain_miss;
 use carried::CarriedWrites;
@@ -38,6 +42,53 @@ pub struct CarriedRead {
     pub landed: usize,
 }
 
+// The number of some bytes of a doubleword, which is below what so many bytes can say.
+fn number_at(src: &[u8], at: usize, count: usize) -> u32
+    requires { ⌜ (0 < count) × (at % 4 + count ≤ 4) × (at / 4 * 4 + 4 ≤ length (now src)) ⌝ }
+    ensures { λ r. ⌜ (r ≡ valueOf (bytesAt (now (src .entry)) at count)) × (r < 256 ^ count) ⌝ }
+{
+    value_at(&src[..], at, count)
+}
+
+// A hit: the bytes of the data array.
+fn hit_read(data: &[u8], w: Wanted, way: usize, landed: usize) -> CarriedRead
+    requires { ⌜ (way < 4) × (length (now «data») ≡ dataSize) × (0 < w .count) × (w .from % 4 + w .count ≤ 4) × (w .from < 16) ⌝ }
+    ensures { λ r. ⌜ (r .value ≡ valueOf (bytesAt (now («data» .entry)) (dataOffset (w .line) way + w .from) (w .count))) × (r .value < 256 ^ w .count)
+        × (r ≡ carriedRead (w .line) (At way) (noneBrought landed) false (w .count) (r .value)) ⌝ }
+{
+    let value = number_at(data, data_offset(w.line, way) + w.from, w.count);
+    CarriedRead {
+        line: w.line,
+        found: Found::At(way),
+        kept: false,
+        buffer: [0; 16],
+        count: w.count,
+        value,
+        cycles: 0,
+        landed,
+    }
+}
+
+// What the cycles of a miss brought.
+fn miss_read(w: Wanted, brought: Brought, kept: bool) -> CarriedRead
+    requires { ⌜ (0 < w .count) × (w .from % 4 + w .count ≤ 4) × (w .from < 16) ⌝ }
+    ensures { λ r. ⌜ (r .value ≡ valueOf (bytesAt (brought .buffer) (w .from) (w .count))) × (r .value < 256 ^ w .count)
+        × (r ≡ carriedRead (w .line) Nothing brought kept (w .count) (r .value)) ⌝ }
+{
+    let buffer = brought.buffer;
+    let value = number_at(&buffer[..], w.from, w.count);
+    CarriedRead {
+        line: w.line,
+        found: Found::Nothing,
+        kept,
+        buffer,
+        count: w.count,
+        value,
+        cycles: brought.used,
+        landed: brought.landed,
+    }
+}
+
 // The doubleword at a cursor up to its last cycle, by lent fields of the directory. may_fill: CD = 0 and PCD = 0; landed: how many of
 // the writes have landed.
 pub fn carried_next<'a>(
@@ -61,14 +112,40 @@ pub fn carried_next<'a>(
 {
     let w = cursor.wanted();
     let group = cursor.group_of(answers);
+    let line = w.line;
     let first = cursor.cycles;
-    if let Found::At(way) = ways::lookup(tags, valid, w.line) {
+    if let Found::At(way) = ways::lookup(tags, valid, line) {
         return hit_read(data, w, way, landed);
     }
-    if may_fill & (group[0] % 2 == 1) {
-        return fill_read(ram, parity, group, log, w, carried, first, landed);
+    if !(may_fill & (group[0] % 2 == 1)) {
+        let plain = plain_miss(
+            ram,
+            parity,
+            group,
+            log,
+            carried,
+            line,
+            w.from,
+            w.count,
+            first,
+            landed,
+        );
+        return miss_read(w, plain, false);
     }
-    plain_read(ram, parity, group, log, w, carried, first, landed)
+    let start = w.from / 4;
+    let fill = fill_miss(ram, parity, group, log, carried, line, start, first, landed);
+    let last = group[fill.used - 1];
+    miss_read(w, fill, !fill.spoiled & (last % 2 == 1))
+}
+
+// A use of the way that was found.
+fn use_of(found: Found) -> Change
+    ensures { λ r. ⌜ r ≡ useOf found ⌝ }
+{
+    match found {
+        Found::At(way) => Change::Use(way),
+        Found::Nothing => Change::Unchanged,
+    }
 }
 
 // The end of a doubleword, by the directory after the snoops of what landed: a kept line goes into the data array, in the victim's
@@ -91,8 +168,5 @@ pub fn settle<'a>(
         return Change::Fill(way);
     }
     let found = read.found;
-    match found {
-        Found::At(way) => Change::Use(way),
-        Found::Nothing => Change::Unchanged,
-    }
+    use_of(found)
 }

@@ -14,7 +14,7 @@ use parts::whole_cycles;
 use words::word_at;
 
 // The burst order: the offsets of the doublewords of a line, by the one that it starts with.
-fn burst_order(start: usize) -> [usize; 4]
+pub fn burst_order(start: usize) -> [usize; 4]
     requires { ⌜ start < 4 ⌝ }
     ensures { λ r. ⌜ r ≡ offsets (burst start) ⌝ }
 {

@@ -49,7 +49,7 @@ filled-bytes m w j n l h =
     rw e at (fill-buffer (m .ram) (w .line) (w .wanted .from / 4) (w .answers) l (j + o) (omega arith)))
 
 -- the number of so many bytes is below what that many can say
-bytes-below : (l : List ℕ) → ((i : ℕ) → getD l i 0 < 256) → (i n : ℕ) → valueOf (bytesAt l i n) < 256 ^ n
+pub bytes-below : (l : List ℕ) → ((i : ℕ) → getD l i 0 < 256) → (i n : ℕ) → valueOf (bytesAt l i n) < 256 ^ n
 bytes-below l h i n = rw (bytes-length l i n) at (value-below (bytesAt l i n) (bytes-small l h i n))
 
 -- the wanted bytes of a doubleword lie in one
