@@ -162,9 +162,8 @@ module _ (ram₀ parity₀ xs log₀ : List ℕ) (carried : CarriedWrites) (line
     unfolding recordsOf bufferOf wordsOf
     fill-end {ram} {parity} {log} {now} {turn} g n =
         let e : turn ≡ 4 = omega (arith, g .turns) in
-        let d : cyclesOf (drop (now .used) xs) (drop turn (burst start)) ≡ [] = ap (cyclesOf (drop (now .used) xs)) (burst-done start turn sl e) ∙ cycles-none (drop (now .used) xs) in
-        (
-        g .rest now (memory ram parity) log (rw d (record { made = omega arith; logs = refl; buffers = refl; lands = g .lands; spoils = λ h. h })),
-        omega (arith, g .some),
-        omega (arith, g .most, g .turns),
+        let d : cyclesOf (drop (now .used) xs) (drop turn (burst start)) ≡ [] = ap (cyclesOf (drop (now .used) xs)) (burst-done start turn sl e) ∙ cycles-none (drop (now .used) xs) in (
+          g .rest now (memory ram parity) log (rw d (record { made = omega arith; logs = refl; buffers = refl; lands = g .lands; spoils = λ h. h })),
+          omega (arith, g .some),
+          omega (arith, g .most, g .turns),
         )

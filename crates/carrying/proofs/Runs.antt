@@ -105,16 +105,15 @@ module _ (ram₀ parity₀ xs log₀ : List ℕ) (carried : CarriedWrites) (line
                 ((place : ℕ) (m₀ : Memory) → LandedTo carried place m₀ (first + at .used) (memory ram₀ parity₀) (at .landed) → Completes place m₀ (cyclesFrom (at .used) from count) at r (memory ram′ parity′) log₀ log′)
                 × (at .used ≤ r .used) × (r .used ≤ at .used + count) × (r .landed ≤ carried .count)
             run-ends t =
-                let e = eqb-true size left t in
-                (
-                λ place m₀ d.
-                let q = g .completes place m₀ d in
-                let cs : cyclesFrom (now .used) next left ≡ record { moved = run next size; answer = getD xs (b .used) 0; last = last } ∷ [] =
-                ap (λ (ys : List ℕ). runCycles last ys (run next left)) answers-left ∙ step-one last (getD xs (b .used) 0) (drop (r .used) xs) next left (sym es ∙ e) ∙ rw e in
-                q .rest r (memory ram′ parity′) log′ (rw cs (one place m₀ (q .lands) last (rw t))),
-                omega (arith, g .above, used-next .0),
-                omega (arith, g .most, g .some, used-next .1),
-                rw (v .same) (l .within),
+                let e = eqb-true size left t in (
+                  λ place m₀ d.
+                      let q = g .completes place m₀ d in
+                      let cs : cyclesFrom (now .used) next left ≡ record { moved = run next size; answer = getD xs (b .used) 0; last = last } ∷ [] =
+                      ap (λ (ys : List ℕ). runCycles last ys (run next left)) answers-left ∙ step-one last (getD xs (b .used) 0) (drop (r .used) xs) next left (sym es ∙ e) ∙ rw e in
+                      q .rest r (memory ram′ parity′) log′ (rw cs (one place m₀ (q .lands) last (rw t))),
+                  omega (arith, g .above, used-next .0),
+                  omega (arith, g .most, g .some, used-next .1),
+                  rw (v .same) (l .within),
                 )
 
             -- another one
