@@ -5,3 +5,4 @@ pub mod Cycles
 pub mod Moved
 pub mod Runs
 pub mod Misses
+pub mod Doublewords

@@ -80,7 +80,7 @@ pub record RunNeeds (line from count first used ram parity answers log : ℕ) : 
   pub short : from < 16
   pub served : used + count ≤ answers
   pub records : 3 * (first + used + count) ≤ log
-  pub few : first + used ≤ 48
+  pub few : first + used + count ≤ 64
 
 -- ONE DOUBLEWORD
 
@@ -96,7 +96,7 @@ pub record MissNeeds (carried : CarriedWrites) (line first from ram parity answe
   pub bits : ram ≤ 4 * parity
   pub served : answers ≡ groupSize
   pub records : 3 * (first + groupSize) ≤ log
-  pub few : first ≤ 32
+  pub few : first ≤ 48
   pub writes : CarriedNeeds carried ram parity
   pub within : from ≤ carried .count
   pub due : due first (leftFrom carried from) ≡ []
