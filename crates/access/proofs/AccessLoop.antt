@@ -16,7 +16,7 @@ use Rattle.bus.specs.Groups.{groupSize, groupCount}
 use Rattle.doubleword.specs.Doubleword.{Doubleword, Done, doublewordsOf, changed}
 use Rattle.doubleword.specs.Cursor.{countOf, accessNext, nextDoubleword}
 use Rattle.refusal.specs.Call.{State}
-use Rattle.access.specs.Access.{Progress, allOf, next}
+use Rattle.access.specs.Access.{Progress, progress, allOf, next}
 
 -- the next doubleword, and those after it
 pub next-of : (g : ℕ) (xs : List ℕ) (address n place : ℕ) → 0 < n →
@@ -43,7 +43,7 @@ restOf cursor answers =
     doublewordsOf (groupCount - cursor .group) (drop (cursor .group * groupSize) answers) (cursor .address) (cursor .left) (cursor .place)
 
 module _ (cursor : AccessCursor) (xs : List ℕ) (cycles : ℕ) (some : 0 < cursor .left) (more : cursor .group < groupCount) where
-  rest-next : restOf cursor xs ≡ nextDoubleword cursor xs ∷ restOf (accessNext cursor (countOf cursor) cycles) xs
+  pub rest-next : restOf cursor xs ≡ nextDoubleword cursor xs ∷ restOf (accessNext cursor (countOf cursor) cycles) xs
   unfolding restOf
   rest-next =
       let g : groupCount - cursor .group ≡ suc (groupCount - (cursor .group + 1)) = omega arith in
@@ -59,62 +59,55 @@ rest-done cursor xs e =
     ap (λ (n : ℕ). doublewordsOf (groupCount - cursor .group) (drop (cursor .group * groupSize) xs) (cursor .address) n (cursor .place)) e
     ∙ none-of (groupCount - cursor .group) (drop (cursor .group * groupSize) xs) (cursor .address) (cursor .place)
 
--- what the loops keep: the doublewords left give what all give
-module _ (one : State → Doubleword → Done) (xs : List ℕ) where
-  pub record AccessInvariant (p : Progress) (log₀ : List ℕ) (cursor : AccessCursor) (s : State) (log : List ℕ) : Type 0 where
-    pub states : allOf one s (restOf cursor xs) .state ≡ p .state
-    pub logs : logged log (cursor .cycles) (allOf one s (restOf cursor xs) .records) ≡ logged log₀ 0 (p .records)
-    pub made : cursor .cycles + length (allOf one s (restOf cursor xs) .records) ≡ length (p .records)
+-- a doubleword, and what those after it give
+abbrev pub followed : Done → Progress → Progress
+followed done rest = progress (rest .state) (done .bytes ++ rest .bytes) (done .records ++ rest .records)
 
-  pub access-invariant-begin : (cursor : AccessCursor) (s : State) (log₀ : List ℕ) → cursor .cycles ≡ 0 → AccessInvariant (allOf one s (restOf cursor xs)) log₀ cursor s log₀
-  access-invariant-begin cursor s log₀ e =
+-- what the loops keep: what the doublewords left give is what all give
+pub record AccessInvariant (rest p : Progress) (log₀ : List ℕ) (cycles : ℕ) (log : List ℕ) : Type 0 where
+  pub states : rest .state ≡ p .state
+  pub logs : logged log cycles (rest .records) ≡ logged log₀ 0 (p .records)
+  pub made : cycles + length (rest .records) ≡ length (p .records)
+
+pub access-invariant-begin : (p : Progress) (log₀ : List ℕ) → AccessInvariant p p log₀ 0 log₀
+access-invariant-begin p log₀ = record { states = refl; logs = refl; made = omega arith }
+
+module _ {rest p : Progress} {log₀ : List ℕ} {cycles : ℕ} {log : List ℕ} (g : AccessInvariant rest p log₀ cycles log) where
+  pub access-invariant-next : (done : Done) (rest′ : Progress) (log′ : List ℕ) (n : ℕ) → rest ≡ followed done rest′ → log′ ≡ logged log cycles (done .records) → n ≡ length (done .records) →
+      AccessInvariant rest′ p log₀ (cycles + n) log′
+  access-invariant-next done rest′ log′ n e el en =
+      let k : cycles + n ≡ cycles + length (done .records) = omega arith in
+      let m : length (rest .records) ≡ length (done .records) + length (rest′ .records) = ap (λ (q : Progress). length (q .records)) e ∙ length-append (done .records) (rest′ .records) in
       record {
-        states = refl;
-        logs = ap (λ (n : ℕ). logged log₀ n (allOf one s (restOf cursor xs) .records)) e;
-        made = omega arith;
+        states = sym (ap (λ (q : Progress). q .state) e) ∙ g .states;
+        logs =
+            rw el
+            (ap (λ (i : ℕ). logged (logged log cycles (done .records)) i (rest′ .records)) k
+            ∙ sym (logged-append log cycles (done .records) (rest′ .records))
+            ∙ sym (ap (λ (q : Progress). logged log cycles (q .records)) e)
+            ∙ g .logs);
+        made = omega (arith, g .made);
       }
 
-  module _ (cursor : AccessCursor) (s : State) (log : List ℕ) (some : 0 < cursor .left) (more : cursor .group < groupCount) where
-    abbrev w : Doubleword
-    w = nextDoubleword cursor xs
+  pub access-invariant-end : (s : State) → rest ≡ progress s [] [] → (s ≡ p .state) × (log ≡ logged log₀ 0 (p .records)) × (cycles ≡ length (p .records))
+  unfolding wordsOf
+  access-invariant-end s e =
+      (sym (ap (λ (q : Progress). q .state) e) ∙ g .states, sym (ap (λ (q : Progress). logged log cycles (q .records)) e) ∙ g .logs, (let m = ap (λ (q : Progress). length (q .records)) e in omega (arith, g .made)))
 
-    -- all doublewords left are the next one and those after it
-    pub all-next : (cycles : ℕ) → allOf one s (restOf cursor xs)
-        ≡ record {
-          state = allOf one (next s w (one s w)) (restOf (accessNext cursor (countOf cursor) cycles) xs) .state;
-          bytes = one s w .bytes ++ allOf one (next s w (one s w)) (restOf (accessNext cursor (countOf cursor) cycles) xs) .bytes;
-          records = one s w .records ++ allOf one (next s w (one s w)) (restOf (accessNext cursor (countOf cursor) cycles) xs) .records;
-        }
-    unfolding allOf
-    all-next cycles = rw (rest-next cursor xs cycles some more)
+-- all doublewords of a write, or of a read that carries nothing
+module _ (one : State → Doubleword → Done) (xs : List ℕ) (cursor : AccessCursor) (s : State) where
+  abbrev w : Doubleword
+  w = nextDoubleword cursor xs
 
-    pub access-invariant-next : {p : Progress} {log₀ : List ℕ} (s′ : State) (log′ : List ℕ) (n : ℕ) → AccessInvariant p log₀ cursor s log →
-        s′ ≡ next s w (one s w) →
-        log′ ≡ logged log (cursor .cycles) (one s w .records) →
-        n ≡ length (one s w .records) →
-        AccessInvariant p log₀ (accessNext cursor (countOf cursor) n) s′ log′
-    access-invariant-next s′ log′ n g es el en =
-        let a = all-next n in
-        let rest = allOf one (next s w (one s w)) (restOf (accessNext cursor (countOf cursor) n) xs) in
-        let k : cursor .cycles + n ≡ cursor .cycles + length (one s w .records) = omega arith in
-        let m : cursor .cycles + length (allOf one s (restOf cursor xs) .records) ≡ cursor .cycles + (length (one s w .records) + length (rest .records)) = ap (λ (q : Progress). cursor .cycles + length (q .records)) a ∙ ap (λ (i : ℕ). cursor .cycles + i) (length-append (one s w .records) (rest .records)) in
-        record {
-          states = rw es (sym (ap (λ (q : Progress). q .state) a) ∙ g .states);
-          logs =
-              rw (es, el)
-              (ap (λ (i : ℕ). logged (logged log (cursor .cycles) (one s w .records)) i (rest .records)) k
-              ∙ sym (logged-append log (cursor .cycles) (one s w .records) (rest .records))
-              ∙ sym (ap (λ (q : Progress). logged log (cursor .cycles) (q .records)) a)
-              ∙ g .logs);
-          made = rw es (omega (arith, g .made));
-        }
+  -- those left are the next one and those after it
+  pub all-next : 0 < cursor .left → cursor .group < groupCount → (cycles : ℕ) → allOf one s (restOf cursor xs)
+      ≡ followed (one s w) (allOf one (next s w (one s w)) (restOf (accessNext cursor (countOf cursor) cycles) xs))
+  unfolding allOf
+  all-next some more cycles = rw (rest-next cursor xs cycles some more)
 
-  pub access-invariant-end : {p : Progress} {log₀ : List ℕ} (cursor : AccessCursor) (s : State) (log : List ℕ) → cursor .left ≡ 0 → AccessInvariant p log₀ cursor s log →
-      (s ≡ p .state) × (log ≡ logged log₀ 0 (p .records)) × (cursor .cycles ≡ length (p .records))
-  unfolding allOf wordsOf
-  access-invariant-end cursor s log z g =
-      let r = rest-done cursor xs z in
-      (rw r at (g .states), rw r at (g .logs), (let m = rw r at (g .made) in omega arith))
+  pub all-done : cursor .left ≡ 0 → allOf one s (restOf cursor xs) ≡ progress s [] []
+  unfolding allOf
+  all-done z = rw (rest-done cursor xs z)
 
 -- where the change is `Unchanged` the directory stays
 pub keep-changed : (d d′ : Directory) (line : ℕ) (change : Change) → change ≡ Unchanged → d′ ≡ d → d′ ≡ changed d line change

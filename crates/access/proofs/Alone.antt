@@ -11,14 +11,14 @@ use Rattle.ways.specs.declared.ways.Found.the-variants.{At, Nothing}
 use Rattle.directory.specs.Steps.{lookupOf, victimOf}
 use Rattle.words.proofs.Places.{bytes-length}
 use Rattle.memory.specs.Parity.{Memory}
-use Rattle.carried.specs.Carried.{due, later, landed}
+use Rattle.carried.specs.Carried.{Carried, due, later, landed}
 use Rattle.doubleword.specs.Doubleword.{Doubleword, Done}
 use Rattle.reading.specs.Reading.{readHit, settled, readDone}
 use Rattle.reading.specs.ReadingCode.{readAlone}
 use Rattle.reading.proofs.Alone.{done-alone}
 use Rattle.reading.proofs.ReadDoublewords.{read-memory}
 use Rattle.refusal.specs.Call.{State}
-use Rattle.refusal.specs.Refusal.{orElse, lentNumber, argumentNumber, carriedNumber, statesNumberOf, carriedStatesNumber, inOrder, anyRefused}
+use Rattle.refusal.specs.Refusal.{orElse, lentNumber, argumentNumber, carriedNumber, statesNumberOf, carriedStatesNumberIn, inOrder, anyRefused}
 use Rattle.refusal.proofs.Accepted.{zero-or, first-or}
 use Rattle.access.specs.Access.{Progress, next, allOf, underWay, snoopedBy, readOne, readNext, landedAfter, readEach, readNumber}
 
@@ -35,16 +35,16 @@ pub one-alone : (pcd : Bool) (s : State) (n : ℕ) (w : Doubleword) → readOne 
 unfolding readOne oneAlone due snoopedBy
 one-alone pcd s n w = done-alone _ _ _ (s .memory) n (s .array) w ∙ sym (done-alone _ _ _ (s .memory) 0 (s .array) w)
 
--- it gives its wanted bytes
-alone-length : (f : Found) (victim : ℕ) (mayFill : Bool) (m : Memory) (array : List ℕ) (w : Doubleword) →
-    length (readAlone f victim mayFill m array w .bytes) ≡ w .wanted .count
+-- it gives its wanted bytes, whatever the read carries
+pub done-length : (f : Found) (victim : ℕ) (mayFill : Bool) (m : Memory) (ws : List Carried) (first : ℕ) (array : List ℕ) (w : Doubleword) →
+    length (readDone f victim mayFill m ws first array w .bytes) ≡ w .wanted .count
 unfolding readDone readHit settled
-alone-length (At way) victim mayFill m array w = bytes-length _ _ (w .wanted .count)
-alone-length Nothing victim mayFill m array w = bytes-length _ _ (w .wanted .count)
+done-length (At way) victim mayFill m ws first array w = bytes-length _ _ (w .wanted .count)
+done-length Nothing victim mayFill m ws first array w = bytes-length _ _ (w .wanted .count)
 
 pub one-length : (pcd : Bool) (s : State) (w : Doubleword) → length (oneAlone pcd s w .bytes) ≡ w .wanted .count
 unfolding oneAlone
-one-length pcd s w = alone-length _ _ _ _ _ w
+one-length pcd s w = done-length _ _ _ _ _ _ _ w
 
 -- it leaves memory as it was
 pub one-memory : (pcd : Bool) (s : State) (w : Doubleword) → oneAlone pcd s w .memory ≡ s .memory
@@ -64,7 +64,7 @@ pub number-alone : (s : State) (address width : ℕ) (answers log : List ℕ) �
     readNumber s address width answers log []
     ≡ orElse (lentNumber (length (s .memory .ram)) (length (s .memory .parity)) (length (s .array)))
     (orElse (argumentNumber (length (s .memory .ram)) address width answers (length log)) (statesNumberOf (s .directory) address width))
-unfolding readNumber carriedNumber carriedStatesNumber inOrder anyRefused
+unfolding readNumber carriedNumber carriedStatesNumberIn inOrder anyRefused
 number-alone s address width answers log =
     ap (λ (x : ℕ). orElse (lentNumber (length (s .memory .ram)) (length (s .memory .parity)) (length (s .array))) (orElse (argumentNumber (length (s .memory .ram)) address width answers (length log)) x))
     (none-after (statesNumberOf (s .directory) address width))

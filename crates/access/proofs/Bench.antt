@@ -12,12 +12,12 @@ use Rattle.bus.specs.Record.{lanesOf, flagsOf, readRecord, writeRecord, wordsOf
 use Rattle.doubleword.specs.Doubleword.{doublewordsOf, changed}
 use Rattle.reading.specs.Reading.{readHit, bufferOf, recordsOf, plainMiss, spoiled, fillMiss, readMiss, settled, readDone}
 use Rattle.writing.specs.Writing.{writeThrough, hitArray, writeDone}
-use Rattle.refusal.specs.Refusal.{memoryNumber, lentNumber, anyAbove, argumentNumber, valueNumber, inOrder, anyRefused, carriedNumber, statesNumberIn, carriedStatesNumber}
+use Rattle.refusal.specs.Refusal.{memoryNumber, lentNumber, anyAbove, argumentNumber, valueNumber, inOrder, anyRefused, carriedNumber, statesNumberIn, carriedStatesNumberIn}
 use Rattle.access.specs.Access.{writeOne, allOf, snoopedBy, readOne, landedAfter, readEach, readNumber, writeNumber, readAll, writeAll, readCall, writeCall}
 use Rattle.access.specs.Bench.{BenchTable}
 
 pub bench-table : BenchTable
-unfolding due later landed inLine bufferOf recordsOf spoiled carriedNumber inOrder anyRefused carriedStatesNumber snoopedBy landedAfter readEach lruAfter lruWay lowest lookupIn victimIn sameTags tagsAbove firstNumber stateNumberIn afterUse withLine afterFill afterReset afterControl
+unfolding due later landed inLine bufferOf recordsOf spoiled carriedNumber inOrder anyRefused carriedStatesNumberIn snoopedBy landedAfter readEach lruAfter lruWay lowest lookupIn victimIn sameTags tagsAbove firstNumber stateNumberIn afterUse withLine afterFill afterReset afterControl
     bytesAt valueOf bytesOf onesOf dpOf laneBit dpAt withDp put stored wrongAt wrongIn sizeLimit sizeOf wantedAfter cyclesOf burst
     lastAnswer afterCycles lanesOf flagsOf readRecord writeRecord wordsOf doublewordsOf changed readHit plainMiss fillMiss readMiss settled
     readDone writeThrough hitArray writeDone memoryNumber lentNumber anyAbove argumentNumber valueNumber statesNumberIn readOne writeOne

@@ -18,11 +18,11 @@ use Rattle.doubleword.specs.Doubleword.{Doubleword, Done, doublewordsOf}
 use Rattle.refusal.specs.Refusal.{orElse, statesNumberOf, lentNumber, argumentNumber, valueNumber}
 use Rattle.directory.specs.Outcome.{outcome}
 use Rattle.refusal.specs.Call.{State, state, after, refused}
-use Rattle.access.specs.Access.{Progress, allOf, writeOne, accepted, readNumber, writeNumber, readAll, writeAll, operandOf, readCall, writeCall}
+use Rattle.access.specs.Access.{Progress, progress, allOf, writeOne, accepted, readNumber, writeNumber, readAll, writeAll, operandOf, readCall, writeCall}
 use Rattle.doubleword.specs.Cursor.{accessBegin, AccessNeeds}
 use Rattle.refusal.proofs.Accepted.{or-zero, lent-accepted, arguments-accepted}
 use Rattle.access.proofs.Alone.{oneAlone, each-alone, number-alone}
-use Rattle.access.proofs.AccessLoop.{restOf, AccessInvariant, access-invariant-begin, access-invariant-end}
+use Rattle.access.proofs.AccessLoop.{restOf, AccessInvariant, access-invariant-begin, access-invariant-end, all-done}
 use Rattle.access.proofs.WriteLoop.{WriteKept}
 use Rattle.access.proofs.ReadLoop.{ReadKept, ReadInvariant, reading-begin, reading-end}
 
@@ -57,12 +57,11 @@ finished p d m array log log₀ value v cycles es el en ev =
     ∙ ap (λ (l : List ℕ). after (outcome (p .state .directory) 0 v (length (p .records))) (p .state .memory) (p .state .array) l) el
 
 -- what the loops leave is what an accepted call leaves
-whole : (one : State → Doubleword → Done) (xs : List ℕ) (p : Progress) (cursor : AccessCursor) (d : Directory) (m : Memory) (array log log₀ : List ℕ) (value v : ℕ) →
-    cursor .left ≡ 0 → AccessInvariant one xs p log₀ cursor (state d m array) log → value ≡ v →
-    after (outcome d 0 value (cursor .cycles)) m array log ≡ accepted v p log₀
-whole one xs p cursor d m array log log₀ value v z g ev =
-    let e = access-invariant-end one xs cursor (state d m array) log z g in
-    finished p d m array log log₀ value v (cursor .cycles) (e .0) (e .1) (e .2) ev
+pub whole : {rest p : Progress} {cycles : ℕ} {log log₀ : List ℕ} → AccessInvariant rest p log₀ cycles log → (d : Directory) (m : Memory) (array : List ℕ) → rest ≡ progress (state d m array) [] [] →
+    (value v : ℕ) → value ≡ v → after (outcome d 0 value cycles) m array log ≡ accepted v p log₀
+whole {p = p} {cycles = cycles} {log = log} {log₀ = log₀} g d m array e value v ev =
+    let r = access-invariant-end g (state d m array) e in
+    finished p d m array log log₀ value v cycles (r .0) (r .1) (r .2) ev
 
 -- reads and writes by the number that the code has asked for
 module _ (d : Directory) (m : Memory) (array : List ℕ) (address width : ℕ) (answers log : List ℕ) where
@@ -76,7 +75,7 @@ module _ (d : Directory) (m : Memory) (array : List ℕ) (address width : ℕ) (
   argument = argumentNumber (length (m .ram)) address width answers (length log)
 
   -- what the loops start with, whatever number is asked for later
-  needs-begin : (later : ℕ) → orElse lent (orElse argument later) ≡ 0 →
+  pub needs-begin : (later : ℕ) → orElse lent (orElse argument later) ≡ 0 →
       AccessNeeds (accessBegin address width) (length (m .ram)) (length (m .parity)) (length array) (length answers) (length log)
   needs-begin later z =
       let p = or-zero lent (orElse argument later) z in
@@ -103,7 +102,7 @@ module _ (d : Directory) (m : Memory) (array : List ℕ) (address width : ℕ) (
     pub read-begin : readsNumber ≡ 0 → ReadKept pcd answers (allOf (oneAlone pcd) s (restOf (accessBegin address width) answers)) log array m (accessBegin address width) d array log 0
     read-begin z =
         record {
-          reading = reading-begin pcd answers (accessBegin address width) s log refl refl;
+          reading = reading-begin (allOf (oneAlone pcd) s (restOf (accessBegin address width) answers)) log;
           needs = needs-begin (statesNumberOf d address width) z;
           arrays = refl;
           logs = refl;
@@ -115,12 +114,13 @@ module _ (d : Directory) (m : Memory) (array : List ℕ) (address width : ℕ) (
         sym (rw (← n) at (read-refused s address width pcd answers log [] (λ z. h (n ∙ z))))
 
     pub read-made : readsNumber ≡ 0 → (cursor : AccessCursor) (d′ : Directory) (array′ log′ : List ℕ) (value : ℕ) → cursor .left ≡ 0 →
-        ReadInvariant pcd answers (allOf (oneAlone pcd) s (restOf (accessBegin address width) answers)) log cursor (state d′ m array′) log′ value →
+        ReadInvariant (allOf (oneAlone pcd) (state d′ m array′) (restOf cursor answers)) (allOf (oneAlone pcd) s (restOf (accessBegin address width) answers)) log (cursor .place) (cursor .cycles) log′ value →
         after (outcome d′ 0 value (cursor .cycles)) m array′ log′ ≡ readCall s address width pcd answers log []
     unfolding readAll restOf
     read-made z cursor d′ array′ log′ value e g =
         let p = allOf (oneAlone pcd) s (doublewordsOf groupCount answers address width 0) in
-        whole (oneAlone pcd) answers p cursor d′ m array′ log′ log value (valueOf (p .bytes)) e (g .invariant) (reading-end pcd answers cursor (state d′ m array′) log′ value e g)
+        let n = all-done (oneAlone pcd) answers cursor (state d′ m array′) e in
+        whole (g .invariant) d′ m array′ n value (valueOf (p .bytes)) (reading-end g (state d′ m array′) n)
         ∙ ap (λ (q : Progress). accepted (valueOf (q .bytes)) q log) (sym (each-alone pcd s 0 (doublewordsOf groupCount answers address width 0)))
         ∙ sym (read-done s address width pcd answers log [] (number-alone s address width answers log ∙ z))
 
@@ -131,7 +131,7 @@ module _ (d : Directory) (m : Memory) (array : List ℕ) (address width : ℕ) (
     pub write-begin : writesNumber ≡ 0 → WriteKept (operandOf value) answers (allOf (writeOne (operandOf value)) s (restOf (accessBegin address width) answers)) log array m (accessBegin address width) d m array log
     write-begin z =
         record {
-          writing = access-invariant-begin (writeOne (operandOf value)) answers (accessBegin address width) s log refl;
+          writing = access-invariant-begin (allOf (writeOne (operandOf value)) s (restOf (accessBegin address width) answers)) log;
           needs = needs-begin (orElse (valueNumber width value) (statesNumberOf d address width)) z;
           rams = refl;
           parities = refl;
@@ -144,9 +144,9 @@ module _ (d : Directory) (m : Memory) (array : List ℕ) (address width : ℕ) (
     write-turned k e h = sym (rw (← e) at (write-refused s address width value answers log (λ z. h (e ∙ z))))
 
     pub write-made : writesNumber ≡ 0 → (cursor : AccessCursor) (d′ : Directory) (m′ : Memory) (array′ log′ : List ℕ) → cursor .left ≡ 0 →
-        AccessInvariant (writeOne (operandOf value)) answers (allOf (writeOne (operandOf value)) s (restOf (accessBegin address width) answers)) log cursor (state d′ m′ array′) log′ →
+        AccessInvariant (allOf (writeOne (operandOf value)) (state d′ m′ array′) (restOf cursor answers)) (allOf (writeOne (operandOf value)) s (restOf (accessBegin address width) answers)) log (cursor .cycles) log′ →
         after (outcome d′ 0 0 (cursor .cycles)) m′ array′ log′ ≡ writeCall s address width value answers log
     unfolding writeCall writeNumber writeAll restOf
     write-made z cursor d′ m′ array′ log′ e g =
-        whole (writeOne (operandOf value)) answers (allOf (writeOne (operandOf value)) s (doublewordsOf groupCount answers address width 0)) cursor d′ m′ array′ log′ log 0 0 e g refl
+        whole g d′ m′ array′ (all-done (writeOne (operandOf value)) answers cursor (state d′ m′ array′) e) 0 0 refl
         ∙ sym (cond-true _ _ _ (eq-eqb _ 0 z))

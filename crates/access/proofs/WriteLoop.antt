@@ -12,12 +12,12 @@ use Rattle.doubleword.specs.Cursor.{lineAddress, countOf, accessNext, nextDoubl
 use Rattle.doubleword.proofs.Cursors.{needs-lengths, needs-more, cursor-needs}
 use Rattle.writing.specs.WritingCode.{Writes}
 use Rattle.refusal.specs.Call.{state}
-use Rattle.access.specs.Access.{Progress, next, writeOne}
-use Rattle.access.proofs.AccessLoop.{AccessInvariant, access-invariant-next}
+use Rattle.access.specs.Access.{Progress, allOf, next, writeOne}
+use Rattle.access.proofs.AccessLoop.{restOf, AccessInvariant, access-invariant-next, all-next}
 
 -- the loop of a write, with the lengths of its buffers
 pub record WriteKept (operand xs : List ℕ) (p : Progress) (log₀ array₀ : List ℕ) (m₀ : Memory) (cursor : AccessCursor) (d : Directory) (m : Memory) (array log : List ℕ) : Type 0 where
-  pub writing : AccessInvariant (writeOne operand) xs p log₀ cursor (state d m array) log
+  pub writing : AccessInvariant (allOf (writeOne operand) (state d m array) (restOf cursor xs)) p log₀ (cursor .cycles) log
   pub needs : AccessNeeds cursor (length (m₀ .ram)) (length (m₀ .parity)) (length array₀) (length xs) (length log₀)
   pub rams : length (m .ram) ≡ length (m₀ .ram)
   pub parities : length (m .parity) ≡ length (m₀ .parity)
@@ -46,7 +46,9 @@ module _ {operand xs : List ℕ} {p : Progress} {log₀ array₀ : List ℕ} {m�
       ∙ ap (λ (x : Memory). state (changed d (here .line) (done .change)) x array′) (k .memories)
       ∙ ap (λ (x : List ℕ). state (changed d (here .line) (done .change)) (done .memory) x) (k .arrays) in
       record {
-        writing = rw (eu, ec) (access-invariant-next (writeOne operand) xs cursor (state d m array) log some (needs-more _ _ _ _ _ _ (g .needs) some) (state d′ m′ array′) log′ n (g .writing) es (k .logs) (k .made));
+        writing =
+            rw (eu, ec, es)
+            (access-invariant-next (g .writing) done _ log′ n (all-next (writeOne operand) xs cursor (state d m array) some (needs-more _ _ _ _ _ _ (g .needs) some) n) (k .logs) (k .made));
         needs = cursor-needs cursor u count n some ec eu _ _ _ _ _ (k .most) (g .needs);
         rams = er ∙ g .rams;
         parities = ep ∙ g .parities;

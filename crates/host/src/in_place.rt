@@ -6,11 +6,13 @@ ghost use mathlib.Core.List.{List, []};
 ghost use Prim.Native.Nat.{ℕ};
 ghost use Rattle.directory.specs.Steps.{afterFlush, afterReset, controlCall, directoryOf, lentDirectory, snoopCall};
 ghost use Rattle.memory.specs.Parity.{lentMemory};
+ghost use Rattle.carried.specs.CarriedCode.{carriedOf};
 ghost use Rattle.directory.specs.Outcome.{outcome};
 ghost use Rattle.refusal.specs.Call.{after, lentState, state};
 ghost use Rattle.access.specs.Access.{leaves, readCall, writeCall};
 ghost use Rattle.masters.specs.Masters.{externalCall};
 use access::CallResult;
+use carried::CarriedWrites;
 use directory::LINES;
 use directory::SETS;
 
@@ -45,6 +47,44 @@ pub extern "C" fn unit486_read_in_place<'a>(
         pcd,
         answers,
         log,
+    )
+}
+
+#[no_mangle]
+pub extern "C" fn unit486_read_carrying_in_place<'a>(
+    tags: &'a mut [u32; LINES],
+    valid: &'a mut [bool; LINES],
+    lru: &'a mut [u8; SETS],
+    cd: bool,
+    nw: bool,
+    ram: &mut [u8],
+    parity: &mut [u8],
+    data: &mut [u8],
+    address: u32,
+    width: u32,
+    pcd: bool,
+    answers: &[u8],
+    log: &mut [u32],
+    carried: CarriedWrites,
+) -> CallResult
+    ensures { λ r. ⌜ leaves r (lentState (tags .exit) (valid .exit) (lru .exit) cd nw (ram .exit) (parity .exit) («data» .exit)) (now (log .exit))
+        ≡ readCall (lentState (tags .entry) (valid .entry) (lru .entry) cd nw (ram .entry) (parity .entry) («data» .entry)) address width pcd (now (answers .entry)) (now (log .entry)) (carriedOf carried) ⌝ }
+{
+    carrying_calls::read_carrying_in_place(
+        tags,
+        valid,
+        lru,
+        cd,
+        nw,
+        ram,
+        parity,
+        data,
+        address,
+        width,
+        pcd,
+        answers,
+        log,
+        carried,
     )
 }
 

@@ -14,6 +14,7 @@ pub use by_value::unit486_reset_by_value;
 pub use in_place::unit486_control_in_place;
 pub use in_place::unit486_external_write_in_place;
 pub use in_place::unit486_flush_in_place;
+pub use in_place::unit486_read_carrying_in_place;
 pub use in_place::unit486_read_in_place;
 pub use in_place::unit486_reset_in_place;
 pub use in_place::unit486_snoop_in_place;

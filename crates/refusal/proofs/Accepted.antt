@@ -83,7 +83,7 @@ module _ (ram parity array address width : ℕ) (answers : List ℕ) (log later 
       pub asked-later : k ≡ 0 → (r : ℕ) → r ≡ later → r ≡ whole
       asked-later y r g = number-later n r (orElse lent first) (orElse second later) e z (number-later k r second later f y g) ∙ asked
 
-when-zero : (b : Bool) (n : ℕ) → 0 < n → when b n ≡ 0 → b ≡ false
+pub when-zero : (b : Bool) (n : ℕ) → 0 < n → when b n ≡ 0 → b ≡ false
 when-zero true n h e = absurd (omega arith)
 when-zero false n h e = refl
 

@@ -94,6 +94,11 @@ abbrev pub statesNumberOf : Directory → ℕ → ℕ → ℕ
 statesNumberOf d address count = statesNumberIn (d .tags) (d .valid) (d .lru) address count
 
 -- "then the writes' in list order"
-unfoldable pub carriedStatesNumber : Directory → List Carried → ℕ
-carriedStatesNumber d [] = 0
-carriedStatesNumber d (w ∷ ws) = orElse (statesNumberOf d (w .address) (length (w .bytes))) (carriedStatesNumber d ws)
+unfoldable pub carriedStatesNumberIn : List ℕ → List Bool → List ℕ → List Carried → ℕ
+carriedStatesNumberIn tags valid lru [] = 0
+carriedStatesNumberIn tags valid lru (w ∷ ws) =
+    orElse (statesNumberIn tags valid lru (w .address) (length (w .bytes))) (carriedStatesNumberIn tags valid lru ws)
+
+-- The same, of a directory.
+abbrev pub carriedStatesNumber : Directory → List Carried → ℕ
+carriedStatesNumber d ws = carriedStatesNumberIn (d .tags) (d .valid) (d .lru) ws

@@ -1,11 +1,15 @@
 // The number of a read and of a write, for either form of the call.
 ghost use mathlib.Core.Path.{_≡_};
 ghost use lib.ListN.{length};
-ghost use Rattle.refusal.specs.Refusal.{argumentNumber, lentNumber, orElse, statesNumberIn, valueNumber};
+ghost use Rattle.carried.specs.CarriedCode.{carriedOf};
+ghost use Rattle.refusal.specs.Refusal.{argumentNumber, carriedNumber, carriedStatesNumberIn, lentNumber, orElse, statesNumberIn, valueNumber};
 use crate::input::answers_number;
 use crate::input::input_number;
 use crate::input::value_number;
 use crate::state::states_number;
+use crate::writes::carried_number;
+use crate::writes::carried_states_number;
+use carried::CarriedWrites;
 use ways::LINES;
 use ways::SETS;
 
@@ -35,6 +39,45 @@ pub fn read_number<'a>(
         return next;
     }
     states_number(tags, valid, lru, address, width)
+}
+
+// The lowest number that a read meets with the writes that it carries, or 0.
+pub fn read_carrying_number<'a>(
+    tags: &'a [u32; LINES],
+    valid: &'a [bool; LINES],
+    lru: &'a [u8; SETS],
+    ram: &[u8],
+    parity: &[u8],
+    data: &[u8],
+    address: u32,
+    width: u32,
+    answers: &[u8],
+    log: &[u32],
+    carried: CarriedWrites,
+) -> u32
+    ensures { λ r. ⌜ r ≡ orElse (lentNumber (length (now (ram .entry))) (length (now (parity .entry))) (length (now («data» .entry))))
+        (orElse (argumentNumber (length (now (ram .entry))) address width (now (answers .entry)) (length (now (log .entry))))
+        (orElse (carriedNumber (length (now (ram .entry))) (carriedOf carried))
+        (orElse (statesNumberIn (now (tags .entry)) (now (valid .entry)) (now (lru .entry)) address width)
+        (carriedStatesNumberIn (now (tags .entry)) (now (valid .entry)) (now (lru .entry)) (carriedOf carried))))) ⌝ }
+{
+    let number = input_number(ram, parity, data, answers, address, width);
+    if number != 0 {
+        return number;
+    }
+    let next = answers_number(answers, log);
+    if next != 0 {
+        return next;
+    }
+    let wrong = carried_number(ram.len(), carried);
+    if wrong != 0 {
+        return wrong;
+    }
+    let own = states_number(tags, valid, lru, address, width);
+    if own != 0 {
+        return own;
+    }
+    carried_states_number(tags, valid, lru, carried)
 }
 
 // The lowest number that a write meets, or 0.

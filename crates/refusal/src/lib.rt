@@ -2,7 +2,9 @@
 mod call;
 mod input;
 mod state;
+mod writes;
 
+pub use call::read_carrying_number;
 pub use call::read_number;
 pub use call::write_number;
 pub use input::external_number;

@@ -5,11 +5,14 @@ use crate::print::call_row;
 use crate::print::end_with_digests;
 use crate::print::test_fields;
 use crate::print::view_fields;
+use crate::script::at_most;
 use crate::script::bytes;
+use crate::script::bytes_from;
 use crate::script::digits;
 use crate::script::letter_of;
 use crate::script::number;
 use crate::stores::store_line;
+use carried::CarriedWrites;
 use directory::Directory;
 use directory::LINES;
 use directory::Outcome;
@@ -35,6 +38,7 @@ pub fn run_line(
     fresh_log(log);
     match letter_of(line) {
         b'R' | b'r' => read_line(line, d, ram, parity, data, log),
+        b'Q' => carrying_line(line, d, ram, parity, data, log),
         b'W' | b'w' => write_line(line, d, ram, parity, data, log),
         b'X' => external_line(line, d, ram, parity, data, log),
         b'S' | b'F' | b'C' | b'Z' => directory_line(line, d, ram, parity, data, log),
@@ -87,6 +91,60 @@ fn read_line(
         log,
     );
     call_row(letter_of(line), done, ram, parity, data, log)
+}
+
+fn carrying_line(
+    line: &[u8],
+    d: Directory,
+    ram: &mut [u8],
+    parity: &mut [u8],
+    data: &mut [u8],
+    log: &mut [u32],
+) -> Directory {
+    let a = fields_of(line);
+    let mut answers = [0u8; 64];
+    let n = digits(line, a.next, &mut answers);
+    let carried = carried_writes(line, number(line, a.next).next);
+    let done = carrying_calls::read_carrying(
+        d,
+        ram,
+        parity,
+        data,
+        a.address,
+        a.width,
+        a.third == 1,
+        &answers[..n],
+        log,
+        carried,
+    );
+    call_row(b'Q', done, ram, parity, data, log)
+}
+
+// The writes from a place of the line on: how many, and of each cycle number, address, length and bytes, sixteen at most. A write that
+// the line does not give has zeros.
+fn carried_writes(line: &[u8], at: usize) -> CarriedWrites {
+    let count = number(line, at);
+    let mut cycles = [0u32; 4];
+    let mut addresses = [0u32; 4];
+    let mut lengths = [0u32; 4];
+    let mut bytes = [0u8; 64];
+    let mut next = count.next;
+    for k in 0..4usize {
+        let cycle = number(line, next);
+        let address = number(line, cycle.next);
+        let size = number(line, address.next);
+        cycles[k] = cycle.value;
+        addresses[k] = address.value;
+        lengths[k] = size.value;
+        next = bytes_from(line, size.next, &mut bytes, 16 * k, at_most(size.value, 16));
+    }
+    CarriedWrites {
+        count: count.value,
+        cycles,
+        addresses,
+        lengths,
+        bytes,
+    }
 }
 
 fn write_line(

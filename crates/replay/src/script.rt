@@ -1,5 +1,5 @@
 // Script lines: a letter and fields, a blank before each field, a newline at the end.
-ghost use Prim.Native.Nat.{_<_, _≤_};
+ghost use Prim.Native.Nat.{_+_, _<_, _≤_};
 ghost use lib.ListN.{length};
 ghost use Rattle.io.specs.Counts.{Counts};
 
@@ -80,6 +80,34 @@ pub fn bytes(line: &[u8], at: usize, values: &mut [u8]) -> usize
         k += 1;
     }
     k
+}
+
+// So many fields that are each a byte, into places from one on: the place after them.
+pub fn bytes_from(
+    line: &[u8],
+    at: usize,
+    values: &mut [u8; 64],
+    place: usize,
+    count: usize,
+) -> usize
+    requires { ⌜ place + count ≤ 64 ⌝ }
+{
+    let mut next = at;
+    let mut k = 0usize;
+    while k < count {
+        let field = number(line, next);
+        values[place + k] = low_byte(field.value);
+        next = field.next;
+        k += 1;
+    }
+    next
+}
+
+pub fn at_most(value: u32, limit: usize) -> usize
+    ensures { λ r. ⌜ r ≤ limit ⌝ }
+{
+    let n = value as usize;
+    if n < limit { n } else { limit }
 }
 
 fn tail(line: &[u8], at: usize) -> &[u8] {

@@ -5,6 +5,7 @@ ghost use lib.ListN.{length};
 use crate::calls::fresh_log;
 use crate::calls::run_line;
 use crate::print::unit_row;
+use crate::script::at_most;
 use crate::script::line_end;
 use crate::script::number;
 use directory::Directory;
@@ -63,13 +64,6 @@ fn log_buffer() -> [u32; 128]
     ensures { λ r. ⌜ 128 ≡ length r ⌝ }
 {
     [0u32; 128]
-}
-
-fn at_most(value: u32, limit: usize) -> usize
-    ensures { λ r. ⌜ r ≤ limit ⌝ }
-{
-    let n = value as usize;
-    if n < limit { n } else { limit }
 }
 
 // A new unit has the directory of a reset and parity that agrees.

@@ -1,0 +1,3 @@
+-- Laws that both forms of the call cite.
+pub mod Snoops
+pub mod CarryingLoop
