@@ -16,7 +16,7 @@ use Rattle.words.specs.Bytes.{valueOf}
 use Rattle.memory.specs.Parity.{Memory}
 use Rattle.carried.specs.declared.CarriedWrites.{CarriedWrites}
 use Rattle.carried.specs.Carried.{Carried, due, later, landed}
-use Rattle.carried.specs.CarriedCode.{writesFrom, carriedOf, leftFrom, CarriedNeeds}
+use Rattle.carried.specs.CarriedCode.{carriedOf, leftFrom, CarriedNeeds}
 use Rattle.carried.proofs.Due.{due-zero, due-none}
 use Rattle.bus.specs.Groups.{groupCount}
 use Rattle.bus.specs.Record.{logged}
@@ -107,8 +107,8 @@ module _ (pcd : Bool) (xs : List ℕ) (carried : CarriedWrites) (cursor : Access
     made = k .made ∙ ap length (whole-done .records)
 
     -- what the end of the doubleword needs
-    pub end-needs : from ≤ carried .count → CarriedNeeds carried (length (m .ram)) (length (m .parity)) → length array ≡ 8192 → EndNeeds carried from r (length array)
-    end-needs h z e =
+    pub end-needs : CarriedNeeds carried (length (m .ram)) (length (m .parity)) → length array ≡ 8192 → EndNeeds carried from r (length array)
+    end-needs z e =
         record {
           above = k .lands .above;
           within = k .lands .within;
