@@ -37,13 +37,14 @@ writeOne operand s w =
 abbrev pub next : State → Doubleword → Done → State
 next s w done = state (changed (s .directory) (w .line) (done .change)) (done .memory) (done .array)
 
+-- What a doubleword did, and then the rest.
+abbrev pub thenRest : Done → Progress → Progress
+thenRest here rest = progress (rest .state) (here .bytes ++ rest .bytes) (here .records ++ rest .records)
+
 -- All doublewords of a write, each by the same rule.
 unfoldable pub allOf : (State → Doubleword → Done) → State → List Doubleword → Progress
 allOf one s [] = progress s [] []
-allOf one s (w ∷ ws) =
-    let here = one s w in
-    let rest = allOf one (next s w here) ws in
-    progress (rest .state) (here .bytes ++ rest .bytes) (here .records ++ rest .records)
+allOf one s (w ∷ ws) = let here = one s w in thenRest here (allOf one (next s w here) ws)
 
 -- A read before one of its doublewords: the unit, the writes that it carries and that have not landed, the number of the next cycle, "counted from 0 over
 -- the access".
@@ -85,10 +86,7 @@ landedAfter u = state (snoopedBy (u .writes) (u .unit .directory)) (landed (u .w
 -- All doublewords of a read, and what is left of the writes after them.
 unfoldable pub readEach : Bool → UnderWay → List Doubleword → Progress
 readEach pcd u [] = progress (landedAfter u) [] []
-readEach pcd u (w ∷ ws) =
-    let here = readOne pcd u w in
-    let rest = readEach pcd (readNext u w here) ws in
-    progress (rest .state) (here .bytes ++ rest .bytes) (here .records ++ rest .records)
+readEach pcd u (w ∷ ws) = let here = readOne pcd u w in thenRest here (readEach pcd (readNext u w here) ws)
 
 -- A call that was done: the records of its cycles are at the start of the log.
 abbrev pub accepted : ℕ → Progress → List ℕ → After

@@ -10,10 +10,11 @@ use Rattle.laws.proofs.Tests.{cond-true, cond-false, by-test}
 use Rattle.directory.specs.Steps.{afterReset}
 use Rattle.directory.proofs.Laws.{reset-none, reset-control, reset-limits, reset-apart}
 use Rattle.memory.specs.Parity.{Memory}
+use Rattle.bus.specs.Record.{Record}
 use Rattle.refusal.specs.Call.{State, state, nextState}
-use Rattle.calls.specs.Calls.{Call, read, write, external, snoop, flush, control, view, reset, testWrite, testRead, step}
-use Rattle.calls.specs.Plain.{plainNumber, plainDone, plainRefused, plain}
-use Rattle.calls.specs.Matches.{kindOf, plants, empties, Matches, setsNw, ZeroOr, Arises}
+use Rattle.calls.specs.Calls.{Call, read, write, external, snoop, flush, control, view, reset, testWrite, testRead, step, recordsLeft}
+use Rattle.calls.specs.Plain.{plainNumber, plainDone, plainRefused, plain, plainTold}
+use Rattle.calls.specs.Matches.{kindOf, testing, plants, empties, Matches, setsNw, Arises}
 use Rattle.agreement.specs.Agreement.{Comparison, beside, suspended, begun, ended, IfCompared, EachCompared, AgreesAll, NeverSetsNw, Legal, Demand3, GoesOn, BegunAnew, NumbersThatArise}
 use Rattle.calls.proofs.Kept.{Kept, call-kept}
 use Rattle.calls.proofs.Coherence.{Coherent, empty-beside}
@@ -46,7 +47,7 @@ module _ (s : State) (m : List ℕ) (x : Call) where
   planted-suspended : plants (kindOf x) number ≡ true → ended (beside m) s x ≡ suspended
   planted-suspended e = cond-true _ _ _ e
 
-  other-beside : plants (kindOf x) number ≡ false → ended (beside m) s x ≡ beside (plain m x .memory)
+  other-beside : plants (kindOf x) number ≡ false → ended (beside m) s x ≡ beside (plainTold s m x .memory)
   other-beside e = cond-false _ _ _ e
 
 module _ (s : State) (x : Call) where
@@ -63,7 +64,7 @@ Invariant s (beside m) = Coherent s m
 Invariant s suspended = Kept s
 
 -- after a call that is compared
-compared-kept : (s : State) (m : List ℕ) (x : Call) → Kept s → CallMatches x (step s x) (plain m x) → Invariant (nextState (step s x)) (ended (beside m) s x)
+compared-kept : (s : State) (m : List ℕ) (x : Call) → Kept s → CallMatches x (step s x) (plainTold s m x) → Invariant (nextState (step s x)) (ended (beside m) s x)
 compared-kept s m x k g =
     by-test (λ p. plants (kindOf x) (number s m x) ≡ p → Invariant (nextState (step s x)) (ended (beside m) s x)) (plants (kindOf x) (number s m x))
     (λ _ e. subst (Invariant (nextState (step s x))) (sym (planted-suspended s m x e)) (call-kept s k x))
@@ -72,7 +73,7 @@ compared-kept s m x k g =
 
 -- what is known of a call that is compared
 abbrev Known : State → List ℕ → Call → Type 0
-Known s m c = Kept s × Matches c (step s c) (plain m c)
+Known s m c = Kept s × Matches c (step s c) (plainTold s m c)
 
 abbrev KeepsNw : State → List ℕ → Call → Type 0
 KeepsNw s m c = setsNw c ≡ false
@@ -110,7 +111,7 @@ demand3 m array cs g n =
 
 pub goes-on : GoesOn
 unfolding EachCompared
-goes-on s m (read a w pcd xs log) cs n h = h .1
+goes-on s m (read a w pcd xs log ws) cs n h = h .1
 goes-on s m (write a w v xs log) cs n h = h .1
 goes-on s m (external a x) cs n h = h .1
 goes-on s m (snoop a) cs n h = h .1
@@ -128,40 +129,41 @@ unfolding EachCompared
 begun-anew = record { at-flush = λ s cs h. h; at-reset = λ s cs h. h }
 
 -- 1 to 3 and 21 to 23 never arise
-done-number : (m : List ℕ) (x : Call) → plainDone m x .number ≡ 0
+done-number : (m : List ℕ) (x : Call) (rs : List Record) → plainDone m x rs .number ≡ 0
 unfolding plainDone
-done-number m (read a w pcd xs log) = refl
-done-number m (write a w v xs log) = refl
-done-number m (external a x) = refl
-done-number m (snoop a) = refl
-done-number m flush = refl
-done-number m (control cd nw) = refl
-done-number m (view a) = refl
-done-number m reset = refl
-done-number m (testWrite r w tag mark x) = refl
-done-number m (testRead r w) = refl
+done-number m (read a w pcd xs log ws) rs = refl
+done-number m (write a w v xs log) rs = refl
+done-number m (external a x) rs = refl
+done-number m (snoop a) rs = refl
+done-number m flush rs = refl
+done-number m (control cd nw) rs = refl
+done-number m (view a) rs = refl
+done-number m reset rs = refl
+done-number m (testWrite r w tag mark x) rs = refl
+done-number m (testRead r w) rs = refl
 
-answer-number : (m : List ℕ) (x : Call) → plain m x .number ≡ plainNumber m x
+answer-number : (m : List ℕ) (x : Call) (rs : List Record) → plain m x rs .number ≡ plainNumber m x
 unfolding plain
-answer-number m x =
-    by-test (λ b. eqb (plainNumber m x) 0 ≡ b → cond b (plainDone m x) (plainRefused (plainNumber m x) m) .number ≡ plainNumber m x)
+answer-number m x rs =
+    by-test (λ b. eqb (plainNumber m x) 0 ≡ b → cond b (plainDone m x rs) (plainRefused (plainNumber m x) m) .number ≡ plainNumber m x)
     (eqb (plainNumber m x) 0)
-    (λ _ e. done-number m x ∙ sym (eqb-true _ 0 e))
+    (λ _ e. done-number m x rs ∙ sym (eqb-true _ 0 e))
     (λ _ _. refl)
     refl
 
-answer-arises : (m : List ℕ) (x : Call) → ZeroOr 4 10 (plain m x .number)
-answer-arises m x = rw (answer-number m x) (plain-arises m x)
+-- of a call whose results are compared
+answer-arises : (s : State) (m : List ℕ) (x : Call) → testing (kindOf x) ≡ false → Known s m x → Arises (kindOf x) (step s x .outcome .number)
+answer-arises s m x t h = rw (h .1 .results t .numbers, answer-number m x (recordsLeft (step s x))) (plain-arises m x)
 
 known-arises : (s : State) (m : List ℕ) (c : Call) → Known s m c → Arises (kindOf c) (step s c .outcome .number)
-known-arises s m (read a w pcd xs log) h = rw (h .1 .results refl .numbers) (answer-arises m (read a w pcd xs log))
-known-arises s m (write a w v xs log) h = rw (h .1 .results refl .numbers) (answer-arises m (write a w v xs log))
-known-arises s m (external a x) h = rw (h .1 .results refl .numbers) (answer-arises m (external a x))
-known-arises s m (snoop a) h = rw (h .1 .results refl .numbers) (answer-arises m (snoop a))
-known-arises s m flush h = rw (h .1 .results refl .numbers) (answer-arises m flush)
-known-arises s m (control cd nw) h = rw (h .1 .results refl .numbers) (answer-arises m (control cd nw))
-known-arises s m (view a) h = rw (h .1 .results refl .numbers) (answer-arises m (view a))
-known-arises s m reset h = rw (h .1 .results refl .numbers) (answer-arises m reset)
+known-arises s m (read a w pcd xs log ws) h = answer-arises s m (read a w pcd xs log ws) refl h
+known-arises s m (write a w v xs log) h = answer-arises s m (write a w v xs log) refl h
+known-arises s m (external a x) h = answer-arises s m (external a x) refl h
+known-arises s m (snoop a) h = answer-arises s m (snoop a) refl h
+known-arises s m flush h = answer-arises s m flush refl h
+known-arises s m (control cd nw) h = answer-arises s m (control cd nw) refl h
+known-arises s m (view a) h = answer-arises s m (view a) refl h
+known-arises s m reset h = answer-arises s m reset refl h
 known-arises s m (testWrite r w tag mark x) h = test-write-arises s (h .0) r w tag mark x
 known-arises s m (testRead r w) h = test-read-arises s (h .0) r w
 

@@ -8,7 +8,7 @@ use Rattle.directory.specs.Steps.{afterReset}
 use Rattle.memory.specs.Parity.{Memory, Agrees}
 use Rattle.refusal.specs.Call.{State, state, nextState}
 use Rattle.calls.specs.Calls.{Call, flush, reset, testWrite, step}
-use Rattle.calls.specs.Plain.{plain}
+use Rattle.calls.specs.Plain.{plainTold}
 use Rattle.calls.specs.Matches.{kindOf, plants, empties, Matches, setsNw, Arises}
 
 -- What stands beside the unit: a plain memory; or none, while the comparison is suspended.
@@ -23,7 +23,7 @@ begun suspended s c = cond (empties (kindOf c)) (beside (s .memory .ram)) suspen
 
 -- "up to its first accepted test write", and then "up to another test write": what stands beside the unit after a call.
 abbrev pub ended : Comparison → State → Call → Comparison
-ended (beside m) s c = cond (plants (kindOf c) (step s c .outcome .number)) suspended (beside (plain m c .memory))
+ended (beside m) s c = cond (plants (kindOf c) (step s c .outcome .number)) suspended (beside (plainTold s m c .memory))
 ended suspended s c = suspended
 
 -- A fact of a call that is compared, and of each such call of a list.
@@ -38,7 +38,7 @@ EachCompared P s b (c ∷ cs) =
 
 -- After each call of a list that is compared, of the unit in a state and what stands beside it.
 abbrev pub AgreesAll : State → Comparison → List Call → Type 0
-AgreesAll = EachCompared (λ s m c. Matches c (step s c) (plain m c))
+AgreesAll = EachCompared (λ s m c. Matches c (step s c) (plainTold s m c))
 
 -- Demand 3's premise on the list: "no accepted control call sets NW to 1", for the calls that are compared.
 abbrev pub NeverSetsNw : State → Comparison → List Call → Type 0
@@ -66,7 +66,7 @@ abbrev pub GoesOn : Type 0
 GoesOn =
     (s : State) (m : List ℕ) (c : Call) (cs : List Call) →
     ((set way tag : ℕ) (mark : Bool) (bytes : List ℕ) → c ≡ testWrite set way tag mark bytes → step s c .outcome .number ≡ 0 → ⊥) →
-    AgreesAll s (beside m) (c ∷ cs) → AgreesAll (nextState (step s c)) (beside (plain m c .memory)) cs
+    AgreesAll s (beside m) (c ∷ cs) → AgreesAll (nextState (step s c)) (beside (plainTold s m c .memory)) cs
 
 -- From a flush or a reset on, what is claimed of a list whose comparison is suspended is what is claimed of one that begins there.
 pub record BegunAnew : Type 0 where

@@ -116,7 +116,7 @@ held-bytes d m array l line w al wl h from n b =
     rw (e, f) (rw (line-back line al) at (l .same (setOf line) w (tagOf line) (omega arith) wl h (from + o) (omega arith)))
 
 -- bytes put into a line leave the bytes of every other line
-other-line : (l : List ℕ) (line from : ℕ) (x : List ℕ) (at o : ℕ) → line % 16 ≡ 0 → at % 16 ≡ 0 → from + length x ≤ 16 → o < 16 → (at ≡ line → ⊥) →
+pub other-line : (l : List ℕ) (line from : ℕ) (x : List ℕ) (at o : ℕ) → line % 16 ≡ 0 → at % 16 ≡ 0 → from + length x ≤ 16 → o < 16 → (at ≡ line → ⊥) →
     getD (sets l (line + from) x) (at + o) 0 ≡ getD l (at + o) 0
 other-line l line from x at o p q b k ne =
     elim (decLt at line) [

@@ -1,8 +1,8 @@
 -- An access makes at most as many cycles as it has answers, so that the log of an accepted one has room for each of its records.
-use Prim.Native.Nat.{ℕ, zero, suc, _+_, _*_, _-_, _/_, _%_, _≤_, min}
-use mathlib.Core.Path.{_≡_}
+use Prim.Native.Nat.{ℕ, zero, suc, _+_, _*_, _-_, _/_, _%_, _≤_, _<_, min}
+use mathlib.Core.Path.{_≡_, refl}
 use mathlib.Core.Bool.{Bool, true, false, cond, _&&_}
-use mathlib.Core.List.{List, [], _∷_, map}
+use mathlib.Core.List.{List, [], _∷_, _++_, map}
 use native.Mathlib.Omega.{arith}
 use lib.ListN.{length, getD, take, drop, length-append, length-take, length-map}
 use lib.Seq.{length-sets}
@@ -10,16 +10,21 @@ use Rattle.laws.proofs.Tests.{by-test}
 use Rattle.ways.specs.declared.ways.Found.{Found}
 use Rattle.ways.specs.declared.ways.Found.the-variants.{At, Nothing}
 use Rattle.ways.specs.Address.{byteOf}
+use Rattle.words.proofs.Places.{sets-in}
 use Rattle.memory.specs.Parity.{Memory}
+use Rattle.carried.specs.Carried.{Carried, memoryAt}
 use Rattle.bus.specs.Bus.{Run, run, Cycle, cyclesOf, wantedAfter, ken}
 use Rattle.bus.specs.Groups.{groupSize}
 use Rattle.bus.specs.Record.{Record, wordsOf, logged}
+use Rattle.bus.proofs.Flags.{words-length}
 use Rattle.doubleword.specs.Doubleword.{Doubleword, Done, doublewordsOf}
 use Rattle.reading.specs.Reading.{readHit, fillMiss, plainMiss, readMiss, settled, readDone}
 use Rattle.writing.specs.Writing.{writeThrough, writeDone}
 use Rattle.refusal.specs.Call.{State, After}
-use Rattle.access.specs.Access.{next, allOf, readOne, writeOne}
+use Rattle.access.specs.Access.{next, allOf, writeOne, UnderWay, readOne, readNext, readEach}
+use Rattle.calls.specs.Calls.{recordsFrom}
 use Rattle.calls.specs.Matches.{NoParityError}
+use Rattle.calls.proofs.Following.{records-length}
 
 cycles-most : (xs : List ℕ) (ws : List Run) → length (cyclesOf xs ws) ≤ length xs
 unfolding cyclesOf
@@ -31,17 +36,18 @@ records-most : (make : Cycle → Record) (xs : List ℕ) (ws : List Run) → len
 records-most make xs ws = rw (length-map (cyclesOf xs ws) make) (cycles-most xs ws)
 
 -- of a doubleword
-done-most : (f : Found) (victim : ℕ) (mayFill : Bool) (m : Memory) (array : List ℕ) (w : Doubleword) → length (readDone f victim mayFill m array w .records) ≤ length (w .answers)
+done-most : (f : Found) (victim : ℕ) (mayFill : Bool) (m : Memory) (ws : List Carried) (first : ℕ) (array : List ℕ) (w : Doubleword) →
+    length (readDone f victim mayFill m ws first array w .records) ≤ length (w .answers)
 unfolding readDone readHit settled readMiss fillMiss plainMiss
-done-most (At way) victim mayFill m array w = omega arith
-done-most Nothing victim mayFill m array w =
-    by-test (λ b. length (cond b (fillMiss m w) (plainMiss m w) .records) ≤ length (w .answers)) (mayFill && ken (getD (w .answers) 0 0))
-    (λ _. records-most _ (w .answers) _)
-    (λ _. records-most _ (w .answers) _)
+done-most (At way) victim mayFill m ws first array w = omega arith
+done-most Nothing victim mayFill m ws first array w =
+    by-test (λ b. length (cond b (fillMiss m ws first w) (plainMiss m ws first w) .records) ≤ length (w .answers)) (mayFill && ken (getD (w .answers) 0 0))
+    (λ _. rw (records-length _ (memoryAt m ws) (w .line) first _) (cycles-most (w .answers) _))
+    (λ _. rw (records-length _ (memoryAt m ws) (w .line) first _) (cycles-most (w .answers) _))
 
-pub read-most : (pcd : Bool) (s : State) (w : Doubleword) → length (readOne pcd s w .records) ≤ length (w .answers)
+read-most : (pcd : Bool) (u : UnderWay) (w : Doubleword) → length (readOne pcd u w .records) ≤ length (w .answers)
 unfolding readOne
-read-most pcd s w = done-most _ _ _ (s .memory) (s .array) w
+read-most pcd u w = done-most _ _ _ (u .unit .memory) (u .writes) (u .cycle) (u .unit .array) w
 
 sent-most : (f : Found) (stays : Bool) (m : Memory) (array operand : List ℕ) (w : Doubleword) → length (writeDone f stays m array operand w .records) ≤ length (w .answers)
 unfolding writeDone writeThrough
@@ -49,28 +55,51 @@ sent-most (At way) true m array operand w = omega arith
 sent-most (At way) false m array operand w = records-most _ (w .answers) _
 sent-most Nothing stays m array operand w = records-most _ (w .answers) _
 
-pub write-most : (operand : List ℕ) (s : State) (w : Doubleword) → length (writeOne operand s w .records) ≤ length (w .answers)
+write-most : (operand : List ℕ) (s : State) (w : Doubleword) → length (writeOne operand s w .records) ≤ length (w .answers)
 unfolding writeOne
 write-most operand s w = sent-most _ _ (s .memory) (s .array) operand w
 
--- of an access
-pub all-most : (one : State → Doubleword → Done) → ((s : State) (w : Doubleword) → length (one s w .records) ≤ length (w .answers)) →
-    (g : ℕ) (xs : List ℕ) (a n place : ℕ) (s : State) → length (allOf one s (doublewordsOf g xs a n place) .records) ≤ groupSize * g
-unfolding doublewordsOf allOf
-all-most one each zero xs a n place s = omega arith
-all-most one each (suc g) xs a zero place s = omega arith
-all-most one each (suc g) xs a (suc n) place s =
-    let k = min (suc n) (4 - a % 4) in
-    let w : Doubleword = record { line = a / 16 * 16; wanted = run (byteOf a) k; place = place; answers = take groupSize xs } in
-    let h : length (one s w .records) ≤ length (take 16 xs) = each s w in
-    let t : length (take 16 xs) ≡ min 16 (length xs) = length-take 16 xs in
-    let rest = allOf one (next s w (one s w)) (doublewordsOf g (drop 16 xs) (a + k) (suc n - k) (place + k)) in
-    let r : length (rest .records) ≤ groupSize * g = all-most one each g (drop 16 xs) (a + k) (suc n - k) (place + k) (next s w (one s w)) in
-    rw (length-append (one s w .records) (rest .records)) (omega arith)
+-- of an access: its doublewords one after the other, in states of a read or of a write
+module _ {S : Type 0} (one : S → Doubleword → Done) (most : (s : S) (w : Doubleword) → length (one s w .records) ≤ length (w .answers)) (rest : S → Doubleword → S)
+    (all : S → List Doubleword → List Record) (none : (s : S) → all s [] ≡ []) (parted : (s : S) (w : Doubleword) (ws : List Doubleword) → all s (w ∷ ws) ≡ one s w .records ++ all (rest s w) ws) where
+  each-most : (g : ℕ) (xs : List ℕ) (a n place : ℕ) (s : S) → length (all s (doublewordsOf g xs a n place)) ≤ groupSize * g
+  unfolding doublewordsOf
+  each-most zero xs a n place s = rw (none s) (omega arith)
+  each-most (suc g) xs a zero place s = rw (none s) (omega arith)
+  each-most (suc g) xs a (suc n) place s =
+      let k = min (suc n) (4 - a % 4) in
+      let w : Doubleword = record { line = a / 16 * 16; wanted = run (byteOf a) k; place = place; answers = take groupSize xs } in
+      let ws = doublewordsOf g (drop 16 xs) (a + k) (suc n - k) (place + k) in
+      let h : length (one s w .records) ≤ length (take 16 xs) = most s w in
+      let t : length (take 16 xs) ≡ min 16 (length xs) = length-take 16 xs in
+      let r : length (all (rest s w) ws) ≤ groupSize * g = each-most g (drop 16 xs) (a + k) (suc n - k) (place + k) (rest s w) in
+      rw (parted s w ws, length-append (one s w .records) (all (rest s w) ws)) (omega arith)
+
+pub reads-most : (pcd : Bool) (g : ℕ) (xs : List ℕ) (a n place : ℕ) (u : UnderWay) → length (readEach pcd u (doublewordsOf g xs a n place) .records) ≤ groupSize * g
+unfolding readEach
+reads-most pcd = each-most (readOne pcd) (read-most pcd) (λ u w. readNext u w (readOne pcd u w)) (λ u ws. readEach pcd u ws .records) (λ u. refl) (λ u w ws. refl)
+
+pub writes-most : (operand : List ℕ) (g : ℕ) (xs : List ℕ) (a n place : ℕ) (s : State) → length (allOf (writeOne operand) s (doublewordsOf g xs a n place) .records) ≤ groupSize * g
+unfolding allOf
+writes-most operand = each-most (writeOne operand) (write-most operand) (λ s w. next s w (writeOne operand s w)) (λ s ws. allOf (writeOne operand) s ws .records) (λ s. refl) (λ s w ws. refl)
 
 -- an accepted access leaves each of its records in the log
 pub records-there : (log : List ℕ) (rs : List Record) (n : ℕ) → length rs ≤ n → 3 * n ≤ length log → 3 * length rs ≤ length (logged log 0 rs)
 records-there log rs n h l = rw (length-sets log 0 (wordsOf rs)) (omega arith)
+
+-- and those that it leaves are these
+words-left : (rs : List Record) (log : List ℕ) (i : ℕ) → ((j : ℕ) → j < length (wordsOf rs) → getD log (i + j) 0 ≡ getD (wordsOf rs) j 0) → recordsFrom log i (length rs) ≡ rs
+unfolding recordsFrom wordsOf
+words-left [] log i h = refl
+words-left (r ∷ rs) log i h =
+    let a : getD log i 0 ≡ r .address = let z : i + 0 ≡ i = omega arith in rw z at (h 0 (omega arith)) in
+    let b : getD log (i + 1) 0 ≡ r .flags = h 1 (omega arith) in
+    let c : getD log (i + 2) 0 ≡ r .word = h 2 (omega arith) in
+    rw (a, b, c, words-left rs log (i + 3) (λ j l. let z : i + suc (suc (suc j)) ≡ i + 3 + j = omega arith in rw z at (h (suc (suc (suc j))) (omega arith))))
+
+pub records-left : (log : List ℕ) (rs : List Record) → 3 * length rs ≤ length log → recordsFrom (logged log 0 rs) 0 (length rs) ≡ rs
+records-left log rs l =
+    words-left rs (logged log 0 rs) 0 (λ j k. let n = words-length rs in sets-in log 0 (wordsOf rs) j k (omega arith))
 
 -- a call that counts no cycle leaves none
 pub none-counted : (a : After) → a .outcome .cycles ≡ 0 → NoParityError a

@@ -14,6 +14,7 @@ use Rattle.bus.specs.Bus.{Run, run, sizeOf, wantedAfter, Cycle, cyclesOf}
 use Rattle.bus.specs.Record.{Record, flagsOf, readRecord, writeRecord, writeKind, wordsOf, logged}
 use Rattle.bus.proofs.Sizing.{size-some, size-most}
 use Rattle.words.proofs.Places.{sets-in}
+use Rattle.reading.specs.Reading.{recordsOf}
 use Rattle.cycles.proofs.Brought.{OneDoubleword, Each, left-each}
 use Rattle.calls.proofs.Memories.{never-wrong}
 
@@ -59,12 +60,18 @@ no-error-flags : (lane n kind : ℕ) → kind ≤ 32 → lane + n ≤ 4 → (las
 unfolding flagsOf
 no-error-flags lane n kind k h last = omega (arith, lanes-below lane n h, cond-most last)
 
-pub no-error-reads : (kind : ℕ) → kind ≤ 32 → (m : Memory) → Agrees m → (line : ℕ) → line + 16 ≤ length (m .ram) → (cs : List Cycle) → EachCycle cs → NoParityErrors (map (readRecord kind m line) cs)
-unfolding readRecord
-no-error-reads kind k m a line l =
-    no-error-map (readRecord kind m line) λ c g.
-    rw (never-wrong m a (line + c .moved .from) (c .moved .count) (omega (arith, g .line)))
-    (no-error-flags (c .moved .from % 4) (c .moved .count) kind k (g .lanes) (c .last))
+-- of read cycles, by memory as it is at each of them
+pub no-error-reads : (kind : ℕ) → kind ≤ 32 → (at : ℕ → Memory) → ((k : ℕ) → Agrees (at k)) → (line : ℕ) → ((k : ℕ) → line + 16 ≤ length (at k .ram)) →
+    (cs : List Cycle) → EachCycle cs → (n : ℕ) → NoParityErrors (recordsOf kind at line n cs)
+unfolding recordsOf readRecord
+no-error-reads kind q at a line l [] g n = tt
+no-error-reads kind q at a line l (c ∷ cs) g n =
+    let w = g .0 in
+    let i = l n in (
+      rw (never-wrong (at n) (a n) (line + c .moved .from) (c .moved .count) (omega (arith, w .line)))
+          (no-error-flags (c .moved .from % 4) (c .moved .count) kind q (w .lanes) (c .last)),
+      no-error-reads kind q at a line l cs (g .1) (suc n),
+    )
 
 pub no-error-writes : (buffer : List ℕ) (line : ℕ) (cs : List Cycle) → EachCycle cs → NoParityErrors (map (writeRecord buffer line) cs)
 unfolding writeRecord

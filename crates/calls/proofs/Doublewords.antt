@@ -1,9 +1,9 @@
 -- The doublewords of an access: each is proper, and together they are the access's bytes.
-use Prim.Native.Nat.{ℕ, zero, suc, _+_, _*_, _-_, _/_, _%_, _≤_, min}
+use Prim.Native.Nat.{ℕ, zero, suc, _+_, _*_, _-_, _/_, _%_, _≤_, _<_, min}
 use mathlib.Core.Path.{_≡_, refl, sym, _∙_, ap}
 use mathlib.Core.List.{List, [], _∷_, _++_}
 use native.Mathlib.Omega.{arith}
-use lib.ListN.{length, drop, length-take, length-drop}
+use lib.ListN.{length, getD, drop, length-take, length-drop}
 use lib.Seq.{sets}
 use Rattle.laws.proofs.Lists.{sets-append}
 use Rattle.words.specs.Bytes.{bytesAt}
@@ -17,6 +17,7 @@ use Rattle.words.proofs.Spans.{bytes-split}
 use Rattle.cycles.proofs.Brought.{OneDoubleword}
 use Rattle.cycles.proofs.Stored.{wanted-stored}
 use Rattle.refusal.proofs.Accepted.{GoodArguments}
+use Rattle.calls.specs.Plain.{bytesBy}
 
 -- a doubleword of an accepted access, in a memory of so many bytes
 pub record Proper (size : ℕ) (w : Doubleword) : Type 0 where
@@ -29,16 +30,17 @@ abbrev pub EachProper : ℕ → List Doubleword → Type 0
 EachProper size [] = Unit {0}
 EachProper size (w ∷ ws) = Proper size w × EachProper size ws
 
--- the bytes of memory that a doubleword wants, and those of an operand that it is given
-abbrev pub wantedBytes : List ℕ → Doubleword → List ℕ
-wantedBytes m w = bytesAt m (w .line + w .wanted .from) (w .wanted .count)
+-- its address, and the bytes of an operand that it is given
+abbrev pub ownAddress : Doubleword → ℕ
+ownAddress w = w .line + w .wanted .from / 4 * 4
 
 abbrev pub givenOf : List ℕ → Doubleword → List ℕ
 givenOf operand w = bytesAt operand (w .place) (w .wanted .count)
 
-abbrev pub allWanted : List ℕ → List Doubleword → List ℕ
-allWanted m [] = []
-allWanted m (w ∷ ws) = wantedBytes m w ++ allWanted m ws
+-- the wanted bytes of doublewords, each by the same rule
+abbrev pub allBy : (ℕ → ℕ) → List Doubleword → List ℕ
+allBy byte [] = []
+allBy byte (w ∷ ws) = bytesBy byte (w .line + w .wanted .from) (w .wanted .count) ++ allBy byte ws
 
 -- memory with what doublewords are given
 abbrev pub memoryWritten : List ℕ → List ℕ → Doubleword → List ℕ
@@ -47,6 +49,10 @@ memoryWritten operand m w = sets m (w .line + w .wanted .from) (givenOf operand 
 abbrev pub allWritten : List ℕ → List ℕ → List Doubleword → List ℕ
 allWritten operand m [] = m
 allWritten operand m (w ∷ ws) = allWritten operand (memoryWritten operand m w) ws
+
+-- the address of each of its bytes
+pub in-own : (size : ℕ) (w : Doubleword) → Proper size w → (o : ℕ) → o < w .wanted .count → (w .line + w .wanted .from + o) / 4 * 4 ≡ ownAddress w
+in-own size w p o l = let a = p .aligned in let b = p .within .lanes in omega arith
 
 -- what a doubleword is given lies in its line, and write cycles store just that
 module _ (operand : List ℕ) (size : ℕ) (w : Doubleword) (ok : Proper size w) where
@@ -84,15 +90,83 @@ pub access-proper : (size a w : ℕ) (xs : List ℕ) (log : ℕ) → GoodArgumen
 access-proper size a w xs log k whole =
     doublewords-proper groupCount xs a w 0 size (k .served) (omega (arith, k .four)) (k .inside) whole
 
-pub doublewords-wanted : (g : ℕ) (m xs : List ℕ) (a n place : ℕ) → n ≤ 4 * g - a % 4 → allWanted m (doublewordsOf g xs a n place) ≡ bytesAt m a n
-unfolding doublewordsOf bytesAt
-doublewords-wanted zero m xs a n place b = let e : n ≡ 0 = omega arith in rw e
-doublewords-wanted (suc g) m xs a zero place b = refl
-doublewords-wanted (suc g) m xs a (suc n) place b =
+-- bytes by a rule, parted, and by two rules that agree on them
+bytes-by-split : (byte : ℕ → ℕ) (a m n : ℕ) → bytesBy byte a (m + n) ≡ bytesBy byte a m ++ bytesBy byte (a + m) n
+unfolding bytesBy
+bytes-by-split byte a zero n = let e : a + 0 ≡ a = omega arith in let f : 0 + n ≡ n = omega arith in rw (e, f)
+bytes-by-split byte a (suc m) n =
+    let e : a + suc m ≡ suc a + m = omega arith in
+    let f : suc m + n ≡ suc (m + n) = omega arith in
+    rw (e, f, bytes-by-split byte (suc a) m n)
+
+pub bytes-by-same : (f g : ℕ → ℕ) (a n : ℕ) → ((o : ℕ) → o < n → f (a + o) ≡ g (a + o)) → bytesBy f a n ≡ bytesBy g a n
+unfolding bytesBy
+bytes-by-same f g a zero h = refl
+bytes-by-same f g a (suc n) h =
+    let e : f a ≡ g a = let z : a + 0 ≡ a = omega arith in rw z at (h 0 (omega arith)) in
+    rw (e, bytes-by-same f g (suc a) n (λ o l. let z : a + suc o ≡ suc a + o = omega arith in rw z at (h (suc o) (omega arith))))
+
+pub bytes-by-at : (l : List ℕ) (f : ℕ → ℕ) (i a n : ℕ) → ((o : ℕ) → o < n → getD l (i + o) 0 ≡ f (a + o)) → bytesAt l i n ≡ bytesBy f a n
+unfolding bytesBy bytesAt
+bytes-by-at l f i a zero h = refl
+bytes-by-at l f i a (suc n) h =
+    let e : getD l i 0 ≡ f a = let y : i + 0 ≡ i = omega arith in let z : a + 0 ≡ a = omega arith in rw (y, z) at (h 0 (omega arith)) in
+    rw (
+      e,
+      bytes-by-at l f (suc i) (suc a) n (λ o k.
+          let y : i + suc o ≡ suc i + o = omega arith in
+          let z : a + suc o ≡ suc a + o = omega arith in
+          rw (y, z) at (h (suc o) (omega arith))),
+    )
+
+-- those of an access are its bytes
+pub doublewords-by : (g : ℕ) (byte : ℕ → ℕ) (xs : List ℕ) (a n place : ℕ) → n ≤ 4 * g - a % 4 → allBy byte (doublewordsOf g xs a n place) ≡ bytesBy byte a n
+unfolding doublewordsOf bytesBy
+doublewords-by zero byte xs a n place b = let e : n ≡ 0 = omega arith in rw e
+doublewords-by (suc g) byte xs a zero place b = refl
+doublewords-by (suc g) byte xs a (suc n) place b =
     let k = min (suc n) (4 - a % 4) in
     let e : a / 16 * 16 + a % 16 ≡ a = omega arith in
     let f : k + (suc n - k) ≡ suc n = omega arith in
-    rw (e, doublewords-wanted g m (drop 16 xs) (a + k) (suc n - k) (place + k) (omega arith)) (rw f at (sym (bytes-split m a k (suc n - k))))
+    rw (e, doublewords-by g byte (drop 16 xs) (a + k) (suc n - k) (place + k) (omega arith)) (rw f at (sym (bytes-by-split byte a k (suc n - k))))
+
+-- they come in ascending order
+abbrev pub Above : ℕ → List Doubleword → Type 0
+Above a [] = Unit {0}
+Above a (w ∷ ws) = (a < ownAddress w) × Above a ws
+
+abbrev pub Ascending : List Doubleword → Type 0
+Ascending [] = Unit {0}
+Ascending (w ∷ ws) = Above (ownAddress w) ws × Ascending ws
+
+in-doubleword : (a : ℕ) → a / 16 * 16 + a % 16 / 4 * 4 ≡ a / 4 * 4
+in-doubleword a = omega arith
+
+doublewords-above : (g : ℕ) (xs : List ℕ) (a n place d : ℕ) → (1 ≤ n → d < a / 4 * 4) → Above d (doublewordsOf g xs a n place)
+unfolding doublewordsOf
+doublewords-above zero xs a n place d h = tt
+doublewords-above (suc g) xs a zero place d h = tt
+doublewords-above (suc g) xs a (suc n) place d h =
+    let k = min (suc n) (4 - a % 4) in
+    let l : d < a / 4 * 4 = h (omega arith) in
+    (rw (in-doubleword a) l, doublewords-above g (drop 16 xs) (a + k) (suc n - k) (place + k) d (λ i. omega arith))
+
+pub doublewords-ascending : (g : ℕ) (xs : List ℕ) (a n place : ℕ) → Ascending (doublewordsOf g xs a n place)
+unfolding doublewordsOf
+doublewords-ascending zero xs a n place = tt
+doublewords-ascending (suc g) xs a zero place = tt
+doublewords-ascending (suc g) xs a (suc n) place =
+    let k = min (suc n) (4 - a % 4) in (
+      rw (in-doubleword a) (doublewords-above g (drop 16 xs) (a + k) (suc n - k) (place + k) (a / 4 * 4) (λ i. omega arith)),
+      doublewords-ascending g (drop 16 xs) (a + k) (suc n - k) (place + k),
+    )
+
+-- two rules that agree above a doubleword agree on doublewords above it
+pub above-same : (f g : ℕ → ℕ) (size d : ℕ) → ((x : ℕ) → d < x / 4 * 4 → f x ≡ g x) → (ws : List Doubleword) → EachProper size ws → Above d ws → allBy f ws ≡ allBy g ws
+above-same f g size d h [] p a = refl
+above-same f g size d h (w ∷ ws) p a =
+    let e = in-own size w (p .0) in
+    rw (bytes-by-same f g (w .line + w .wanted .from) (w .wanted .count) (λ o l. h (w .line + w .wanted .from + o) (rw (e o l) (a .0))), above-same f g size d h ws (p .1) (a .1))
 
 pub doublewords-written : (g : ℕ) (operand m xs : List ℕ) (a n place : ℕ) → n ≤ 4 * g - a % 4 → allWritten operand m (doublewordsOf g xs a n place) ≡ sets m a (bytesAt operand place n)
 unfolding doublewordsOf bytesAt

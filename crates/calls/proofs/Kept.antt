@@ -18,14 +18,17 @@ use Rattle.directory.proofs.Laws.{lookup-at, reset-control, reset-limits, use-c
 use Rattle.words.specs.Bytes.{bytesAt}
 use Rattle.memory.specs.Parity.{Agrees, stored}
 use Rattle.memory.proofs.Bits.{stored-lengths}
+use Rattle.carried.specs.Carried.{Carried, due, later, landed}
+use Rattle.carried.proofs.Due.{due-zero, due-none}
 use Rattle.bus.specs.Groups.{groupCount}
 use Rattle.doubleword.specs.Doubleword.{Doubleword, Done, doublewordsOf, changed}
 use Rattle.reading.specs.Reading.{keptChange, keptArray, readHit, readMiss, settled, readDone}
 use Rattle.writing.specs.Writing.{writeThrough, hitArray, writeDone}
-use Rattle.refusal.specs.Refusal.{orElse, lentNumber, argumentNumber, memoryNumber, externalNumber}
-use Rattle.refusal.proofs.Accepted.{or-zero, GoodMemory, arguments-accepted, external-accepted}
+use Rattle.refusal.specs.Refusal.{orElse, lentNumber, argumentNumber, carriedNumber, memoryNumber, externalNumber}
+use Rattle.refusal.proofs.Accepted.{or-zero, GoodMemory, GoodExternal, arguments-accepted, external-accepted}
 use Rattle.refusal.specs.Call.{State, state, nextState}
-use Rattle.access.specs.Access.{operandOf, readNumber, writeNumber, readOne, writeOne, next, allOf, readAll, writeAll}
+use Rattle.access.specs.Access.{operandOf, readNumber, writeNumber, writeOne, next, allOf, UnderWay, underWay, snoopedBy, directoryAfter, readOne, readNext, landedAfter, readEach, readAll, writeAll}
+use Rattle.access.proofs.Landing.{landedOne, none-snooped}
 use Rattle.access.proofs.Calls.{read-refused, read-done, write-refused, write-done}
 use Rattle.masters.specs.Masters.{externalWriteNumber}
 use Rattle.masters.proofs.External.{external-refused, external-done}
@@ -33,6 +36,7 @@ use Rattle.diagnostics.specs.Diagnostics.{testWriteNumber}
 use Rattle.diagnostics.proofs.Laws.{test-write-done, test-write-refused, test-write-place}
 use Rattle.calls.specs.Calls.{Call, read, write, external, snoop, flush, control, view, reset, testWrite, testRead, step}
 use Rattle.calls.proofs.Memories.{stored-agrees}
+use Rattle.calls.proofs.Carrying.{EachGood, carried-accepted, due-good, later-good}
 use Rattle.calls.proofs.Doublewords.{Proper, EachProper, givenOf, given-inside, given-stored, access-proper}
 
 -- directory and buffers have document 01's lengths, tags and LRU numbers are within their limits, NW = 1 only with CD = 1, parity agrees
@@ -72,6 +76,16 @@ module _ (s : State) (k : Kept s) where
         agrees = stored-agrees (s .memory) a x fits (omega (arith, k .lent .whole, k .lent .bits)) (k .agrees);
       }
 
+module _ (s : State) (k : Kept s) where
+  -- a snoop, and an external write that 10 does not refuse
+  snooped-kept : (a : ℕ) → Kept (state (afterSnoop (s .directory) a) (s .memory) (s .array))
+  snooped-kept a =
+      let d = s .directory in
+      kept-with s k (afterSnoop d a) (snoop-limits d (k .limits) a) (snoop-control d (k .limits .sized) a) (s .array) refl
+
+  pub landed-kept : (w : Carried) → GoodExternal (length (s .memory .ram)) (w .address) (length (w .bytes)) → Kept (landedOne s w)
+  landed-kept w g = kept-stored (state (afterSnoop (s .directory) (w .address)) (s .memory) (s .array)) (snooped-kept (w .address)) (w .address) (w .bytes) (g .inside)
+
 -- A DOUBLEWORD
 
 -- the same with so many bytes of RAM, in which the doublewords of an access lie
@@ -93,25 +107,20 @@ module _ (size : ℕ) (s : State) (k : KeptIn size s) (w : Doubleword) (ok : Pro
       let r = setOf (w .line) in
       changed-kept (afterUse d r way) (use-limits d (k .kept .limits) r way (omega arith) (lookup-at d (w .line) way e .0)) (use-control d r way)
 
-  abbrev victim : ℕ
-  victim = victimOf d (setOf (w .line))
-
-  read-found : (mayFill : Bool) (f : Found) → lookupOf d (w .line) ≡ f → KeptIn size (next s w (readDone f victim mayFill (s .memory) (s .array) w))
-  unfolding readDone readHit settled changed
-  read-found mayFill (At way) e = used-kept way e (s .array) refl
-  read-found mayFill Nothing e =
-      let missed = readMiss mayFill (s .memory) w in
-      by-test (λ b. KeptIn size (state (changed d (w .line) (keptChange b victim)) (s .memory) (keptArray b victim (w .line) (missed .buffer) (s .array)))) (missed .kept)
+  -- the end of a miss
+  settled-kept : (kept : Bool) (buffer : List ℕ) →
+      let victim = victimOf d (setOf (w .line)) in
+      KeptIn size (state (changed d (w .line) (keptChange kept victim)) (s .memory) (keptArray kept victim (w .line) buffer (s .array)))
+  unfolding changed
+  settled-kept kept buffer =
+      let victim = victimOf d (setOf (w .line)) in
+      by-test (λ b. KeptIn size (state (changed d (w .line) (keptChange b victim)) (s .memory) (keptArray b victim (w .line) buffer (s .array)))) kept
       (λ _.
       changed-kept _
       (fill-address-limits d (w .line) victim (victim-below (d .valid) (d .lru) (setOf (w .line))) (k .kept .limits) (omega (arith, ok .inside, k .ramLength, k .kept .lent .most)))
       (fill-control d (setOf (w .line)) victim (tagOf (w .line)))
-      _ (length-sets (s .array) (dataOffset (w .line) victim) (bytesAt (missed .buffer) 0 16)))
+      _ (length-sets (s .array) (dataOffset (w .line) victim) (bytesAt buffer 0 16)))
       (λ _. k)
-
-  pub read-one-kept : (pcd : Bool) → KeptIn size (next s w (readOne pcd s w))
-  unfolding readOne
-  read-one-kept pcd = read-found _ (lookupOf d (w .line)) refl
 
   module _ (operand : List ℕ) where
     hit-kept : (way : ℕ) → lookupOf d (w .line) ≡ At way → KeptIn size (state (afterUse d (setOf (w .line)) way) (s .memory) (hitArray way (s .array) operand w))
@@ -141,6 +150,60 @@ module _ (size : ℕ) (s : State) (k : KeptIn size s) (w : Doubleword) (ok : Pro
     unfolding writeOne
     write-one-kept = write-found (lookupOf d (w .line)) refl
 
+-- A READ UNDER WAY
+
+-- the same, with writes that 10 does not refuse and of which none is due
+pub record UnderKept (size : ℕ) (u : UnderWay) : Type 0 where
+  pub unit : KeptIn size (u .unit)
+  pub good : EachGood size (u .writes)
+  pub quiet : due (u .cycle) (u .writes) ≡ []
+
+pub landing-kept : (size n : ℕ) (ws : List Carried) (s : State) → KeptIn size s → EachGood size ws → KeptIn size (landedAfter (underWay s ws n))
+unfolding landedAfter snoopedBy landed
+landing-kept size n [] s k g = k
+landing-kept size n (w ∷ ws) s k g =
+    let e = k .ramLength in
+    landing-kept size n ws (landedOne s w)
+    (record {
+      kept = landed-kept s (k .kept) w (rw e (g .0));
+      ramLength = stored-lengths (s .memory) (w .address) (w .bytes) .0 ∙ e;
+    })
+    (g .1)
+
+module _ (size : ℕ) (u : UnderWay) (k : UnderKept size u) where
+  -- what lands during so many cycles
+  abbrev pub landedDuring : ℕ → State
+  landedDuring n = landedAfter (underWay (u .unit) (due (u .cycle + n) (u .writes)) n)
+
+  pub during-kept : (n : ℕ) → KeptIn size (landedDuring n)
+  during-kept n = landing-kept size n (due (u .cycle + n) (u .writes)) (u .unit) (k .unit) (due-good size (u .cycle + n) (u .writes) (k .good))
+
+  module _ (w : Doubleword) (ok : Proper size w) where
+    read-found : (mayFill : Bool) (f : Found) → lookupOf (u .unit .directory) (w .line) ≡ f →
+        let n = length (readMiss mayFill (u .unit .memory) (u .writes) (u .cycle) w .records) in
+        KeptIn size (readNext u w (readDone f (victimOf (directoryAfter u n) (setOf (w .line))) mayFill (u .unit .memory) (u .writes) (u .cycle) (u .unit .array) w) .unit)
+    unfolding readDone readHit settled changed landedAfter
+    read-found mayFill (At way) e = rw (none-snooped u (k .quiet)) (used-kept size (u .unit) (k .unit) w ok way e (u .unit .array) refl)
+    read-found mayFill Nothing e =
+        let missed = readMiss mayFill (u .unit .memory) (u .writes) (u .cycle) w in
+        let n = length (missed .records) in
+        settled-kept size (landedDuring n) (during-kept n) w ok (missed .kept) (missed .buffer)
+
+    pub read-one-kept : (pcd : Bool) → UnderKept size (readNext u w (readOne pcd u w))
+    unfolding readOne
+    read-one-kept pcd =
+        record {
+          unit = read-found _ (lookupOf (u .unit .directory) (w .line)) refl;
+          good = later-good size _ (u .writes) (k .good);
+          quiet = due-none _ (u .writes);
+        }
+
+-- all its doublewords
+each-kept : (size : ℕ) (pcd : Bool) (ws : List Doubleword) (u : UnderWay) → UnderKept size u → EachProper size ws → KeptIn size (readEach pcd u ws .state)
+unfolding readEach
+each-kept size pcd [] u k g = landing-kept size (u .cycle) (u .writes) (u .unit) (k .unit) (k .good)
+each-kept size pcd (w ∷ ws) u k g = each-kept size pcd ws (readNext u w (readOne pcd u w)) (read-one-kept size u k w (g .0) pcd) (g .1)
+
 -- A CALL
 
 all-kept : (size : ℕ) (one : State → Doubleword → Done) → ((s : State) → KeptIn size s → (w : Doubleword) → Proper size w → KeptIn size (next s w (one s w))) →
@@ -164,12 +227,22 @@ module _ (s : State) (k : Kept s) where
       let q = or-zero (argumentNumber size a w xs (length log)) later (or-zero (lentNumber size _ _) _ z .1) in
       access-proper size a w xs (length log) (arguments-accepted size a w xs (length log) (q .0)) (k .lent .whole)
 
-  read-kept : (a w : ℕ) (pcd : Bool) (xs log : List ℕ) → Kept (nextState (step s (read a w pcd xs log)))
+  -- the writes that a read carries which is not refused
+  carries : (a w : ℕ) (xs log : List ℕ) (ws : List Carried) → readNumber s a w xs log ws ≡ 0 → EachGood size ws
+  unfolding readNumber
+  carries a w xs log ws z =
+      let p = or-zero (lentNumber size _ _) _ z .1 in
+      let q = or-zero (argumentNumber size a w xs (length log)) _ p .1 in
+      carried-accepted size ws (or-zero (carriedNumber size ws) _ q .0) .0
+
+  read-kept : (a w : ℕ) (pcd : Bool) (xs log : List ℕ) (ws : List Carried) → Kept (nextState (step s (read a w pcd xs log ws)))
   unfolding step readNumber readAll
-  read-kept a w pcd xs log =
-      same-or _ (readNumber s a w xs log) 0
-      (λ z. rw (read-done s a w pcd xs log z) (all-kept size (readOne pcd) (λ t kt u ok. read-one-kept size t kt u ok pcd) (doublewordsOf groupCount xs a w 0) s here (proper a w xs log _ z) .kept))
-      (λ h. rw (read-refused s a w pcd xs log h) k)
+  read-kept a w pcd xs log ws =
+      same-or _ (readNumber s a w xs log ws) 0
+      (λ z.
+      let u : UnderKept size (underWay s ws 0) = record { unit = here; good = carries a w xs log ws z; quiet = due-zero ws } in
+      rw (read-done s a w pcd xs log ws z) (each-kept size pcd (doublewordsOf groupCount xs a w 0) (underWay s ws 0) u (proper a w xs log _ z) .kept))
+      (λ h. rw (read-refused s a w pcd xs log ws h) k)
 
   write-kept : (a w v : ℕ) (xs log : List ℕ) → Kept (nextState (step s (write a w v xs log)))
   unfolding step writeNumber writeAll
@@ -178,25 +251,20 @@ module _ (s : State) (k : Kept s) where
       (λ z. rw (write-done s a w v xs log z) (all-kept size (writeOne (operandOf v)) (λ t kt u ok. write-one-kept size t kt u ok (operandOf v)) (doublewordsOf groupCount xs a w 0) s here (proper a w xs log _ z) .kept))
       (λ h. rw (write-refused s a w v xs log h) k)
 
-  snooped-kept : (a : ℕ) → Kept (state (afterSnoop (s .directory) a) (s .memory) (s .array))
-  snooped-kept a =
-      let d = s .directory in
-      kept-with s k (afterSnoop d a) (snoop-limits d (k .limits) a) (snoop-control d (k .limits .sized) a) (s .array) refl
-
   external-kept : (a : ℕ) (x : List ℕ) → Kept (nextState (step s (external a x)))
   unfolding step externalWriteNumber
   external-kept a x =
       same-or _ (externalWriteNumber (s .directory) (s .memory) a x) 0
       (λ z.
       let own = or-zero (externalNumber size a (length x)) _ (or-zero (memoryNumber size (length (s .memory .parity))) _ z .1) .0 in
-      rw (external-done s a x z) (kept-stored _ (snooped-kept a) a x (external-accepted size a (length x) own .inside)))
+      rw (external-done s a x z) (kept-stored _ (snooped-kept s k a) a x (external-accepted size a (length x) own .inside)))
       (λ h. rw (external-refused s a x _ refl h) k)
 
   snoop-kept : (a : ℕ) → Kept (nextState (step s (snoop a)))
   unfolding step
   snoop-kept a =
       same-or _ (stateNumberOf (s .directory) (setOf a)) 0
-      (λ z. rw (snoop-accepted (s .directory) a z) (snooped-kept a))
+      (λ z. rw (snoop-accepted (s .directory) a z) (snooped-kept s k a))
       (λ h. rw (snoop-refused (s .directory) a h) k)
 
   control-kept : (cd nw : Bool) → Kept (nextState (step s (control cd nw)))
@@ -221,7 +289,7 @@ module _ (s : State) (k : Kept s) where
 -- every call, refused or done
 pub call-kept : (s : State) → Kept s → (c : Call) → Kept (nextState (step s c))
 unfolding step
-call-kept s k (read a w pcd xs log) = read-kept s k a w pcd xs log
+call-kept s k (read a w pcd xs log ws) = read-kept s k a w pcd xs log ws
 call-kept s k (write a w v xs log) = write-kept s k a w v xs log
 call-kept s k (external a x) = external-kept s k a x
 call-kept s k (snoop a) = snoop-kept s k a

@@ -3,7 +3,7 @@ use Prim.Native.Nat.{ℕ, _+_, _-_, _/_, _%_, _^_, _≤_}
 use mathlib.Core.Path.{_≡_, refl, sym, _∙_, ap}
 use mathlib.Core.Bool.{Bool, true, false, cond, not, _&&_, _||_}
 use mathlib.Core.List.{List, [], _∷_}
-use mathlib.Core.Logic.{inl, inr}
+use mathlib.Core.Logic.{_⊎_, ⊎-elim}
 use native.Mathlib.Omega.{arith}
 use lib.Dec.{eqb, ltb}
 use lib.ListN.{length}
@@ -12,18 +12,19 @@ use Rattle.laws.proofs.Tests.{same-or}
 use Rattle.ways.specs.Address.{setOf}
 use Rattle.directory.specs.Steps.{stateNumberOf, controlRefused}
 use Rattle.directory.proofs.SetState.{well-formed-zero}
+use Rattle.carried.specs.Carried.{Carried}
 use Rattle.refusal.specs.Call.{State}
 use Rattle.access.specs.Access.{readNumber, writeNumber}
 use Rattle.masters.specs.Masters.{externalWriteNumber}
 use Rattle.bus.specs.Groups.{badWidth}
-use Rattle.refusal.specs.Refusal.{when, orElse, anyAbove, ramNumber, memoryNumber, arrayNumber, lentNumber, badAnswers, argumentNumber, valueNumber, externalNumber, viewAddressNumber, viewInputNumber, statesNumberIn, statesNumberOf}
+use Rattle.refusal.specs.Refusal.{when, orElse, anyAbove, ramNumber, memoryNumber, arrayNumber, lentNumber, badAnswers, argumentNumber, valueNumber, externalNumber, viewAddressNumber, viewInputNumber, inOrder, anyRefused, carriedNumber, statesNumberIn, statesNumberOf, carriedStatesNumber}
 use Rattle.refusal.proofs.Accepted.{zero-or, first-or, GoodMemory}
 use Rattle.views.specs.View.{viewNumberIn}
 use Rattle.diagnostics.specs.Diagnostics.{testNumber, testWriteNumber}
 use Rattle.diagnostics.proofs.Laws.{test-write-done, test-write-refused, test-number-arises, test-read-number}
 use Rattle.calls.specs.Calls.{Call, read, write, external, snoop, flush, control, view, reset, testWrite, testRead, step, viewNumberOf}
-use Rattle.calls.specs.Plain.{someAbove, plainNumber}
-use Rattle.calls.specs.Matches.{ZeroOr}
+use Rattle.calls.specs.Plain.{someAbove, outOfOrder, someRefused, plainNumber}
+use Rattle.calls.specs.Matches.{testWriting, testReading, reading, other, kindOf, numbersOf, oneOf, Arises}
 use Rattle.calls.proofs.Kept.{Kept}
 use Rattle.calls.proofs.Coherence.{Coherent}
 
@@ -56,12 +57,19 @@ module _ (s : State) (m : List ℕ) (c : Coherent s m) where
   unfolding statesNumberIn
   states-clear a n = zero-or (stateNumberOf (s .directory) (setOf a)) _ (state-zero a) ∙ state-zero (a + n - 1)
 
-  pub read-number : (a w : ℕ) (xs log : List ℕ) → readNumber s a w xs log ≡ argumentNumber (length m) a w xs (length log)
+  carried-clear : (ws : List Carried) → carriedStatesNumber (s .directory) ws ≡ 0
+  unfolding carriedStatesNumber
+  carried-clear [] = refl
+  carried-clear (w ∷ ws) = zero-or (statesNumberOf (s .directory) (w .address) (length (w .bytes))) _ (states-clear (w .address) (length (w .bytes))) ∙ carried-clear ws
+
+  pub read-number : (a w : ℕ) (xs log : List ℕ) (ws : List Carried) →
+      readNumber s a w xs log ws ≡ orElse (argumentNumber (length m) a w xs (length log)) (carriedNumber (length m) ws)
   unfolding readNumber
-  read-number a w xs log =
+  read-number a w xs log ws =
+      let states = zero-or (statesNumberOf (s .directory) a w) (carriedStatesNumber (s .directory) ws) (states-clear a w) ∙ carried-clear ws in
       zero-or (lentNumber (length (s .memory .ram)) (length (s .memory .parity)) (length (s .array))) _ (lent-clear _ _ (c .kept .lent) _ (c .kept .arrayLength))
-      ∙ or-nothing (argumentNumber (length (s .memory .ram)) a w xs (length log)) _ (states-clear a w)
-      ∙ ap (λ (l : List ℕ). argumentNumber (length l) a w xs (length log)) (c .beside .rams)
+      ∙ ap (orElse (argumentNumber (length (s .memory .ram)) a w xs (length log))) (or-nothing (carriedNumber (length (s .memory .ram)) ws) _ states)
+      ∙ ap (λ (l : List ℕ). orElse (argumentNumber (length l) a w xs (length log)) (carriedNumber (length l) ws)) (c .beside .rams)
 
   pub write-number : (a w v : ℕ) (xs log : List ℕ) → writeNumber s a w v xs log ≡ orElse (argumentNumber (length m) a w xs (length log)) (valueNumber w v)
   unfolding writeNumber
@@ -106,12 +114,37 @@ first-met false false true d later = refl
 first-met false false false true later = refl
 first-met false false false false later = refl
 
+-- 33
+not-both : (a b : Bool) → (a || not b) ≡ not (not a && b)
+not-both true b = refl
+not-both false b = refl
+
+order-same : (ws : List Carried) → outOfOrder ws ≡ not (inOrder ws)
+unfolding outOfOrder inOrder
+order-same [] = refl
+order-same (w ∷ []) = refl
+order-same (w ∷ x ∷ ws) = rw (order-same (x ∷ ws)) (not-both (ltb (x .cycle) (w .cycle)) (inOrder (x ∷ ws)))
+
+when-met : (b : Bool) → b ≡ not (eqb (when b 10) 0)
+when-met true = refl
+when-met false = refl
+
+refused-same : (ram : ℕ) (ws : List Carried) → someRefused ram ws ≡ anyRefused ram ws
+unfolding someRefused anyRefused externalNumber
+refused-same ram [] = refl
+refused-same ram (w ∷ ws) =
+    let a = w .address in
+    let n = length (w .bytes) in
+    let bad = eqb n 0 || ltb 16 n || ltb 16 (a % 16 + n) || ltb ram (a + n) in
+    ap (λ (b : Bool). bad || b) (refused-same ram ws) ∙ ap (λ (b : Bool). b || anyRefused ram ws) (when-met bad)
+
 module _ (m : List ℕ) where
-  pub plain-read : (a w : ℕ) (pcd : Bool) (xs log : List ℕ) → plainNumber m (read a w pcd xs log) ≡ argumentNumber (length m) a w xs (length log)
-  unfolding plainNumber argumentNumber
-  plain-read a w pcd xs log =
-      rw (above-same 7 xs, neither-same (eqb w 1) (eqb w 2) (eqb w 4))
-      (first-met (badWidth w) (ltb (length m) (a + w)) (badAnswers xs) (ltb (length log) 96) 0 ∙ or-nothing _ 0 refl)
+  pub plain-read : (a w : ℕ) (pcd : Bool) (xs log : List ℕ) (ws : List Carried) →
+      plainNumber m (read a w pcd xs log ws) ≡ orElse (argumentNumber (length m) a w xs (length log)) (carriedNumber (length m) ws)
+  unfolding plainNumber argumentNumber carriedNumber
+  plain-read a w pcd xs log ws =
+      rw (above-same 7 xs, neither-same (eqb w 1) (eqb w 2) (eqb w 4), order-same ws, refused-same (length m) ws)
+      (first-met (badWidth w) (ltb (length m) (a + w)) (badAnswers xs) (ltb (length log) 96) (when (ltb 4 (length ws) || not (inOrder ws) || anyRefused (length m) ws) 33))
 
   pub plain-write : (a w v : ℕ) (xs log : List ℕ) → plainNumber m (write a w v xs log) ≡ orElse (argumentNumber (length m) a w xs (length log)) (valueNumber w v)
   unfolding plainNumber argumentNumber valueNumber
@@ -131,52 +164,62 @@ module _ (m : List ℕ) where
   unfolding plainNumber
   plain-view a = refl
 
--- the plain memory's numbers are 0 and 4 to 10
-when-arises : (b : Bool) (n : ℕ) → 4 ≤ n → n ≤ 10 → ZeroOr 4 10 (when b n)
-when-arises true n l h = inr (l, h)
-when-arises false n l h = inl refl
+-- the plain memory's numbers are those of the calls' kinds
+module _ (ns : List ℕ) (none : oneOf 0 ns ≡ true) where
+  when-arises : (b : Bool) (n : ℕ) → oneOf n ns ≡ true → oneOf (when b n) ns ≡ true
+  when-arises true n h = h
+  when-arises false n h = none
 
-or-arises : (a b : ℕ) → ZeroOr 4 10 a → ZeroOr 4 10 b → ZeroOr 4 10 (orElse a b)
-or-arises a b h k = same-or _ a 0 (λ e. rw (zero-or a b e) k) (λ n. rw (first-or a b n) h)
+  or-arises : (a b : ℕ) → oneOf a ns ≡ true → oneOf b ns ≡ true → oneOf (orElse a b) ns ≡ true
+  or-arises a b h k = same-or _ a 0 (λ e. rw (zero-or a b e) k) (λ n. rw (first-or a b n) h)
 
-argument-arises : (ram a w : ℕ) (xs : List ℕ) (log : ℕ) → ZeroOr 4 10 (argumentNumber ram a w xs log)
-unfolding argumentNumber
-argument-arises ram a w xs log =
-    or-arises (when (badWidth w) 4) _ (when-arises (badWidth w) 4 (omega arith) (omega arith))
-    (or-arises (when (ltb ram (a + w)) 5) _ (when-arises (ltb ram (a + w)) 5 (omega arith) (omega arith))
-    (or-arises (when (badAnswers xs) 6) _ (when-arises (badAnswers xs) 6 (omega arith) (omega arith)) (when-arises (ltb log 96) 7 (omega arith) (omega arith))))
+  argument-arises : (ram a w : ℕ) (xs : List ℕ) (log : ℕ) → oneOf 4 ns ≡ true → oneOf 5 ns ≡ true → oneOf 6 ns ≡ true → oneOf 7 ns ≡ true →
+      oneOf (argumentNumber ram a w xs log) ns ≡ true
+  unfolding argumentNumber
+  argument-arises ram a w xs log h4 h5 h6 h7 =
+      or-arises (when (badWidth w) 4) _ (when-arises (badWidth w) 4 h4)
+      (or-arises (when (ltb ram (a + w)) 5) _ (when-arises (ltb ram (a + w)) 5 h5)
+      (or-arises (when (badAnswers xs) 6) _ (when-arises (badAnswers xs) 6 h6) (when-arises (ltb log 96) 7 h7)))
 
-pub plain-arises : (m : List ℕ) (c : Call) → ZeroOr 4 10 (plainNumber m c)
-unfolding plainNumber valueNumber
-plain-arises m (read a w pcd xs log) = rw (plain-read m a w pcd xs log) (argument-arises (length m) a w xs (length log))
+pub plain-arises : (m : List ℕ) (c : Call) → Arises (kindOf c) (plainNumber m c)
+unfolding plainNumber valueNumber carriedNumber
+plain-arises m (read a w pcd xs log ws) =
+    let ns = numbersOf reading in
+    rw (plain-read m a w pcd xs log ws)
+    (or-arises ns refl (argumentNumber (length m) a w xs (length log)) (carriedNumber (length m) ws) (argument-arises ns refl (length m) a w xs (length log) refl refl refl refl)
+    (when-arises ns refl (ltb 4 (length ws) || not (inOrder ws) || anyRefused (length m) ws) 33 refl))
 plain-arises m (write a w v xs log) =
+    let ns = numbersOf other in
     rw (plain-write m a w v xs log)
-    (or-arises (argumentNumber (length m) a w xs (length log)) (valueNumber w v) (argument-arises (length m) a w xs (length log))
-    (when-arises (not (ltb v (256 ^ w))) 8 (omega arith) (omega arith)))
+    (or-arises ns refl (argumentNumber (length m) a w xs (length log)) (valueNumber w v) (argument-arises ns refl (length m) a w xs (length log) refl refl refl refl)
+    (when-arises ns refl (not (ltb v (256 ^ w))) 8 refl))
 plain-arises m (external a x) =
     let n = length x in
-    when-arises (eqb n 0 || ltb 16 n || ltb 16 (a % 16 + n) || ltb (length m) (a + n)) 10 (omega arith) (omega arith)
-plain-arises m (snoop a) = inl refl
-plain-arises m flush = inl refl
-plain-arises m (control cd nw) = when-arises (controlRefused cd nw) 9 (omega arith) (omega arith)
-plain-arises m (view a) = when-arises (not (ltb a (length m))) 5 (omega arith) (omega arith)
-plain-arises m reset = inl refl
-plain-arises m (testWrite r w tag mark x) = inl refl
-plain-arises m (testRead r w) = inl refl
+    when-arises (numbersOf other) refl (eqb n 0 || ltb 16 n || ltb 16 (a % 16 + n) || ltb (length m) (a + n)) 10 refl
+plain-arises m (snoop a) = refl
+plain-arises m flush = refl
+plain-arises m (control cd nw) = when-arises (numbersOf other) refl (controlRefused cd nw) 9 refl
+plain-arises m (view a) = when-arises (numbersOf other) refl (not (ltb a (length m))) 5 refl
+plain-arises m reset = refl
+plain-arises m (testWrite r w tag mark x) = refl
+plain-arises m (testRead r w) = refl
 
 -- TEST CALLS: 3 is not met, so their numbers are 0, 31 and 32
 
-module _ (s : State) (k : Kept s) where
-  test-arises : (outside : Bool) → ZeroOr 31 32 (testNumber (length (s .array)) (s .directory .cd) outside)
-  test-arises outside = test-number-arises (length (s .array)) (s .directory .cd) outside (k .arrayLength)
+ranged : (n : ℕ) → (n ≡ 0) ⊎ ((31 ≤ n) × (n ≤ 32)) → oneOf n (0 ∷ 31 ∷ 32 ∷ []) ≡ true
+ranged n = ⊎-elim (λ z. rw z) (λ h. same-or _ n 31 (λ e. rw e) (λ ne. let l = h .0 in let k = h .1 in let e : n ≡ 32 = omega arith in rw e))
 
-  pub test-write-arises : (r w tag : ℕ) (mark : Bool) (x : List ℕ) → ZeroOr 31 32 (step s (testWrite r w tag mark x) .outcome .number)
+module _ (s : State) (k : Kept s) where
+  test-arises : (outside : Bool) → Arises testWriting (testNumber (length (s .array)) (s .directory .cd) outside)
+  test-arises outside = ranged _ (test-number-arises (length (s .array)) (s .directory .cd) outside (k .arrayLength))
+
+  pub test-write-arises : (r w tag : ℕ) (mark : Bool) (x : List ℕ) → Arises testWriting (step s (testWrite r w tag mark x) .outcome .number)
   unfolding step
   test-write-arises r w tag mark x =
       same-or _ (testWriteNumber (length (s .array)) (s .directory .cd) r w tag) 0
-      (λ z. rw (test-write-done s r w tag mark x z) (inl refl))
+      (λ z. rw (test-write-done s r w tag mark x z))
       (λ h. rw (test-write-refused s r w tag mark x h) (test-arises _))
 
-  pub test-read-arises : (r w : ℕ) → ZeroOr 31 32 (step s (testRead r w) .outcome .number)
+  pub test-read-arises : (r w : ℕ) → Arises testReading (step s (testRead r w) .outcome .number)
   unfolding step
   test-read-arises r w = rw (test-read-number (s .directory) (s .array) r w) (test-arises _)

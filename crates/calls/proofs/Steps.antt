@@ -15,13 +15,16 @@ use Rattle.directory.specs.Steps.{lookupOf, afterReset, afterFlush, afterContro
 use Rattle.directory.specs.WellFormed.{Apart}
 use Rattle.directory.proofs.Laws.{lookup-at, reset-none, reset-apart, flush-none, flush-apart, control-held, control-set, control-apart, control-accepted, control-refused, snoop-accepted}
 use Rattle.words.specs.Bytes.{bytesAt, valueOf}
+use Rattle.carried.specs.Carried.{Carried}
+use Rattle.carried.proofs.Due.{later-zero}
 use Rattle.bus.specs.Groups.{groupCount}
+use Rattle.bus.specs.Record.{Record}
 use Rattle.doubleword.specs.Doubleword.{doublewordsOf}
 use Rattle.directory.specs.Outcome.{outcome}
 use Rattle.refusal.specs.Call.{State, state, After, onDirectory, refused, nextState}
-use Rattle.access.specs.Access.{operandOf, readNumber, writeNumber, readOne, writeOne, readAll, writeAll}
+use Rattle.access.specs.Access.{operandOf, readNumber, writeNumber, underWay, readAll, writeAll}
 use Rattle.masters.specs.Masters.{externalWriteNumber}
-use Rattle.refusal.specs.Refusal.{argumentNumber, valueNumber}
+use Rattle.refusal.specs.Refusal.{argumentNumber, valueNumber, carriedNumber}
 use Rattle.refusal.proofs.Accepted.{or-zero, arguments-accepted, external-accepted}
 use Rattle.access.proofs.Calls.{read-refused, read-done, write-refused, write-done}
 use Rattle.masters.proofs.External.{external-refused, external-done}
@@ -29,16 +32,17 @@ use Rattle.diagnostics.specs.Diagnostics.{testWriteNumber}
 use Rattle.diagnostics.proofs.Laws.{test-write-done, test-write-refused}
 use Rattle.views.specs.View.{shown}
 use Rattle.views.proofs.Viewing.{view-refused, view-done}
-use Rattle.calls.specs.Calls.{Call, read, write, external, snoop, flush, control, view, reset, testWrite, testRead, step, viewNumberOf}
-use Rattle.calls.specs.Plain.{Plain, plainAccepted, plainRefused, plainNumber, plainDone, plain}
+use Rattle.calls.specs.Calls.{Call, read, write, external, snoop, flush, control, view, reset, testWrite, testRead, step, viewNumberOf, recordsLeft}
+use Rattle.calls.specs.Plain.{Plain, bytesRead, plainAccepted, plainRefused, plainNumber, plainDone, plain, plainTold}
 use Rattle.calls.specs.Matches.{NoParityError, kindOf, testing, plants, empties, SameResults, Matches, setsNw}
 use Rattle.words.proofs.Spans.{bytes-same}
 use Rattle.calls.proofs.Bytes.{operand-bytes}
 use Rattle.calls.proofs.Cycles.{logged-no-error}
-use Rattle.calls.proofs.Counts.{read-most, write-most, all-most, records-there, none-counted}
+use Rattle.calls.proofs.Counts.{reads-most, writes-most, records-there, records-left, none-counted}
 use Rattle.calls.proofs.Coherence.{Empty, Beside, Coherent, fewer-lines, empty-beside, line-around}
-use Rattle.calls.proofs.Doublewords.{access-proper, doublewords-wanted, doublewords-written}
-use Rattle.calls.proofs.Reading.{read-all}
+use Rattle.calls.proofs.Doublewords.{access-proper, doublewords-by, doublewords-written, doublewords-ascending}
+use Rattle.calls.proofs.Carrying.{carried-accepted, held-first}
+use Rattle.calls.proofs.Reading.{UnderBeside, read-all}
 use Rattle.calls.proofs.Writing.{write-all}
 use Rattle.calls.proofs.Snooping.{snoop-beside, external-beside}
 use Rattle.calls.proofs.Numbers.{state-zero, read-number, write-number, external-write-number, view-number, plain-read, plain-write, plain-external, plain-view}
@@ -74,22 +78,22 @@ refused-matches s m c n log =
     }
 
 -- the plain memory by its number
-plain-accepted : (m : List ℕ) (x : Call) → plainNumber m x ≡ 0 → plain m x ≡ plainDone m x
+plain-accepted : (m : List ℕ) (x : Call) (rs : List Record) → plainNumber m x ≡ 0 → plain m x rs ≡ plainDone m x rs
 unfolding plain
-plain-accepted m x z = cond-true _ _ _ (eq-eqb _ 0 z)
+plain-accepted m x rs z = cond-true _ _ _ (eq-eqb _ 0 z)
 
-plain-refused : (m : List ℕ) (x : Call) → (plainNumber m x ≡ 0 → ⊥) → plain m x ≡ plainRefused (plainNumber m x) m
+plain-refused : (m : List ℕ) (x : Call) (rs : List Record) → (plainNumber m x ≡ 0 → ⊥) → plain m x rs ≡ plainRefused (plainNumber m x) m
 unfolding plain
-plain-refused m x h = cond-false _ _ _ (ne-eqb _ 0 h)
+plain-refused m x rs h = cond-false _ _ _ (ne-eqb _ 0 h)
 
 -- a call by its number: refused and nothing changed, or done
 module _ (s : State) (m : List ℕ) (c : Coherent s m) (x : Call) where
-  by-number : (n : ℕ) → n ≡ plainNumber m x → (n ≡ 0 → StepMatches (step s x) (plainDone m x)) → (log : List ℕ) → ((n ≡ 0 → ⊥) → step s x ≡ refused n s log) →
-      StepMatches (step s x) (plain m x)
+  by-number : (n : ℕ) → n ≡ plainNumber m x → (n ≡ 0 → StepMatches (step s x) (plainDone m x (recordsLeft (step s x)))) → (log : List ℕ) → ((n ≡ 0 → ⊥) → step s x ≡ refused n s log) →
+      StepMatches (step s x) (plainTold s m x)
   by-number n e g log f =
       same-or _ n 0
-      (λ z. rw (plain-accepted m x (sym e ∙ z)) (g z))
-      (λ h. rw (plain-refused m x (λ q. h (e ∙ q)), f h, e) (refused-matches s m c (plainNumber m x) log))
+      (λ z. rw (plain-accepted m x _ (sym e ∙ z)) (g z))
+      (λ h. rw (plain-refused m x _ (λ q. h (e ∙ q)), f h, e) (refused-matches s m c (plainNumber m x) log))
 
 -- a call that changes nothing but the directory
 module _ (s : State) (m : List ℕ) where
@@ -106,16 +110,16 @@ module _ (s : State) (m : List ℕ) where
     emptied-matches : (d : Directory) → Apart d → Empty d → StepMatches (onDirectory s (outcome d 0 0 0)) (plainAccepted 0 [] m)
     emptied-matches d g n = changed-matches d (empty-beside (state d (s .memory) (s .array)) m e g n)
 
-    flush-matches : StepMatches (step s flush) (plain m flush)
+    flush-matches : StepMatches (step s flush) (plainTold s m flush)
     unfolding step plain plainNumber plainDone
     flush-matches = emptied-matches (afterFlush (s .directory)) (flush-apart (s .directory)) (flush-none (s .directory))
 
-    reset-matches : StepMatches (step s reset) (plain m reset)
+    reset-matches : StepMatches (step s reset) (plainTold s m reset)
     unfolding step plain plainNumber plainDone
     reset-matches = emptied-matches afterReset reset-apart reset-none
 
-    pub emptying-matches : (x : Call) → empties (kindOf x) ≡ true → CallMatches x (step s x) (plain m x)
-    emptying-matches (read a w pcd xs log) e = absurd (true≢false (sym e))
+    pub emptying-matches : (x : Call) → empties (kindOf x) ≡ true → CallMatches x (step s x) (plainTold s m x)
+    emptying-matches (read a w pcd xs log ws) e = absurd (true≢false (sym e))
     emptying-matches (write a w v xs log) e = absurd (true≢false (sym e))
     emptying-matches (external a x) e = absurd (true≢false (sym e))
     emptying-matches (snoop a) e = absurd (true≢false (sym e))
@@ -132,28 +136,38 @@ module _ (s : State) (m : List ℕ) (c : Coherent s m) where
 
   -- READ AND WRITE
 
-  read-matches : (a w : ℕ) (pcd : Bool) (xs log : List ℕ) → StepMatches (step s (read a w pcd xs log)) (plain m (read a w pcd xs log))
+  read-matches : (a w : ℕ) (pcd : Bool) (xs log : List ℕ) (ws : List Carried) → StepMatches (step s (read a w pcd xs log ws)) (plainTold s m (read a w pcd xs log ws))
   unfolding step plainDone readAll
-  read-matches a w pcd xs log =
-      by-number s m c (read a w pcd xs log) (readNumber s a w xs log) (read-number s m c a w xs log ∙ sym (plain-read m a w pcd xs log))
+  read-matches a w pcd xs log ws =
+      by-number s m c (read a w pcd xs log ws) (readNumber s a w xs log ws) (read-number s m c a w xs log ws ∙ sym (plain-read m a w pcd xs log ws))
       (λ z.
-      let k = arguments-accepted (length m) a w xs (length log) (sym (read-number s m c a w xs log) ∙ z) in
-      let b : w ≤ 4 * groupCount - a % 4 = omega (arith, k .four) in
-      let r = read-all (doublewordsOf groupCount xs a w 0) s m c pcd (access-proper (length m) a w xs (length log) k whole) in
-      rw (read-done s a w pcd xs log z)
+      let n = or-zero (argumentNumber (length m) a w xs (length log)) (carriedNumber (length m) ws) (sym (read-number s m c a w xs log ws) ∙ z) in
+      let k = arguments-accepted (length m) a w xs (length log) (n .0) in
+      let g = carried-accepted (length m) ws (n .1) in
+      let ds = doublewordsOf groupCount xs a w 0 in
+      let u : UnderBeside m ws (underWay s ws 0) = record { unit = rw (held-first m ws) c; left = sym (later-zero ws) } in
+      let r = read-all m ws (g .0) (g .1) pcd ds (underWay s ws 0) u (access-proper (length m) a w xs (length log) k whole) (doublewords-ascending groupCount xs a w 0) in
+      let rs = readAll s a w pcd xs ws .records in
+      let most = reads-most pcd groupCount xs a w 0 (underWay s ws 0) in
+      rw (read-done s a w pcd xs log ws z)
       (record {
         beside = r .beside;
-        results = record { numbers = refl; values = ap valueOf (r .gives ∙ doublewords-wanted groupCount m xs a w 0 b); views = refl };
+        results =
+            record {
+              numbers = refl;
+              values = ap valueOf (r .gives ∙ doublewords-by groupCount _ xs a w 0 (omega (arith, k .four)) ∙ ap (λ (x : List Record). bytesRead m ws x a w) (sym (records-left log rs (omega (arith, k .records)))));
+              views = refl;
+            };
         no-error =
             record {
-              there = records-there log (readAll s a w pcd xs .records) 32 (all-most (readOne pcd) (read-most pcd) groupCount xs a w 0 s) (k .records);
-              clear = logged-no-error log (readAll s a w pcd xs .records) (r .no-error);
+              there = records-there log rs 32 most (k .records);
+              clear = logged-no-error log rs (r .no-error);
             };
       }))
       log
-      (λ h. rw (read-refused s a w pcd xs log h))
+      (λ h. rw (read-refused s a w pcd xs log ws h))
 
-  write-matches : (a w v : ℕ) (xs log : List ℕ) → StepMatches (step s (write a w v xs log)) (plain m (write a w v xs log))
+  write-matches : (a w v : ℕ) (xs log : List ℕ) → StepMatches (step s (write a w v xs log)) (plainTold s m (write a w v xs log))
   unfolding step plainDone writeAll
   write-matches a w v xs log =
       by-number s m c (write a w v xs log) (writeNumber s a w v xs log) (write-number s m c a w v xs log ∙ sym (plain-write m a w v xs log))
@@ -168,7 +182,7 @@ module _ (s : State) (m : List ℕ) (c : Coherent s m) where
         results = record { numbers = refl; values = refl; views = refl };
         no-error =
             record {
-              there = records-there log (writeAll s a w v xs .records) 32 (all-most (writeOne (operandOf v)) (write-most (operandOf v)) groupCount xs a w 0 s) (k .records);
+              there = records-there log (writeAll s a w v xs .records) 32 (writes-most (operandOf v) groupCount xs a w 0 s) (k .records);
               clear = logged-no-error log (writeAll s a w v xs .records) (r .no-error);
             };
       }))
@@ -177,7 +191,7 @@ module _ (s : State) (m : List ℕ) (c : Coherent s m) where
 
   -- OTHER MASTERS
 
-  external-matches : (a : ℕ) (x : List ℕ) → StepMatches (step s (external a x)) (plain m (external a x))
+  external-matches : (a : ℕ) (x : List ℕ) → StepMatches (step s (external a x)) (plainTold s m (external a x))
   unfolding step plainDone
   external-matches a x =
       let n = externalWriteNumber (s .directory) (s .memory) a x in
@@ -194,17 +208,17 @@ module _ (s : State) (m : List ℕ) (c : Coherent s m) where
 
   -- THE DIRECTORY ALONE
 
-  snoop-matches : (a : ℕ) → StepMatches (step s (snoop a)) (plain m (snoop a))
+  snoop-matches : (a : ℕ) → StepMatches (step s (snoop a)) (plainTold s m (snoop a))
   unfolding step plain plainNumber plainDone
   snoop-matches a =
       rw (snoop-accepted (s .directory) a (state-zero s m c a))
       (changed-matches s m (afterSnoop (s .directory) a) (snoop-beside s m c a))
 
   -- an accepted control call that does not set NW leaves NW = 0
-  control-matches : (cd nw : Bool) → setsNw (control cd nw) ≡ false → StepMatches (step s (control cd nw)) (plain m (control cd nw))
+  control-matches : (cd nw : Bool) → setsNw (control cd nw) ≡ false → StepMatches (step s (control cd nw)) (plainTold s m (control cd nw))
   unfolding step plain plainNumber plainDone
   control-matches cd nw q =
-      by-test (λ b. controlRefused cd nw ≡ b → StepMatches (step s (control cd nw)) (plain m (control cd nw))) (controlRefused cd nw)
+      by-test (λ b. controlRefused cd nw ≡ b → StepMatches (step s (control cd nw)) (plainTold s m (control cd nw))) (controlRefused cd nw)
       (λ _ e.
       rw (control-refused (s .directory) cd nw e, e) (refused-matches s m c 9 []))
       (λ _ e.
@@ -230,7 +244,7 @@ module _ (s : State) (m : List ℕ) (c : Coherent s m) where
       rw (line-around a) at (c .beside .lines .same (setOf a) w (tagOf a) (omega arith) (k .0) (k .1) o b)
   shown-is a Nothing e = ap (λ (l : List ℕ). bytesAt l (a / 16 * 16) 16) (c .beside .rams)
 
-  view-matches : (a : ℕ) → StepMatches (step s (view a)) (plain m (view a))
+  view-matches : (a : ℕ) → StepMatches (step s (view a)) (plainTold s m (view a))
   unfolding step plainDone
   view-matches a =
       let n = viewNumberOf s a in
@@ -252,21 +266,21 @@ module _ (s : State) (m : List ℕ) (c : Coherent s m) where
   -- TEST CALLS
 
   test-write-matches : (r w tag : ℕ) (mark : Bool) (x : List ℕ) →
-      let y = testWrite r w tag mark x in CallMatches y (step s y) (plain m y)
+      let y = testWrite r w tag mark x in CallMatches y (step s y) (plainTold s m y)
   unfolding step plain plainNumber plainDone
   test-write-matches r w tag mark x =
       same-or _ (testWriteNumber (length (s .array)) (s .directory .cd) r w tag) 0
       (λ z. rw (test-write-done s r w tag mark x z) (tested (testWrite r w tag mark x) refl (c .beside .rams) refl (λ p. absurd (true≢false p))))
       (λ h. rw (test-write-refused s r w tag mark x h) (tested (testWrite r w tag mark x) refl (c .beside .rams) refl (λ _. c .beside)))
 
-  test-read-matches : (r w : ℕ) → CallMatches (testRead r w) (step s (testRead r w)) (plain m (testRead r w))
+  test-read-matches : (r w : ℕ) → CallMatches (testRead r w) (step s (testRead r w)) (plainTold s m (testRead r w))
   unfolding step plain plainNumber plainDone
   test-read-matches r w = tested (testRead r w) refl (c .beside .rams) refl (λ _. c .beside)
 
   -- EVERY CALL
 
-  pub call-matches : (x : Call) → setsNw x ≡ false → CallMatches x (step s x) (plain m x)
-  call-matches (read a w pcd xs log) q = matched (read a w pcd xs log) (read-matches a w pcd xs log)
+  pub call-matches : (x : Call) → setsNw x ≡ false → CallMatches x (step s x) (plainTold s m x)
+  call-matches (read a w pcd xs log ws) q = matched (read a w pcd xs log ws) (read-matches a w pcd xs log ws)
   call-matches (write a w v xs log) q = matched (write a w v xs log) (write-matches a w v xs log)
   call-matches (external a x) q = matched (external a x) (external-matches a x)
   call-matches (snoop a) q = matched (snoop a) (snoop-matches a)

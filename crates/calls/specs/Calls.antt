@@ -1,10 +1,12 @@
 -- Document 01, 'Other masters, views, and the plain memory': the calls of a list, and one step of the unit.
-use Prim.Native.Nat.{ℕ}
+use Prim.Native.Nat.{ℕ, zero, suc, _+_}
 use mathlib.Core.Bool.{Bool}
-use mathlib.Core.List.{List, []}
-use lib.ListN.{length}
+use mathlib.Core.List.{List, [], _∷_}
+use lib.ListN.{length, getD}
 use Rattle.directory.specs.Outcome.{outcome}
 use Rattle.directory.specs.Steps.{snoopCall, controlCall, flushCall, resetCall}
+use Rattle.carried.specs.Carried.{Carried}
+use Rattle.bus.specs.Record.{Record}
 use Rattle.refusal.specs.Call.{State, After, onDirectory}
 use Rattle.access.specs.Access.{readCall, writeCall}
 use Rattle.masters.specs.Masters.{externalCall}
@@ -13,9 +15,9 @@ use Rattle.diagnostics.specs.Diagnostics.{testWriteCall, testReadLine}
 
 -- "the calls' arguments except directory, RAM, parity and data array": "The log, the board's answers and an external write's bytes are each call's own and may be anything."
 -- Numbers are ℕ, so that the claim covers lists that no caller can make too; the contracts tie steps with 32-bit arguments and
--- 8-bit bytes to the code.
+-- 8-bit bytes to the code. Document 02, C-12: "Let a read carry up to four external writes"; the call `read` carries none.
 pub data Call : Type 0 where
-  read : (address width : ℕ) → (pcd : Bool) → (answers log : List ℕ) → Call
+  read : (address width : ℕ) → (pcd : Bool) → (answers log : List ℕ) → (writes : List Carried) → Call
   write : (address width value : ℕ) → (answers log : List ℕ) → Call
   external : (address : ℕ) → (bytes : List ℕ) → Call
   snoop : (address : ℕ) → Call
@@ -52,7 +54,7 @@ testReadCall s set way = onDirectory s (outcome (s .directory) (testReadLine (s 
 
 -- One step of the unit, by the definitions that the contracts of the calls cite.
 unfoldable pub step : State → Call → After
-step s (read address width pcd answers log) = readCall s address width pcd answers log
+step s (read address width pcd answers log writes) = readCall s address width pcd answers log writes
 step s (write address width value answers log) = writeCall s address width value answers log
 step s (external address bytes) = externalCall s address bytes
 step s (snoop address) = onDirectory s (snoopCall (s .directory) address)
@@ -62,3 +64,13 @@ step s (view address) = viewCall s address
 step s reset = onDirectory s resetCall
 step s (testWrite set way tag mark bytes) = testWriteCall s set way tag mark bytes
 step s (testRead set way) = testReadCall s set way
+
+-- "Each cycle leaves three 32-bit words in the log": so many records, from a place of the log on.
+unfoldable pub recordsFrom : List ℕ → ℕ → ℕ → List Record
+recordsFrom log i zero = []
+recordsFrom log i (suc n) =
+    record { address = getD log i 0; flags = getD log (i + 1) 0; word = getD log (i + 2) 0 } ∷ recordsFrom log (i + 3) n
+
+-- The records that a call leaves: as many as it counts, at the start of its log.
+abbrev pub recordsLeft : After → List Record
+recordsLeft a = recordsFrom (a .log) 0 (a .outcome .cycles)

@@ -1,12 +1,15 @@
 -- Document 01, 'Other masters, views, and the plain memory': "The plain memory is a list of bytes", and has no cache.
-use Prim.Native.Nat.{ℕ, _+_, _*_, _/_, _%_, _^_}
+use Prim.Native.Nat.{ℕ, zero, suc, _+_, _*_, _/_, _%_, _^_}
 use mathlib.Core.Bool.{Bool, false, cond, not, _&&_, _||_}
 use mathlib.Core.List.{List, [], _∷_, _++_}
 use lib.Dec.{eqb, ltb}
-use lib.ListN.{length}
+use lib.ListN.{length, getD}
 use lib.Seq.{sets}
 use Rattle.words.specs.Bytes.{bytesAt, valueOf, bytesOf}
-use Rattle.calls.specs.Calls.{Call, read, write, external, snoop, flush, control, view, reset, testWrite, testRead}
+use Rattle.carried.specs.Carried.{Carried}
+use Rattle.bus.specs.Record.{Record}
+use Rattle.refusal.specs.Call.{State}
+use Rattle.calls.specs.Calls.{Call, read, write, external, snoop, flush, control, view, reset, testWrite, testRead, step, recordsLeft}
 
 -- What it answers to a call, and its bytes afterwards.
 pub record Plain : Type 0 where
@@ -47,10 +50,26 @@ abbrev pub externalTest : ℕ → ℕ → ℕ → Bool × ℕ
 externalTest ram address count =
     (eqb count 0 || ltb 16 count || ltb 16 (address % 16 + count) || ltb ram (address + count), 10)
 
--- The number of a call that meets 4 to 10, from its own arguments; "Any other call answers 0." RAM's length is the plain memory's own, and no
--- function of the unit is asked.
+-- "they aren't in cycle order": one is numbered below the one before it.
+unfoldable pub outOfOrder : List Carried → Bool
+outOfOrder [] = false
+outOfOrder (w ∷ []) = false
+outOfOrder (w ∷ x ∷ ws) = ltb (x .cycle) (w .cycle) || outOfOrder (x ∷ ws)
+
+-- "or one would be refused by 10"
+unfoldable pub someRefused : ℕ → List Carried → Bool
+someRefused ram [] = false
+someRefused ram (w ∷ ws) = externalTest ram (w .address) (length (w .bytes)) .0 || someRefused ram ws
+
+-- Document 02, C-12: "33 where there are more than four writes, they aren't in cycle order or one would be refused by 10, after 10."
+abbrev pub carriedTest : ℕ → List Carried → Bool × ℕ
+carriedTest ram writes = (ltb 4 (length writes) || outOfOrder writes || someRefused ram writes, 33)
+
+-- The number of a call that meets 4 to 10, from its own arguments; "For the plain memory 33 counts as 4 to 10 do"; "Any other call answers 0." RAM's length
+-- is the plain memory's own, and no function of the unit is asked.
 unfoldable pub plainNumber : List ℕ → Call → ℕ
-plainNumber m (read address width pcd answers log) = firstMet (accessTests (length m) address width answers (length log))
+plainNumber m (read address width pcd answers log writes) =
+    firstMet (accessTests (length m) address width answers (length log) ++ (carriedTest (length m) writes ∷ []))
 plainNumber m (write address width value answers log) =
     firstMet (accessTests (length m) address width answers (length log) ++ (valueTest width value ∷ []))
 plainNumber m (external address bytes) = firstMet (externalTest (length m) address (length bytes) ∷ [])
@@ -62,29 +81,87 @@ plainNumber m reset = 0
 plainNumber m (testWrite set way tag mark bytes) = 0
 plainNumber m (testRead set way) = 0
 
+-- Document 02, C-12: a read with the writes that it carries. "The plain memory takes the writes in between, told by the read's records where its cycles
+-- fall": its bytes when so many cycles of the read are made. The writes numbered below have been put in. "Equal numbers land in list order."
+unfoldable pub heldAfter : List ℕ → List Carried → ℕ → List ℕ
+heldAfter m [] n = m
+heldAfter m (w ∷ ws) n = heldAfter (cond (ltb (w .cycle) n) (sets m (w .address) (w .bytes)) m) ws n
+
+-- "Writes numbered past the last cycle, and all where there is none, land after the value is taken."
+unfoldable pub heldAtEnd : List ℕ → List Carried → List ℕ
+heldAtEnd m [] = m
+heldAtEnd m (w ∷ ws) = heldAtEnd (sets m (w .address) (w .bytes)) ws
+
+-- "64 the last cycle made for this doubleword of the access, in a fill only its very last": the records in groups, one for each doubleword that made cycles.
+abbrev pub withFirst : Record → List (List Record) → List (List Record)
+withFirst r [] = (r ∷ []) ∷ []
+withFirst r (g ∷ gs) = (r ∷ g) ∷ gs
+
+unfoldable pub groupsOf : List Record → List (List Record)
+groupsOf [] = []
+groupsOf (r ∷ rs) = cond (eqb (r .flags / 64 % 2) 1) ((r ∷ []) ∷ groupsOf rs) (withFirst r (groupsOf rs))
+
+-- The doubleword of a group is that of its first record: a fill starts with it, and has records at the line's other doublewords too.
+abbrev pub namedBy : List Record → ℕ
+namedBy [] = 0
+namedBy (r ∷ rs) = r .address
+
+-- "doubleword address; flags", of which "1, 2, 4, 8 for moved bytes 0 to 3": whether a record's cycle moved the byte at an address.
+abbrev pub moves : Record → ℕ → Bool
+moves r a = eqb (r .address) (a / 4 * 4) && eqb (r .flags / 2 ^ (a % 4) % 2) 1
+
+-- "every wanted byte is what it holds at that byte's cycle": the byte at an address, by the cycles of a group from number n on, or another where none moved
+-- it. Before cycle n the writes numbered up to n have been put in.
+unfoldable pub byteMoved : List ℕ → List Carried → ℕ → List Record → ℕ → ℕ → ℕ
+byteMoved m ws n [] a unmoved = unmoved
+byteMoved m ws n (r ∷ rs) a unmoved =
+    cond (moves r a) (getD (heldAfter m ws (suc n)) a 0) (byteMoved m ws (suc n) rs a unmoved)
+
+-- "or at the lookup for a hit": the byte at an address, by the groups of the cycles from number n on. "the lower one completed first (H)": groups of lower
+-- doublewords come before its lookup. Without a group its doubleword hit.
+unfoldable pub byteRead : List ℕ → List Carried → ℕ → List (List Record) → ℕ → ℕ
+byteRead m ws n [] a = getD (heldAfter m ws n) a 0
+byteRead m ws n (g ∷ gs) a =
+    cond (ltb (namedBy g) (a / 4 * 4)) (byteRead m ws (n + length g) gs a)
+    (byteMoved m ws n (cond (eqb (namedBy g) (a / 4 * 4)) g []) a (getD (heldAfter m ws n) a 0))
+
+-- So many bytes from an address on, each by the same rule.
+unfoldable pub bytesBy : (ℕ → ℕ) → ℕ → ℕ → List ℕ
+bytesBy byte a zero = []
+bytesBy byte a (suc n) = byte a ∷ bytesBy byte (suc a) n
+
+-- The bytes that a read wants.
+abbrev pub bytesRead : List ℕ → List Carried → List Record → ℕ → ℕ → List ℕ
+bytesRead m writes rs address width = bytesBy (byteRead m writes 0 (groupsOf rs)) address width
+
 -- A call that is done.
 abbrev pub plainAccepted : ℕ → List ℕ → List ℕ → Plain
 plainAccepted value bytes m = record { number = 0; value = value; shown = bytes; memory = m }
 
 -- "A write or external write replaces its bytes; a read gives its bytes; a view gives its sixteen; snoop, flush, control and reset do nothing";
--- a read's value is that "with the bytes taken little-endian". Test calls change no RAM, so it does nothing at them either.
-unfoldable pub plainDone : List ℕ → Call → Plain
-plainDone m (read address width pcd answers log) = plainAccepted (valueOf (bytesAt m address width)) [] m
-plainDone m (write address width value answers log) = plainAccepted 0 [] (sets m address (bytesOf width value))
-plainDone m (external address bytes) = plainAccepted 0 [] (sets m address bytes)
-plainDone m (snoop address) = plainAccepted 0 [] m
-plainDone m flush = plainAccepted 0 [] m
-plainDone m (control cd nw) = plainAccepted 0 [] m
-plainDone m (view address) = plainAccepted 0 (bytesAt m (address / 16 * 16) 16) m
-plainDone m reset = plainAccepted 0 [] m
-plainDone m (testWrite set way tag mark bytes) = plainAccepted 0 [] m
-plainDone m (testRead set way) = plainAccepted 0 [] m
+-- a read's value is that "with the bytes taken little-endian". Test calls change no RAM, so it does nothing at them either. It is told the records that the
+-- call left. Only a read asks for them, and one that carries nothing gives the same bytes whatever they are (`told-alone`).
+unfoldable pub plainDone : List ℕ → Call → List Record → Plain
+plainDone m (read address width pcd answers log writes) rs = plainAccepted (valueOf (bytesRead m writes rs address width)) [] (heldAtEnd m writes)
+plainDone m (write address width value answers log) rs = plainAccepted 0 [] (sets m address (bytesOf width value))
+plainDone m (external address bytes) rs = plainAccepted 0 [] (sets m address bytes)
+plainDone m (snoop address) rs = plainAccepted 0 [] m
+plainDone m flush rs = plainAccepted 0 [] m
+plainDone m (control cd nw) rs = plainAccepted 0 [] m
+plainDone m (view address) rs = plainAccepted 0 (bytesAt m (address / 16 * 16) 16) m
+plainDone m reset rs = plainAccepted 0 [] m
+plainDone m (testWrite set way tag mark bytes) rs = plainAccepted 0 [] m
+plainDone m (testRead set way) rs = plainAccepted 0 [] m
 
--- "a call meeting 4 to 10 does nothing and answers that number."
+-- "a call meeting 4 to 10 does nothing and answers that number."; so does one meeting 33.
 abbrev pub plainRefused : ℕ → List ℕ → Plain
 plainRefused number m = record { number = number; value = 0; shown = []; memory = m }
 
 -- A call, done or refused.
-unfoldable pub plain : List ℕ → Call → Plain
-plain m c =
-    cond (eqb (plainNumber m c) 0) (plainDone m c) (plainRefused (plainNumber m c) m)
+unfoldable pub plain : List ℕ → Call → List Record → Plain
+plain m c rs =
+    cond (eqb (plainNumber m c) 0) (plainDone m c rs) (plainRefused (plainNumber m c) m)
+
+-- Beside the unit it is "told by the read's records where its cycles fall": the records that the unit's call left.
+abbrev pub plainTold : State → List ℕ → Call → Plain
+plainTold s m c = plain m c (recordsLeft (step s c))

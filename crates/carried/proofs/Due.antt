@@ -6,7 +6,7 @@ use mathlib.Core.List.{List, [], _∷_, _++_}
 use native.Mathlib.Omega.{arith}
 use lib.Dec.{eqb, ltb}
 use borrow.Author.Tests.{lt-ltb, le-ltb, ltb-true}
-use Rattle.laws.proofs.Tests.{cond-true, cond-false, by-test}
+use Rattle.laws.proofs.Tests.{cond-true, cond-false, by-test, neither}
 use Rattle.memory.specs.Parity.{Memory, stored}
 use Rattle.carried.specs.Carried.{Carried, due, later, landed, inLine}
 
@@ -77,6 +77,10 @@ unfolding landed
 landed-append [] b m = refl
 landed-append (w ∷ a) b m = landed-append a b (stored m (w .address) (w .bytes))
 
+pub landed-then : (n k : ℕ) → n ≤ k → (ws : List Carried) (m : Memory) → landed (due k ws) m ≡ landed (due k (later n ws)) (landed (due n ws) m)
+landed-then n k h ws m =
+    ap (λ (x : List Carried). landed x m) (sym (due-then n k h ws)) ∙ landed-append (due n ws) (due k (later n ws)) m
+
 pub in-line-append : (line : ℕ) (a b : List Carried) → inLine line (a ++ b) ≡ (inLine line a || inLine line b)
 unfolding inLine
 in-line-append line [] b = refl
@@ -84,6 +88,14 @@ in-line-append line (w ∷ a) b =
     by-test (λ t. (t || inLine line (a ++ b)) ≡ ((t || inLine line a) || inLine line b)) (eqb (w .address / 16 * 16) line)
     (λ _. refl)
     (λ _. in-line-append line a b)
+
+-- where none that lands between two cycles lies in a line, none does between a later one and the second
+pub in-line-then : (line n m k : ℕ) → n ≤ m → m ≤ k → (ws : List Carried) → inLine line (due k (later n ws)) ≡ false → inLine line (due k (later m ws)) ≡ false
+in-line-then line n m k h l ws e =
+    let x = later n ws in
+    neither (inLine line (due m x)) (inLine line (due k (later m ws)))
+    (sym (in-line-append line (due m x) (due k (later m ws))) ∙ ap (λ (y : List Carried). inLine line (due m x ++ due k y)) (sym (later-then n m h ws)) ∙ ap (inLine line) (due-then m k l x) ∙ e)
+    .1
 
 -- of those left after a cycle none is due before it
 pub due-early : (n k : ℕ) (ws : List Carried) → n ≤ k → due n (later k ws) ≡ []

@@ -47,51 +47,51 @@ module _ (c : CarriedWrites) where
       rw (e, f)
 
   -- the loop that counts those due
-  pub record DueTo (from number to : ℕ) : Type 0 where
-    pub those : writesFrom c from (to - from) ++ due (suc number) (leftFrom c to) ≡ due (suc number) (leftFrom c from)
-    pub lefts : later (suc number) (leftFrom c to) ≡ later (suc number) (leftFrom c from)
+  pub record DueTo (from made to : ℕ) : Type 0 where
+    pub those : writesFrom c from (to - from) ++ due made (leftFrom c to) ≡ due made (leftFrom c from)
+    pub lefts : later made (leftFrom c to) ≡ later made (leftFrom c from)
     pub above : from ≤ to
     pub within : to ≤ c .count
 
-  module _ (from number : ℕ) where
-    pub due-begin : from ≤ c .count → DueTo from number from
+  module _ (from made : ℕ) where
+    pub due-begin : from ≤ c .count → DueTo from made from
     due-begin h = record { those = rw (writes-none from); lefts = refl; above = omega arith; within = h }
 
-    module _ (to : ℕ) (g : DueTo from number to) where
+    module _ (to : ℕ) (g : DueTo from made to) where
       module _ (h : to < c .count) where
-        pub due-next : (number < getD (c .cycles) to 0 → ⊥) → DueTo from number (to + 1)
+        pub due-next : (made ≤ getD (c .cycles) to 0 → ⊥) → DueTo from made (to + 1)
         due-next n =
-            let t = lt-ltb (getD (c .cycles) to 0) (suc number) (omega arith) in
+            let t = lt-ltb (getD (c .cycles) to 0) made (omega arith) in
             let e = left-next to h in
             record {
               those =
-                  ap (λ (l : List Carried). l ++ due (suc number) (leftFrom c (to + 1))) (writes-next from to (g .above))
-                  ∙ append-assoc (writesFrom c from (to - from)) (writeIn c to ∷ []) (due (suc number) (leftFrom c (to + 1)))
-                  ∙ ap (λ (l : List Carried). writesFrom c from (to - from) ++ l) (sym (ap (due (suc number)) e ∙ due-first (suc number) (writeIn c to) (leftFrom c (to + 1)) t))
+                  ap (λ (l : List Carried). l ++ due made (leftFrom c (to + 1))) (writes-next from to (g .above))
+                  ∙ append-assoc (writesFrom c from (to - from)) (writeIn c to ∷ []) (due made (leftFrom c (to + 1)))
+                  ∙ ap (λ (l : List Carried). writesFrom c from (to - from) ++ l) (sym (ap (due made) e ∙ due-first made (writeIn c to) (leftFrom c (to + 1)) t))
                   ∙ g .those;
-              lefts = sym (ap (later (suc number)) e ∙ later-first (suc number) (writeIn c to) (leftFrom c (to + 1)) t) ∙ g .lefts;
+              lefts = sym (ap (later made) e ∙ later-first made (writeIn c to) (leftFrom c (to + 1)) t) ∙ g .lefts;
               above = omega (arith, g .above);
               within = omega arith;
             }
 
       -- where none is due any more
       pub record DueEnd : Type 0 where
-        pub those : writesFrom c from (to - from) ≡ due (suc number) (leftFrom c from)
-        pub lefts : leftFrom c to ≡ later (suc number) (leftFrom c from)
+        pub those : writesFrom c from (to - from) ≡ due made (leftFrom c from)
+        pub lefts : leftFrom c to ≡ later made (leftFrom c from)
 
-      none-due : due (suc number) (leftFrom c to) ≡ [] → later (suc number) (leftFrom c to) ≡ leftFrom c to → DueEnd
+      none-due : due made (leftFrom c to) ≡ [] → later made (leftFrom c to) ≡ leftFrom c to → DueEnd
       none-due d l =
           record {
             those = sym (append-nil (writesFrom c from (to - from))) ∙ ap (λ (x : List Carried). writesFrom c from (to - from) ++ x) (sym d) ∙ g .those;
             lefts = sym l ∙ g .lefts;
           }
 
-      pub due-stopped : to < c .count → number < getD (c .cycles) to 0 → DueEnd
+      pub due-stopped : to < c .count → made ≤ getD (c .cycles) to 0 → DueEnd
       due-stopped h n =
-          let t = le-ltb (getD (c .cycles) to 0) (suc number) (omega arith) in
+          let t = le-ltb (getD (c .cycles) to 0) made (omega arith) in
           let e = left-next to h in
-          none-due (ap (due (suc number)) e ∙ due-stop (suc number) (writeIn c to) (leftFrom c (to + 1)) t)
-          (ap (later (suc number)) e ∙ later-stop (suc number) (writeIn c to) (leftFrom c (to + 1)) t ∙ sym e)
+          none-due (ap (due made) e ∙ due-stop made (writeIn c to) (leftFrom c (to + 1)) t)
+          (ap (later made) e ∙ later-stop made (writeIn c to) (leftFrom c (to + 1)) t ∙ sym e)
 
       pub due-all : (to < c .count → ⊥) → DueEnd
       unfolding writesFrom due later

@@ -1,6 +1,6 @@
 // The external writes that a read carries: which of them are due, what they store, whether they lie in a line.
 ghost use mathlib.Core.Path.{_≡_};
-ghost use Prim.Native.Nat.{_+_, _*_, _-_, _/_, _≤_, suc};
+ghost use Prim.Native.Nat.{_+_, _*_, _-_, _/_, _≤_};
 ghost use lib.ListN.{length};
 ghost use Rattle.words.specs.Bytes.{bytesAt};
 ghost use Rattle.memory.specs.Parity.{lentMemory, stored};
@@ -23,17 +23,17 @@ pub struct CarriedWrites {
     pub bytes: [u8; 64],
 }
 
-// The place after the writes that are due before a cycle, of those from a place on.
-pub fn due_end(carried: CarriedWrites, from: usize, number: usize) -> usize
+// The place after the writes that have landed once so many cycles are made, of those from a place on.
+pub fn due_end(carried: CarriedWrites, from: usize, made: usize) -> usize
     requires { ⌜ (from ≤ carried .count) × (carried .count ≤ 4) ⌝ }
     ensures { λ r. ⌜ (from ≤ r) × (r ≤ carried .count)
-        × (writesFrom carried from (r - from) ≡ due (suc number) (leftFrom carried from))
-        × (leftFrom carried r ≡ later (suc number) (leftFrom carried from)) ⌝ }
+        × (writesFrom carried from (r - from) ≡ due made (leftFrom carried from))
+        × (leftFrom carried r ≡ later made (leftFrom carried from)) ⌝ }
 {
     let count = carried.count as usize;
     let mut to = from;
     while to < count {
-        if number < carried.cycles[to] as usize {
+        if made <= carried.cycles[to] as usize {
             return to;
         }
         to += 1;

@@ -38,7 +38,7 @@ pub fn land_due(
     ensures { λ r. ⌜ LandsDue carried line (first + at .used) at r (lentMemory (ram .entry) (parity .entry)) (lentMemory (ram .exit) (parity .exit)) ⌝ }
 {
     let from = at.landed;
-    let to = due_end(carried, from, first + at.used);
+    let to = due_end(carried, from, first + at.used + 1);
     land(carried, from, to, ram, parity);
     let hit = any_in_line(carried, from, to, line);
     let buffer = at.buffer;

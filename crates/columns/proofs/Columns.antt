@@ -1,7 +1,7 @@
 -- Demand 3 carried to the program: the answer and value columns are the plain memory's.
 use Prim.Native.Nat.{ℕ, suc, _/_, _%_, _<_, _≤_}
 use mathlib.Core.Path.{_≡_, refl}
-use mathlib.Core.Bool.{Bool, false, true≢false}
+use mathlib.Core.Bool.{Bool, true, false, true≢false}
 use mathlib.Core.List.{List, [], _∷_}
 use mathlib.Core.Option.{Option, none, some}
 use native.Mathlib.Omega.{arith}
@@ -10,8 +10,8 @@ use Rattle.laws.proofs.Below.{four}
 use Rattle.words.proofs.Places.{zeros-at}
 use Rattle.memory.specs.Parity.{memory, Agrees, dpAt, laneBit, dpOf, onesOf}
 use Rattle.refusal.specs.Call.{State, nextState}
-use Rattle.calls.specs.Calls.{Call}
-use Rattle.calls.specs.Matches.{Kind, testWriting, testReading, emptying, other, kindOf, testing, plants, SameResults}
+use Rattle.calls.specs.Calls.{Call, step, recordsLeft}
+use Rattle.calls.specs.Matches.{Kind, testWriting, testReading, emptying, reading, other, kindOf, testing, plants, SameResults}
 use Rattle.fields.specs.Fields.{linesOf}
 use Rattle.lines.specs.declared.Event.{Event}
 use Rattle.lines.specs.declared.Event.the-variants.{Malformed, Read, Write, External, Snoop, Flush, Control, Reset}
@@ -23,6 +23,7 @@ use Rattle.columns.specs.Program.{plainCall, plainLine, plainRows, count
 use Rattle.calls.proofs.Kept.{call-kept}
 use Rattle.calls.proofs.Coherence.{Coherent}
 use Rattle.calls.proofs.Steps.{refused-matches, call-matches}
+use Rattle.calls.proofs.Told.{carriesNone, told-alone}
 use Rattle.agreement.proofs.Demand.{start-coherent}
 
 -- no event of a line makes a test call
@@ -46,28 +47,49 @@ no-plant : (k : Kind) (number : ℕ) → testing k ≡ false → plants k number
 no-plant testWriting number t = absurd (true≢false t)
 no-plant testReading number t = refl
 no-plant emptying number t = refl
+no-plant reading number t = refl
 no-plant other number t = refl
+
+-- and none carries writes
+abbrev lineAlone : Option Call → Bool
+lineAlone none = true
+lineAlone (some c) = carriesNone c
+
+all-alone : (line : List ℕ) (e : Event) → lineAlone (callOf line e) ≡ true
+unfolding callOf
+all-alone line Malformed = refl
+all-alone line (Read address width pcd) = refl
+all-alone line (Write address width value) = refl
+all-alone line (External address from) = refl
+all-alone line (Snoop address) = refl
+all-alone line Flush = refl
+all-alone line (Control cd nw) = refl
+all-alone line Reset = refl
 
 -- a malformed line, and one that makes a call
 module _ (s : State) (m : List ℕ) (c : Coherent s m) where
-  line-matches : (x : Option Call) → lineTests x ≡ false → lineSetsNw x ≡ false → SameResults (callDone s x) (plainCall m x)
+  line-matches : (x : Option Call) → lineAlone x ≡ true → lineTests x ≡ false → lineSetsNw x ≡ false → SameResults (callDone s x) (plainCall m x)
   unfolding callDone plainCall
-  line-matches none t q = refused-matches s m c 11 [] .results
-  line-matches (some x) t q = call-matches s m c x q .matches .results t
+  line-matches none a t q = refused-matches s m c 11 [] .results
+  line-matches (some x) a t q = rw (told-alone m x a (recordsLeft (step s x))) at (call-matches s m c x q .matches .results t)
 
-  line-coherent : (x : Option Call) → lineTests x ≡ false → lineSetsNw x ≡ false → Coherent (nextState (callDone s x)) (plainCall m x .memory)
+  line-coherent : (x : Option Call) → lineAlone x ≡ true → lineTests x ≡ false → lineSetsNw x ≡ false → Coherent (nextState (callDone s x)) (plainCall m x .memory)
   unfolding callDone plainCall
-  line-coherent none t q = c
-  line-coherent (some x) t q =
-      record { kept = call-kept s (c .kept) x; beside = call-matches s m c x q .beside (no-plant (kindOf x) _ t) }
+  line-coherent none a t q = c
+  line-coherent (some x) a t q =
+      record {
+        kept = call-kept s (c .kept) x;
+        beside = rw (told-alone m x a (recordsLeft (step s x))) at (call-matches s m c x q .beside (no-plant (kindOf x) _ t));
+      }
 
 rows-agree : (lines : List (List ℕ)) (s : State) (m : List ℕ) (event : ℕ) → Coherent s m → NoLineSetsNw lines → rowsOf s event lines ≡ plainRows m event lines (countsOf s lines)
 unfolding rowsOf plainRows countsOf
 rows-agree [] s m event c n = refl
 rows-agree (line ∷ lines) s m event c n =
     let t = no-test line (scanned line) in
-    let g = line-matches s m c (lineCall line) t (n .0) in
-    rw (g .numbers, g .values, rows-agree lines (nextState (lineDone s line)) (plainLine m line .memory) (suc event) (line-coherent s m c (lineCall line) t (n .0)) (n .1))
+    let a = all-alone line (scanned line) in
+    let g = line-matches s m c (lineCall line) a t (n .0) in
+    rw (g .numbers, g .values, rows-agree lines (nextState (lineDone s line)) (plainLine m line .memory) (suc event) (line-coherent s m c (lineCall line) a t (n .0)) (n .1))
 
 -- zeros have parity that agrees
 no-bit : (lane : ℕ) → lane < 4 → laneBit 0 lane ≡ dpOf 0

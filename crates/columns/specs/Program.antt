@@ -15,10 +15,11 @@ use Rattle.events.specs.Output.{start, outputOf}
 use Rattle.calls.specs.Plain.{Plain, plain, plainRefused}
 use Rattle.calls.specs.Matches.{setsNw}
 
--- The plain memory's answer to a line: to the call that its event makes, and 11 to a malformed line, which "changes nothing".
+-- The plain memory's answer to a line: to the call that its event makes, and 11 to a malformed line, which "changes nothing". No event's read carries
+-- writes, so that it asks for no records.
 unfoldable pub plainCall : List ℕ → Option Call → Plain
 plainCall m none = plainRefused 11 m
-plainCall m (some c) = plain m c
+plainCall m (some c) = plain m c []
 
 abbrev pub plainLine : List ℕ → List ℕ → Plain
 plainLine m line = plainCall m (lineCall line)

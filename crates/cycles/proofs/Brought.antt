@@ -8,7 +8,7 @@ use native.Mathlib.Decide.{decLe, decLt}
 use lib.ListN.{length, getD, replicate}
 use lib.Seq.{length-sets}
 use lib.Dec.{eqb, ltb, leb}
-use borrow.Author.Tests.{eqb-true, eqb-false, leb-true, ltb-true}
+use borrow.Author.Tests.{eqb-true, eqb-false, leb-true, leb-false, ltb-true, le-leb, lt-leb, lt-ltb, le-ltb}
 use Rattle.laws.proofs.Tests.{both, by-test, same-or}
 use Rattle.laws.proofs.Lists.{sets-append}
 use Rattle.words.specs.Bytes.{bytesAt}
@@ -53,7 +53,7 @@ left-each x w ws g h =
     left-cases Each x w ws (λ e. h)
     (λ l. (record { some = omega arith; lanes = omega (arith, g .lanes); line = omega (arith, g .line) }, h))
 
-left-total : (x : ℕ) (w : Run) (ws : List Run) → sizeOf x w + total (wantedAfter x w ws) ≡ w .count + total ws
+pub left-total : (x : ℕ) (w : Run) (ws : List Run) → sizeOf x w + total (wantedAfter x w ws) ≡ w .count + total ws
 left-total x w ws = left-cases (λ l. sizeOf x w + total l ≡ w .count + total ws) x w ws (λ e. rw e) (λ l. omega arith)
 
 -- cycles do what the wanted bytes ask for, for any work that can be done in parts
@@ -86,7 +86,7 @@ module _ (ram : List ℕ) (line : ℕ) where
   SameByte b o = getD b o 0 ≡ getD ram (line + o) 0
 
   -- a byte of the line buffer that a cycle brings is RAM's
-  lands : (r : Run) (b : List ℕ) (o : ℕ) → r .from + r .count ≤ length b → r .from ≤ o → o < r .from + r .count → SameByte (bufferAfter ram line r b) o
+  pub lands : (r : Run) (b : List ℕ) (o : ℕ) → r .from + r .count ≤ length b → r .from ≤ o → o < r .from + r .count → SameByte (bufferAfter ram line r b) o
   lands r b o l p q =
       let e : r .from + (o - r .from) ≡ o = omega arith in
       let f : line + r .from + (o - r .from) ≡ line + o = omega arith in
@@ -140,7 +140,7 @@ all-below p (suc n) h o l =
     let q = both (p n) (allBelow p n) h in
     same-or _ o n (λ e. rw e (q .0)) (λ k. all-below p n (q .1) o (omega arith))
 
-burst-total : (q : ℕ) → total (burst q) ≡ 16
+pub burst-total : (q : ℕ) → total (burst q) ≡ 16
 unfolding burst
 burst-total zero = refl
 burst-total (suc zero) = refl
@@ -195,3 +195,41 @@ wanted-bytes ram line w g xs l =
     (bytes-same _ ram (w .from) (line + w .from) (w .count) λ o b.
     let e : line + (w .from + o) ≡ line + w .from + o = omega arith in
     rw e at (lands ram line w (replicate 16 0) (w .from + o) (g .line) (omega arith) (omega arith)))
+
+-- EACH BYTE ONCE
+
+-- how often a byte of a line is moved
+abbrev pub counted : ℕ → Run → ℕ → ℕ
+counted o r before = cond (leb (r .from) o && ltb o (r .from + r .count)) (suc before) before
+
+counted-split : (o a m n before : ℕ) → counted o (run a (m + n)) before ≡ counted o (run (a + m) n) (counted o (run a m) before)
+counted-split o a m n before =
+    by-test (λ t. leb a o ≡ t → cond (t && ltb o (a + (m + n))) (suc before) before ≡ counted o (run (a + m) n) (cond (t && ltb o (a + m)) (suc before) before)) (leb a o)
+    (λ _ e.
+    let k = leb-true a o e in
+    elim (decLt o (a + m)) [
+      | yes p ↦ rw (lt-ltb o (a + (m + n)) (omega arith), lt-leb (a + m) o (omega arith), lt-ltb o (a + m) p)
+      | no p ↦ elim (decLt o (a + m + n)) [
+        | yes q ↦ rw (lt-ltb o (a + (m + n)) (omega arith), le-leb (a + m) o (omega arith), lt-ltb o (a + m + n) q, le-ltb o (a + m) (omega arith))
+        | no q ↦ rw (le-ltb o (a + (m + n)) (omega arith), le-leb (a + m) o (omega arith), le-ltb o (a + m + n) (omega arith), le-ltb o (a + m) (omega arith))
+      ]
+    ])
+    (λ _ e. let k = leb-false a o e in rw (lt-leb (a + m) o (omega arith)))
+    refl
+
+-- a fill moves every byte of the line once, a plain read every wanted one
+burst-counted : (q o : ℕ) → o < 16 → eqb (afterRuns (counted o) (burst q) 0) 1 ≡ true
+unfolding burst allBelow
+burst-counted zero = all-below (λ o. eqb (afterRuns (counted o) (burst 0) 0) 1) 16 refl
+burst-counted (suc zero) = all-below (λ o. eqb (afterRuns (counted o) (burst 1) 0) 1) 16 refl
+burst-counted (suc (suc zero)) = all-below (λ o. eqb (afterRuns (counted o) (burst 2) 0) 1) 16 refl
+burst-counted (suc (suc (suc q))) = all-below (λ o. eqb (afterRuns (counted o) (burst 3) 0) 1) 16 refl
+
+pub fill-once : (q : ℕ) (xs : List ℕ) → 16 ≤ length xs → (o : ℕ) → o < 16 → afterCycles (counted o) (cyclesOf xs (burst q)) 0 ≡ 1
+fill-once q xs l o k =
+    let t = burst-total q in
+    cycles-as-runs (counted o) (counted-split o) xs (burst q) (burst-each q) (omega arith) 0 ∙ eqb-true _ 1 (burst-counted q o k)
+
+pub wanted-once : (w : Run) → OneDoubleword w → (xs : List ℕ) → 16 ≤ length xs → (o : ℕ) → w .from ≤ o → o < w .from + w .count → afterCycles (counted o) (cyclesOf xs (w ∷ [])) 0 ≡ 1
+wanted-once w g xs l o p q =
+    cycles-as-runs (counted o) (counted-split o) xs (w ∷ []) (g, tt) (omega (arith, g .line)) 0 ∙ rw (le-leb (w .from) o p, lt-ltb o (w .from + w .count) q)

@@ -20,10 +20,10 @@ abbrev pub zeroLog : List ℕ
 zeroLog = replicate logSize 0
 
 -- "R address width PCD; W address width value; X address bytes ..; S address; F; C CD NW; Z (reset)": the call that an event of a line makes, a read
--- or a write with the board's answers. A malformed line makes none.
+-- or a write with the board's answers; the read carries no writes. A malformed line makes none.
 unfoldable pub callOf : List ℕ → Event → Option Call
 callOf line Malformed = none
-callOf line (Read address width pcd) = some (read address width pcd (boardAnswers address width) zeroLog)
+callOf line (Read address width pcd) = some (read address width pcd (boardAnswers address width) zeroLog [])
 callOf line (Write address width value) = some (write address width value (boardAnswers address width) zeroLog)
 callOf line (External address from) = some (external address (pairBytes (drop from line)))
 callOf line (Snoop address) = some (snoop address)

@@ -1,7 +1,7 @@
 // One event line on the unit, by the calls in place.
 ghost use mathlib.Core.Path.{_≡_};
 ghost use mathlib.Core.Bool.{Bool};
-ghost use mathlib.Core.List.{List};
+ghost use mathlib.Core.List.{List, []};
 ghost use Prim.Native.Nat.{ℕ, _≤_};
 ghost use lib.ListN.{length};
 ghost use Rattle.directory.specs.Steps.{lentDirectory};
@@ -82,7 +82,7 @@ fn perform_read<'a>(
     width: u32,
     pcd: bool,
 ) -> CallResult
-    ensures { λ r. ⌜ ((nw : Bool) → Leaves (step (lentState (tags .entry) (valid .entry) (lru .entry) (now (cd .entry)) nw (ram .entry) (parity .entry) («data» .entry)) (read address width pcd (boardAnswers address width) zeroLog))
+    ensures { λ r. ⌜ ((nw : Bool) → Leaves (step (lentState (tags .entry) (valid .entry) (lru .entry) (now (cd .entry)) nw (ram .entry) (parity .entry) («data» .entry)) (read address width pcd (boardAnswers address width) zeroLog []))
         r (lentState (tags .exit) (valid .exit) (lru .exit) (now (cd .entry)) nw (ram .entry) (parity .entry) («data» .exit))) ⌝ }
 {
     let answers = board::board_answers(address, width);

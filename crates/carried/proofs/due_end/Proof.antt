@@ -10,10 +10,10 @@ use Rattle.carried.proofs.due_end.Reads as reads
 use Rattle.carried.proofs.due_end.Lts as lts
 
 abbrev Inv-loop : tie.InvT-loop
-Inv-loop from number carried count to₀ to = (count ≡ carried .count) × DueTo carried from number to
+Inv-loop from made carried count to₀ to = (count ≡ carried .count) × DueTo carried from made to
 
 abbrev μ-loop : tie.MeasureT-loop
-μ-loop from number carried count to₀ to = count - to
+μ-loop from made carried count to₀ to = count - to
 
 -- src/lib.rt:32:17
 cast-count : tie.Need-cast-count Inv-loop μ-loop

@@ -1,3 +1,5 @@
+use Prim.Native.Nat.{suc, _+_}
+use native.Mathlib.Omega.{arith}
 use Rattle.carried.specs.Carried.{Carried, landed, inLine}
 use Rattle.memory.specs.Parity.{memory}
 use denote.Ref.{now}
@@ -17,6 +19,10 @@ use Rattle.carried.proofs.land.Reads as land-reads
 -- src/cycle.rt:41:37
 add-due-end : tie.Need-add-due-end
 add-due-end c = search needs
+
+-- src/cycle.rt:41:37
+add-due-end-2 : tie.Need-add-due-end-2
+add-due-end-2 c = search needs
 
 -- src/cycle.rt:41:9
 due-end-requires : tie.Need-due-end-requires
@@ -40,13 +46,14 @@ same-length-2 c = search needs
 
 -- src/cycle.rt:29:1
 returns : tie.Need-returns
-returns c = let d = c .before .before .before .before .before .before .before .before .before .before .before .due-end .ensures in let a = c .before .before .before .before .before .before .before .before .before .before .before .before .before .before .before .args in record { memories = c .before .before .before .before .before .before .before .before .land .ensures ∙ ap (λ (l : List Carried). landed l (memory (now (a .ram)) (now (a .parity)))) (d .2); those = d .2; lefts = d .3; above = d .0; within = d .1; same = refl; buffers = refl; spoils = ap (λ (b : Bool). a .at .spoiled || (ltb 0 (a .at .used) && b)) (c .before .before .before .any-in-line .ensures ∙ ap (inLine (a .line)) (d .2)) }
+returns c = let a = c .before .before .before .before .before .before .before .before .before .before .before .before .before .before .before .args in let n : a .first + a .at .used + 1 ≡ suc (a .first + a .at .used) = omega arith in let d = rw n at (c .before .before .before .before .before .before .before .before .before .before .before .due-end .ensures) in record { memories = c .before .before .before .before .before .before .before .before .land .ensures ∙ ap (λ (l : List Carried). landed l (memory (now (a .ram)) (now (a .parity)))) (d .2); those = d .2; lefts = d .3; above = d .0; within = d .1; same = refl; buffers = refl; spoils = ap (λ (b : Bool). a .at .spoiled || (ltb 0 (a .at .used) && b)) (c .before .before .before .any-in-line .ensures ∙ ap (inLine (a .line)) (d .2)) }
 
 pub land-due-spec : {M : Type 1} → statement M
 land-due-spec =
     tie.close
     (tie.spec
     add-due-end
+    add-due-end-2
     due-end-requires
     land-requires
     any-in-line-requires
