@@ -30,8 +30,8 @@ use Rattle.refusal.specs.Refusal.{orElse, lentNumber, argumentNumber, carriedNu
 use Rattle.refusal.specs.Call.{State, state, after, refused}
 use Rattle.refusal.proofs.Accepted.{or-zero, lent-accepted}
 use Rattle.refusal.proofs.Carried.{all-left, carried-accepted}
-use Rattle.access.specs.Access.{Progress, progress, UnderWay, underWay, snoopedBy, directoryAfter, readOne, readNext, landedAfter, readEach, readNumber, readAll, readCall, accepted}
-use Rattle.access.proofs.AccessLoop.{restOf, rest-next, rest-done, followed}
+use Rattle.access.specs.Access.{Progress, progress, thenRest, UnderWay, underWay, snoopedBy, directoryAfter, readOne, readNext, landedAfter, readEach, readNumber, readAll, readCall, accepted}
+use Rattle.access.proofs.AccessLoop.{restOf, rest-next, rest-done}
 use Rattle.access.proofs.Alone.{done-length}
 use Rattle.access.proofs.ReadLoop.{ReadInvariant, reading-begin, reading-next, reading-end, number-fits}
 use Rattle.access.proofs.Calls.{read-refused, read-done, whole, needs-begin}
@@ -83,7 +83,7 @@ module _ (pcd : Bool) (xs : List ℕ) (carried : CarriedWrites) (cursor : Access
   done = readOne pcd u w
 
   -- all doublewords left are the next one and those after it
-  each-next : 0 < cursor .left → cursor .group < groupCount → (n : ℕ) → readEach pcd u (restOf cursor xs) ≡ followed done (readEach pcd (readNext u w done) (restOf (accessNext cursor (countOf cursor) n) xs))
+  each-next : 0 < cursor .left → cursor .group < groupCount → (n : ℕ) → readEach pcd u (restOf cursor xs) ≡ thenRest done (readEach pcd (readNext u w done) (restOf (accessNext cursor (countOf cursor) n) xs))
   unfolding readEach
   each-next some more n = rw (rest-next cursor xs n some more)
 
