@@ -6,7 +6,7 @@ ghost use Rattle.words.specs.Bytes.{bytesAt};
 ghost use Rattle.memory.specs.Parity.{lentMemory, stored};
 ghost use Rattle.carried.specs.Carried.{due, inLine, landed, later};
 ghost use Rattle.carried.specs.CarriedCode.{CarriedNeeds, leftFrom, writesFrom};
-use memory::store_bytes;
+use memory::put_byte;
 
 // The most writes that a read carries.
 pub const CARRIED_MOST: u32 = 4;
@@ -41,7 +41,7 @@ pub fn due_end(carried: CarriedWrites, from: usize, made: usize) -> usize
     to
 }
 
-// One write lands.
+// One write lands, byte by byte: most have few.
 fn land_one(
     bytes: &[u8; 64],
     from: usize,
@@ -53,7 +53,12 @@ fn land_one(
     requires { ⌜ (from + count ≤ 64) × (address + count ≤ length (now ram)) × (address + count ≤ 4 * length (now parity)) ⌝ }
     ensures { λ _. ⌜ lentMemory (ram .exit) (parity .exit) ≡ stored (lentMemory (ram .entry) (parity .entry)) address (bytesAt (now (bytes .entry)) from count) ⌝ }
 {
-    store_bytes(&bytes[..], from, ram, parity, address as usize, count);
+    let start = address as usize;
+    let mut k: usize = 0;
+    while k < count {
+        put_byte(ram, parity, start + k, bytes[from + k]);
+        k += 1;
+    }
 }
 
 // The writes of some places land: their bytes go into RAM, with their parity.

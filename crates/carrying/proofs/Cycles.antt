@@ -1,25 +1,49 @@
 -- Laws of the cycles of a read that carries writes: one cycle, and cycles one after the other.
 use Prim.Native.Nat.{ℕ, suc, _+_, _-_, _≤_}
 use mathlib.Core.Path.{_≡_, refl, sym, _∙_, ap}
-use mathlib.Core.Bool.{Bool, _&&_, _||_}
+use mathlib.Core.Bool.{Bool, true, false, _&&_, _||_}
 use mathlib.Core.List.{List, [], _∷_, _++_}
 use native.Mathlib.Omega.{arith}
 use lib.Dec.{ltb}
 use lib.ListN.{length, length-append}
 use borrow.Author.Tests.{lt-ltb, le-ltb}
-use Rattle.laws.proofs.Tests.{same-or}
+use Rattle.laws.proofs.Tests.{by-test, same-or}
 use Rattle.memory.specs.Parity.{Memory}
 use Rattle.carried.specs.declared.CarriedWrites.{CarriedWrites}
 use Rattle.carried.specs.Carried.{Carried, due, later, landed, memoryAt, inLine}
 use Rattle.carried.specs.CarriedCode.{writesFrom, leftFrom}
 use Rattle.carried.proofs.Due.{due-none, due-early, due-then, later-then, landed-append, in-line-append}
-use Rattle.carried.proofs.Writes.{writes-append}
+use Rattle.carried.proofs.Writes.{writes-append, writes-none}
 use Rattle.bus.specs.Bus.{run, Cycle, bufferAfter}
 use Rattle.bus.specs.Record.{Record, readRecord, logged}
 use Rattle.bus.proofs.Flags.{logged-append}
 use Rattle.reading.specs.Reading.{bufferOf, recordsOf}
 use Rattle.carrying.specs.declared.cycle.Brought.{Brought}
 use Rattle.carrying.specs.CarryingCode.{LandsDue, MovesBytes, LandedTo, spoiledAt, CyclesBrought}
+
+-- WHERE NOTHING IS DUE
+
+-- nothing lands
+pub none-lands : (carried : CarriedWrites) (line n : ℕ) (at : Brought) (m : Memory) (to : ℕ) → to ≡ at .landed → to ≤ carried .count →
+    writesFrom carried (at .landed) (to - at .landed) ≡ due (suc n) (leftFrom carried (at .landed)) → leftFrom carried to ≡ later (suc n) (leftFrom carried (at .landed)) →
+    LandsDue carried line n at at m m
+unfolding landed inLine
+none-lands carried line n at m to e h those lefts =
+    let none : due (suc n) (leftFrom carried (at .landed)) ≡ [] = sym (rw e at those) ∙ writes-none carried (at .landed) in
+    record {
+      memories = rw none;
+      those = rw e at those;
+      lefts = rw e at lefts;
+      above = omega arith;
+      within = rw e at h;
+      same = refl;
+      buffers = refl;
+      spoils = rw none (by-test (λ b. at .spoiled ≡ (at .spoiled || (b && false))) (ltb 0 (at .used)) (λ _. or-false (at .spoiled)) (λ _. or-false (at .spoiled)));
+    }
+  where
+    or-false : (b : Bool) → b ≡ (b || false)
+    or-false true = refl
+    or-false false = refl
 
 -- CYCLES ONE AFTER THE OTHER
 

@@ -39,6 +39,9 @@ pub fn land_due(
 {
     let from = at.landed;
     let to = due_end(carried, from, first + at.used + 1);
+    if to == from {
+        return at;
+    }
     land(carried, from, to, ram, parity);
     let hit = any_in_line(carried, from, to, line);
     let buffer = at.buffer;

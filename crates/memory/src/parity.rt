@@ -38,7 +38,7 @@ pub fn dp_bits(lowest: u8, second: u8, third: u8, highest: u8) -> u8
 }
 
 // A byte put into RAM, with its parity.
-fn put_byte(ram: &mut [u8], parity: &mut [u8], a: usize, b: u8)
+pub fn put_byte(ram: &mut [u8], parity: &mut [u8], a: usize, b: u8)
     requires { ⌜ (a < length (now ram)) × (a < 4 * length (now parity)) ⌝ }
     ensures { λ _. ⌜ lentMemory (ram .exit) (parity .exit) ≡ put (lentMemory (ram .entry) (parity .entry)) a b ⌝ }
 {

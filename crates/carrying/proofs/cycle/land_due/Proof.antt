@@ -1,3 +1,4 @@
+use Rattle.carrying.proofs.Cycles.{none-lands}
 use Prim.Native.Nat.{suc, _+_}
 use native.Mathlib.Omega.{arith}
 use Rattle.carried.specs.Carried.{Carried, landed, inLine}
@@ -20,6 +21,15 @@ add-due-end-2 c = search needs
 due-end-requires : tie.Need-due-end-requires
 due-end-requires c κs = search needs
 
+returns : tie.Need-returns
+returns c =
+    let at-due-end = c .before in
+    let start = at-due-end .before .before .before .before in
+    let a = start .args in
+    let n : a .first + a .at .used + 1 ≡ suc (a .first + a .at .used) = omega arith in
+    let d = rw n at (at-due-end .due-end .ensures) in
+    none-lands _ _ _ _ _ _ (c .if1 .taken) (d .1) (d .2) (d .3)
+
 land-requires : tie.Need-land-requires
 land-requires c κs = search needs
 
@@ -32,11 +42,11 @@ same-length c = search needs
 same-length-2 : tie.Need-same-length-2
 same-length-2 c = search needs
 
-returns : tie.Need-returns
-returns c =
+returns-2 : tie.Need-returns-2
+returns-2 c =
     let at-any-in-line = c .before .before .before in
     let at-land = at-any-in-line .before .before .before .before .before in
-    let at-due-end = at-land .before .before .before in
+    let at-due-end = at-land .before .before .before .before in
     let start = at-due-end .before .before .before .before in
     let a = start .args in
     let n : a .first + a .at .used + 1 ≡ suc (a .first + a .at .used) = omega arith in
@@ -61,8 +71,9 @@ land-due-spec =
     add-due-end
     add-due-end-2
     due-end-requires
+    returns
     land-requires
     any-in-line-requires
     same-length
     same-length-2
-    returns)
+    returns-2)
