@@ -1,7 +1,7 @@
 -- Laws of the loops over doublewords: what is left from here gives what the whole gives.
 use Prim.Native.Nat.{ℕ, zero, suc, _+_, _*_, _-_, _/_, _%_, _<_, min}
 use mathlib.Core.Path.{_≡_, refl, sym, _∙_, ap}
-use mathlib.Core.List.{List, [], _∷_, _++_}
+use mathlib.Core.List.{List, [], _∷_}
 use native.Mathlib.Omega.{arith}
 use lib.ListN.{length, take, drop, length-append}
 use lib.Seq.{drop-drop}
@@ -16,7 +16,7 @@ use Rattle.bus.specs.Groups.{groupSize, groupCount}
 use Rattle.doubleword.specs.Doubleword.{Doubleword, Done, doublewordsOf, changed}
 use Rattle.doubleword.specs.Cursor.{countOf, accessNext, nextDoubleword}
 use Rattle.refusal.specs.Call.{State}
-use Rattle.access.specs.Access.{Progress, progress, allOf, next}
+use Rattle.access.specs.Access.{Progress, progress, thenRest, allOf, next}
 
 -- the next doubleword, and those after it
 pub next-of : (g : ℕ) (xs : List ℕ) (address n place : ℕ) → 0 < n →
@@ -59,10 +59,6 @@ rest-done cursor xs e =
     ap (λ (n : ℕ). doublewordsOf (groupCount - cursor .group) (drop (cursor .group * groupSize) xs) (cursor .address) n (cursor .place)) e
     ∙ none-of (groupCount - cursor .group) (drop (cursor .group * groupSize) xs) (cursor .address) (cursor .place)
 
--- a doubleword, and what those after it give
-abbrev pub followed : Done → Progress → Progress
-followed done rest = progress (rest .state) (done .bytes ++ rest .bytes) (done .records ++ rest .records)
-
 -- what the loops keep: what the doublewords left give is what all give
 pub record AccessInvariant (rest p : Progress) (log₀ : List ℕ) (cycles : ℕ) (log : List ℕ) : Type 0 where
   pub states : rest .state ≡ p .state
@@ -73,7 +69,7 @@ pub access-invariant-begin : (p : Progress) (log₀ : List ℕ) → AccessInvari
 access-invariant-begin p log₀ = record { states = refl; logs = refl; made = omega arith }
 
 module _ {rest p : Progress} {log₀ : List ℕ} {cycles : ℕ} {log : List ℕ} (g : AccessInvariant rest p log₀ cycles log) where
-  pub access-invariant-next : (done : Done) (rest′ : Progress) (log′ : List ℕ) (n : ℕ) → rest ≡ followed done rest′ → log′ ≡ logged log cycles (done .records) → n ≡ length (done .records) →
+  pub access-invariant-next : (done : Done) (rest′ : Progress) (log′ : List ℕ) (n : ℕ) → rest ≡ thenRest done rest′ → log′ ≡ logged log cycles (done .records) → n ≡ length (done .records) →
       AccessInvariant rest′ p log₀ (cycles + n) log′
   access-invariant-next done rest′ log′ n e el en =
       let k : cycles + n ≡ cycles + length (done .records) = omega arith in
@@ -101,7 +97,7 @@ module _ (one : State → Doubleword → Done) (xs : List ℕ) (cursor : AccessC
 
   -- those left are the next one and those after it
   pub all-next : 0 < cursor .left → cursor .group < groupCount → (cycles : ℕ) → allOf one s (restOf cursor xs)
-      ≡ followed (one s w) (allOf one (next s w (one s w)) (restOf (accessNext cursor (countOf cursor) cycles) xs))
+      ≡ thenRest (one s w) (allOf one (next s w (one s w)) (restOf (accessNext cursor (countOf cursor) cycles) xs))
   unfolding allOf
   all-next some more cycles = rw (rest-next cursor xs cycles some more)
 

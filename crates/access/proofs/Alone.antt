@@ -20,7 +20,7 @@ use Rattle.reading.proofs.ReadDoublewords.{read-memory}
 use Rattle.refusal.specs.Call.{State}
 use Rattle.refusal.specs.Refusal.{orElse, lentNumber, argumentNumber, carriedNumber, statesNumberOf, carriedStatesNumberIn, inOrder, anyRefused}
 use Rattle.refusal.proofs.Accepted.{zero-or, first-or}
-use Rattle.access.specs.Access.{Progress, next, allOf, underWay, snoopedBy, readOne, readNext, landedAfter, readEach, readNumber}
+use Rattle.access.specs.Access.{next, allOf, underWay, snoopedBy, readOne, landedAfter, readEach, readNumber}
 
 -- a doubleword by the directory as it is then
 unfoldable pub oneAlone : Bool → State → Doubleword → Done

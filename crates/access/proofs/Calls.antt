@@ -14,7 +14,7 @@ use Rattle.carried.specs.Carried.{Carried}
 use Rattle.doubleword.specs.declared.cursor.AccessCursor.{AccessCursor}
 use Rattle.bus.specs.Groups.{groupCount}
 use Rattle.bus.specs.Record.{logged}
-use Rattle.doubleword.specs.Doubleword.{Doubleword, Done, doublewordsOf}
+use Rattle.doubleword.specs.Doubleword.{doublewordsOf}
 use Rattle.refusal.specs.Refusal.{orElse, statesNumberOf, lentNumber, argumentNumber, valueNumber}
 use Rattle.directory.specs.Outcome.{outcome}
 use Rattle.refusal.specs.Call.{State, state, after, refused}

@@ -1,13 +1,21 @@
 -- A carried write that lands puts its bytes into memory and snoops, as an external write does.
 use Prim.Native.Nat.{ℕ}
 use mathlib.Core.Path.{_≡_, refl}
+use mathlib.Core.Bool.{Bool, true, cond, not, _&&_}
 use mathlib.Core.List.{List, [], _∷_}
 use native.Mathlib.Nat.{add-zero}
-use Rattle.directory.specs.Steps.{afterSnoop}
+use lib.ListN.{getD}
+use Rattle.laws.proofs.Tests.{by-test}
+use Rattle.ways.specs.declared.ways.Found.the-variants.{Nothing}
+use Rattle.directory.specs.Steps.{lookupOf, afterSnoop}
 use Rattle.memory.specs.Parity.{stored}
 use Rattle.carried.specs.Carried.{Carried, due, landed}
+use Rattle.bus.specs.Bus.{ken}
+use Rattle.doubleword.specs.declared.change.Change.the-variants.{Unchanged}
+use Rattle.doubleword.specs.Doubleword.{Doubleword}
+use Rattle.reading.specs.Reading.{spoiled, fillMiss, plainMiss, readMiss, keptChange, keptArray, settled, readDone}
 use Rattle.refusal.specs.Call.{State, state}
-use Rattle.access.specs.Access.{UnderWay, underWay, snoopedBy, directoryAfter, landedAfter}
+use Rattle.access.specs.Access.{UnderWay, underWay, snoopedBy, directoryAfter, readOne, landedAfter}
 
 -- the state after one
 abbrev pub landedOne : State → Carried → State
@@ -21,3 +29,20 @@ landed-first s w ws n = refl
 pub none-snooped : (u : UnderWay) → due (u .cycle) (u .writes) ≡ [] → directoryAfter u 0 ≡ u .unit .directory
 unfolding snoopedBy
 none-snooped u e = rw (add-zero (u .cycle), e)
+
+-- a fill that a later write spoils changes neither directory nor data array: "with NW = 1 too"
+module _ (pcd : Bool) (u : UnderWay) (w : Doubleword) (missed : lookupOf (u .unit .directory) (w .line) ≡ Nothing) (h : spoiled (u .writes) (u .cycle) w ≡ true) where
+  pub spoiled-dropped : (readOne pcd u w .change ≡ Unchanged) × (readOne pcd u w .array ≡ u .unit .array)
+  unfolding readOne readDone settled readMiss fillMiss plainMiss
+  spoiled-dropped =
+      let d = u .unit .directory in
+      rw missed
+      (by-test
+      (λ t.
+      let kept = cond t (fillMiss (u .unit .memory) (u .writes) (u .cycle) w) (plainMiss (u .unit .memory) (u .writes) (u .cycle) w) .kept in
+      (victim : ℕ) (buffer : List ℕ) → (keptChange kept victim ≡ Unchanged) × (keptArray kept victim (w .line) buffer (u .unit .array) ≡ u .unit .array))
+      ((not (d .cd) && not pcd) && ken (getD (w .answers) 0 0))
+      (λ _ victim buffer. rw h (refl, refl))
+      (λ _ victim buffer. (refl, refl))
+      _
+      _)

@@ -20,8 +20,8 @@ use Rattle.doubleword.specs.Cursor.{lineAddress, countOf, accessNext, nextDoubl
 use Rattle.doubleword.proofs.Cursors.{needs-lengths, needs-more, cursor-needs}
 use Rattle.reading.specs.ReadingCode.{Reads}
 use Rattle.refusal.specs.Call.{State, state}
-use Rattle.access.specs.Access.{Progress, progress, allOf, next}
-use Rattle.access.proofs.AccessLoop.{restOf, followed, AccessInvariant, access-invariant-begin, access-invariant-next, all-next}
+use Rattle.access.specs.Access.{Progress, progress, thenRest, allOf, next}
+use Rattle.access.proofs.AccessLoop.{restOf, AccessInvariant, access-invariant-begin, access-invariant-next, all-next}
 use Rattle.access.proofs.Alone.{oneAlone, one-length, one-memory}
 
 -- a number of so many bytes, and one above it
@@ -52,7 +52,7 @@ reading-begin p log₀ = record { invariant = access-invariant-begin p log₀; s
 
 module _ {rest p : Progress} {log₀ : List ℕ} {place cycles : ℕ} {log : List ℕ} {value : ℕ} (g : ReadInvariant rest p log₀ place cycles log value) where
   -- the next doubleword of the code, read by the rules
-  module _ (done : Done) (rest′ : Progress) (count part : ℕ) (e : rest ≡ followed done rest′) (el : length (done .bytes) ≡ count) (ep : part ≡ valueOf (done .bytes)) where
+  module _ (done : Done) (rest′ : Progress) (count part : ℕ) (e : rest ≡ thenRest done rest′) (el : length (done .bytes) ≡ count) (ep : part ≡ valueOf (done .bytes)) where
     sums-next : value + part * 256 ^ place + valueOf (rest′ .bytes) * 256 ^ (place + count) ≡ valueOf (p .bytes)
     sums-next =
         let v : valueOf (rest .bytes) ≡ part + valueOf (rest′ .bytes) * 256 ^ count =

@@ -17,7 +17,7 @@ use Rattle.refusal.specs.Call.{State}
 use Rattle.access.specs.Access.{readNumber, writeNumber}
 use Rattle.masters.specs.Masters.{externalWriteNumber}
 use Rattle.bus.specs.Groups.{badWidth}
-use Rattle.refusal.specs.Refusal.{when, orElse, anyAbove, ramNumber, memoryNumber, arrayNumber, lentNumber, badAnswers, argumentNumber, valueNumber, externalNumber, viewAddressNumber, viewInputNumber, inOrder, anyRefused, carriedNumber, statesNumberIn, statesNumberOf, carriedStatesNumber}
+use Rattle.refusal.specs.Refusal.{when, orElse, anyAbove, ramNumber, memoryNumber, arrayNumber, lentNumber, badAnswers, argumentNumber, valueNumber, externalNumber, viewAddressNumber, viewInputNumber, inOrder, anyRefused, carriedNumber, statesNumberIn, statesNumberOf, carriedStatesNumberIn, carriedStatesNumber}
 use Rattle.refusal.proofs.Accepted.{zero-or, first-or, GoodMemory}
 use Rattle.views.specs.View.{viewNumberIn}
 use Rattle.diagnostics.specs.Diagnostics.{testNumber, testWriteNumber}
@@ -58,7 +58,7 @@ module _ (s : State) (m : List ℕ) (c : Coherent s m) where
   states-clear a n = zero-or (stateNumberOf (s .directory) (setOf a)) _ (state-zero a) ∙ state-zero (a + n - 1)
 
   carried-clear : (ws : List Carried) → carriedStatesNumber (s .directory) ws ≡ 0
-  unfolding carriedStatesNumber
+  unfolding carriedStatesNumberIn
   carried-clear [] = refl
   carried-clear (w ∷ ws) = zero-or (statesNumberOf (s .directory) (w .address) (length (w .bytes))) _ (states-clear (w .address) (length (w .bytes))) ∙ carried-clear ws
 

@@ -1,13 +1,13 @@
 -- Laws of the cycles of a read that carries writes: one cycle, and cycles one after the other.
-use Prim.Native.Nat.{ℕ, suc, _+_, _*_, _-_, _/_, _%_, _≤_, _<_}
+use Prim.Native.Nat.{ℕ, suc, _+_, _-_, _≤_}
 use mathlib.Core.Path.{_≡_, refl, sym, _∙_, ap}
-use mathlib.Core.Bool.{Bool, true, false, _&&_, _||_}
-use mathlib.Core.List.{List, [], _∷_, _++_, append-assoc}
+use mathlib.Core.Bool.{Bool, _&&_, _||_}
+use mathlib.Core.List.{List, [], _∷_, _++_}
 use native.Mathlib.Omega.{arith}
 use lib.Dec.{ltb}
-use lib.ListN.{length, getD, length-append}
+use lib.ListN.{length, length-append}
 use borrow.Author.Tests.{lt-ltb, le-ltb}
-use Rattle.laws.proofs.Tests.{by-test, same-or}
+use Rattle.laws.proofs.Tests.{same-or}
 use Rattle.memory.specs.Parity.{Memory}
 use Rattle.carried.specs.declared.CarriedWrites.{CarriedWrites}
 use Rattle.carried.specs.Carried.{Carried, due, later, landed, memoryAt, inLine}
@@ -17,7 +17,6 @@ use Rattle.carried.proofs.Writes.{writes-append}
 use Rattle.bus.specs.Bus.{run, Cycle, bufferAfter}
 use Rattle.bus.specs.Record.{Record, readRecord, logged}
 use Rattle.bus.proofs.Flags.{logged-append}
-use Rattle.parts.specs.Parts.{moving}
 use Rattle.reading.specs.Reading.{bufferOf, recordsOf}
 use Rattle.carrying.specs.declared.cycle.Brought.{Brought}
 use Rattle.carrying.specs.CarryingCode.{LandsDue, MovesBytes, LandedTo, spoiledAt, CyclesBrought}

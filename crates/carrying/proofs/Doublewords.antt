@@ -12,7 +12,7 @@ use Rattle.ways.specs.declared.ways.Found.the-variants.{At, Nothing}
 use Rattle.words.specs.Bytes.{bytesAt, valueOf}
 use Rattle.memory.specs.Parity.{Memory}
 use Rattle.carried.specs.declared.CarriedWrites.{CarriedWrites}
-use Rattle.carried.specs.Carried.{Carried, due, later, memoryAt, inLine}
+use Rattle.carried.specs.Carried.{Carried, due, memoryAt, inLine}
 use Rattle.carried.specs.CarriedCode.{leftFrom, CarriedNeeds}
 use Rattle.carried.proofs.Due.{due-early}
 use Rattle.bus.specs.Bus.{run, ken, Cycle, cyclesOf, burst, lastAnswer}
@@ -22,7 +22,7 @@ use Rattle.doubleword.specs.declared.change.Wanted.{Wanted}
 use Rattle.doubleword.specs.declared.cursor.AccessCursor.{AccessCursor}
 use Rattle.doubleword.specs.Doubleword.{Doubleword, plainCycles}
 use Rattle.doubleword.specs.DoublewordCode.{doublewordOf, DoublewordNeeds}
-use Rattle.doubleword.specs.Cursor.{wantedOf, groupAt, lineAddress, countOf}
+use Rattle.doubleword.specs.Cursor.{wantedOf, lineAddress}
 use Rattle.reading.specs.Reading.{Missed, bufferOf, recordsOf, plainMiss, fillCycles, spoiled, fillMiss, readMiss}
 use Rattle.carrying.specs.declared.cycle.Brought.{Brought}
 use Rattle.carrying.specs.declared.next.CarriedRead.{CarriedRead}

@@ -1,11 +1,9 @@
 -- The end of a doubleword of a read that carries writes.
 use Prim.Native.Nat.{ℕ, _<_}
-use mathlib.Core.Path.{_≡_, refl, sym, _∙_, ap}
+use mathlib.Core.Path.{_≡_, refl, _∙_, ap}
 use mathlib.Core.Bool.{Bool, true, false}
 use mathlib.Core.List.{List}
-use native.Mathlib.Omega.{arith}
 use lib.Seq.{sets}
-use Rattle.laws.proofs.Tests.{cond-true, cond-false}
 use Rattle.ways.specs.Address.{dataOffset}
 use Rattle.ways.specs.declared.ways.Found.{Found}
 use Rattle.ways.specs.declared.ways.Found.the-variants.{At, Nothing}

@@ -22,7 +22,7 @@ use Rattle.doubleword.specs.declared.change.Change.the-variants.{Unchanged, Use
 use Rattle.doubleword.specs.declared.cursor.AccessCursor.{AccessCursor}
 use Rattle.doubleword.specs.Doubleword.{Doubleword}
 use Rattle.doubleword.specs.Cursor.{lineAddress, countOf}
-use Rattle.reading.specs.Reading.{Missed, bufferOf, recordsOf, readMiss}
+use Rattle.reading.specs.Reading.{bufferOf, recordsOf, readMiss}
 use Rattle.carrying.specs.declared.cycle.Brought.{Brought}
 use Rattle.carrying.specs.declared.next.CarriedRead.{CarriedRead}
 

@@ -16,7 +16,7 @@ use Rattle.words.specs.Bytes.{valueOf}
 use Rattle.memory.specs.Parity.{Memory}
 use Rattle.carried.specs.declared.CarriedWrites.{CarriedWrites}
 use Rattle.carried.specs.Carried.{Carried, due, later, landed}
-use Rattle.carried.specs.CarriedCode.{writesFrom, carriedOf, leftFrom, CarriedNeeds}
+use Rattle.carried.specs.CarriedCode.{carriedOf, leftFrom, CarriedNeeds}
 use Rattle.carried.proofs.Due.{due-zero, due-none}
 use Rattle.bus.specs.Groups.{groupCount}
 use Rattle.bus.specs.Record.{logged}
@@ -30,8 +30,8 @@ use Rattle.refusal.specs.Refusal.{orElse, lentNumber, argumentNumber, carriedNu
 use Rattle.refusal.specs.Call.{State, state, after, refused}
 use Rattle.refusal.proofs.Accepted.{or-zero, lent-accepted}
 use Rattle.refusal.proofs.Carried.{all-left, carried-accepted}
-use Rattle.access.specs.Access.{Progress, progress, UnderWay, underWay, snoopedBy, directoryAfter, readOne, readNext, landedAfter, readEach, readNumber, readAll, readCall, accepted}
-use Rattle.access.proofs.AccessLoop.{restOf, rest-next, rest-done, followed}
+use Rattle.access.specs.Access.{Progress, progress, thenRest, UnderWay, underWay, snoopedBy, directoryAfter, readOne, readNext, landedAfter, readEach, readNumber, readAll, readCall, accepted}
+use Rattle.access.proofs.AccessLoop.{restOf, rest-next, rest-done}
 use Rattle.access.proofs.Alone.{done-length}
 use Rattle.access.proofs.ReadLoop.{ReadInvariant, reading-begin, reading-next, reading-end, number-fits}
 use Rattle.access.proofs.Calls.{read-refused, read-done, whole, needs-begin}
@@ -83,7 +83,7 @@ module _ (pcd : Bool) (xs : List ℕ) (carried : CarriedWrites) (cursor : Access
   done = readOne pcd u w
 
   -- all doublewords left are the next one and those after it
-  each-next : 0 < cursor .left → cursor .group < groupCount → (n : ℕ) → readEach pcd u (restOf cursor xs) ≡ followed done (readEach pcd (readNext u w done) (restOf (accessNext cursor (countOf cursor) n) xs))
+  each-next : 0 < cursor .left → cursor .group < groupCount → (n : ℕ) → readEach pcd u (restOf cursor xs) ≡ thenRest done (readEach pcd (readNext u w done) (restOf (accessNext cursor (countOf cursor) n) xs))
   unfolding readEach
   each-next some more n = rw (rest-next cursor xs n some more)
 
@@ -107,8 +107,8 @@ module _ (pcd : Bool) (xs : List ℕ) (carried : CarriedWrites) (cursor : Access
     made = k .made ∙ ap length (whole-done .records)
 
     -- what the end of the doubleword needs
-    pub end-needs : from ≤ carried .count → CarriedNeeds carried (length (m .ram)) (length (m .parity)) → length array ≡ 8192 → EndNeeds carried from r (length array)
-    end-needs h z e =
+    pub end-needs : CarriedNeeds carried (length (m .ram)) (length (m .parity)) → length array ≡ 8192 → EndNeeds carried from r (length array)
+    end-needs z e =
         record {
           above = k .lands .above;
           within = k .lands .within;

@@ -1,6 +1,6 @@
 -- Laws of a read that carries nothing: memory is the same at every cycle, so that no cycle's number matters.
-use Prim.Native.Nat.{ℕ, suc, _/_}
-use mathlib.Core.Path.{_≡_, refl, _∙_, ap}
+use Prim.Native.Nat.{ℕ, suc}
+use mathlib.Core.Path.{_≡_, refl}
 use mathlib.Core.Bool.{Bool, false, cond, _&&_}
 use mathlib.Core.List.{List, [], _∷_, map}
 use lib.ListN.{getD, replicate}

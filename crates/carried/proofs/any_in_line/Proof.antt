@@ -3,14 +3,10 @@ use Rattle.carried.specs.CarriedCode.{writesFrom}
 use Rattle.carried.specs.Carried.{inLine}
 use borrow.Author.Needs.{needs}
 use Prim.Native.Nat.{_-_, _≤_}
-use mathlib.Core.Bool.{Bool}
-use mathlib.Core.Path.{_≡_, refl, sym, _∙_, ap}
+use mathlib.Core.Path.{_≡_}
 use native.Mathlib.Omega.{arith}
 use Rattle.carried.proofs.any_in_line.Statement.{statement}
 use Rattle.carried.proofs.any_in_line.Tie as tie
-use Rattle.carried.proofs.any_in_line.Reads as reads
-use Rattle.carried.proofs.any_in_line.Lts as lts
-use Rattle.carried.proofs.line_of.Reads as line-of-reads
 
 abbrev Inv-loop : tie.InvT-loop
 Inv-loop from to line carried found₀ k₀ found k = (found ≡ inLine line (writesFrom carried from (k - from))) × (from ≤ k) × (k ≤ to)
@@ -18,36 +14,30 @@ Inv-loop from to line carried found₀ k₀ found k = (found ≡ inLine line (wr
 abbrev μ-loop : tie.MeasureT-loop
 μ-loop from to line carried found₀ k₀ found k = to - k
 
--- src/lib.rt:72:5
 loop-holds : tie.Need-loop-holds Inv-loop μ-loop
 unfolding inLine
 loop-holds c = (rw (writes-none (c .args .t1) (c .args .from)), omega arith, omega arith)
 
--- src/lib.rt:73:34
 mul-line-of : tie.Need-mul-line-of Inv-loop μ-loop
 mul-line-of c = search needs
 
--- src/lib.rt:73:34
 element-copy-out-line-of : tie.Need-element-copy-out-line-of Inv-loop μ-loop
 element-copy-out-line-of c = omega arith
 
--- src/lib.rt:73:26
 line-of-requires : tie.Need-line-of-requires Inv-loop μ-loop
 line-of-requires c κs = search needs
 
--- src/lib.rt:74:9
 add-k : tie.Need-add-k Inv-loop μ-loop
 add-k c = search needs
 
--- src/lib.rt:72:5
 loop-less : tie.Need-loop-less Inv-loop μ-loop
 loop-less c = omega arith
 
--- src/lib.rt:72:5
 loop-again : tie.Need-loop-again Inv-loop μ-loop
-loop-again c = (in-line-more _ _ _ _ _ _ (c .before .before .before .loop .inv .1) (c .before .before .before .loop .inv .0) (c .line-of .ensures), omega arith, omega arith)
+loop-again c =
+    let at-loop = c .before .before .before in
+    (in-line-more _ _ _ _ _ _ (at-loop .loop .inv .1) (at-loop .loop .inv .0) (c .line-of .ensures), omega arith, omega arith)
 
--- src/lib.rt:66:1
 returns : tie.Need-returns Inv-loop μ-loop
 returns c = whole-list _ _ _ _ (λ l. inLine (c .before .before .args .line) l) (c .before .loop .inv .0) (omega arith)
 

@@ -9,7 +9,9 @@ use Rattle.carrying_calls.proofs.by_value.read_all.Statement.{statement
 use Rattle.carrying_calls.proofs.by_value.read_all.Tie as tie
 
 abbrev Inv-loop : tie.InvT-loop
-Inv-loop ram₀ parity₀ data₀ address width pcd answers log₀ carried given₀ value₀ landed₀ cursor₀ ram parity «data» log given value landed cursor = CarryKept pcd answers carried (allCarried given₀ (memory ram₀ parity₀) data₀ address width answers log₀ pcd carried) log₀ data₀ (memory ram₀ parity₀) cursor given (memory ram parity) «data» log value landed
+Inv-loop ram₀ parity₀ data₀ address width pcd answers log₀ carried given₀ value₀ landed₀ cursor₀ ram parity «data» log given value landed cursor =
+    CarryKept pcd answers carried (allCarried given₀ (memory ram₀ parity₀) data₀ address width answers log₀ pcd carried) log₀ data₀
+    (memory ram₀ parity₀) cursor given (memory ram parity) «data» log value landed
 
 abbrev μ-loop : tie.MeasureT-loop
 μ-loop ram₀ parity₀ data₀ address width pcd answers log₀ carried given₀ value₀ landed₀ cursor₀ ram parity «data» log given value landed cursor = cursor .left
@@ -21,7 +23,8 @@ loop-holds : tie.Need-loop-holds Inv-loop μ-loop
 loop-holds c =
     let start = c .before .before .before .before .before .before in
     let a = start .args in
-    rw (c .begin .ensures) (carry-begin (a .t1) (memory (now (a .ram)) (now (a .parity))) (now (a .«data»)) (a .address) (a .width) (now (a .answers)) (now (a .log)) (a .pcd) (a .carried) (start .pre))
+    rw (c .begin .ensures) (carry-begin (a .t1) (memory (now (a .ram)) (now (a .parity))) (now (a .«data»)) (a .address) (a .width) (now (a .answers)) (now (a .log))
+    (a .pcd) (a .carried) (start .pre))
 
 carried-next-requires : tie.Need-carried-next-requires Inv-loop μ-loop
 carried-next-requires c κs =
@@ -36,7 +39,8 @@ ended-requires c κs =
     let at-loop = at-if1 .before .before in
     let start = at-loop .before .before .before .before .before .before .before in
     let a = start .args in
-    end-needs (a .pcd) (now (a .answers)) (a .carried) (at-loop .loop .cursor) (at-loop .loop .given) _ _ _ (at-loop .loop .landed) (at-loop .loop .inv .none) (at-carried-next .carried-next .ensures) (at-loop .loop .inv .within) (kept-writes (at-loop .loop .inv)) (kept-needs (at-loop .loop .inv) (at-if1 .if1 .taken) .arrayLength)
+    end-needs (a .pcd) (now (a .answers)) (a .carried) (at-loop .loop .cursor) (at-loop .loop .given) _ _ _ (at-loop .loop .landed) (at-loop .loop .inv .none)
+    (at-carried-next .carried-next .ensures) (kept-writes (at-loop .loop .inv)) (kept-needs (at-loop .loop .inv) (at-if1 .if1 .taken) .arrayLength)
 
 with-part-requires : tie.Need-with-part-requires Inv-loop μ-loop
 with-part-requires c κs =
@@ -63,7 +67,9 @@ loop-again c =
     let at-carried-next = at-ended .before .before .before .before .before .before .before .before in
     let at-if1 = at-carried-next .before .before .before .before .before .before .before .before in
     let at-loop = at-if1 .before .before in
-    kept-next (at-loop .loop .inv) (at-if1 .if1 .taken) (at-carried-next .carried-next .ensures) (at-ended .ended .ensures) _ _ (c .before .with-part .ensures) (c .next .ensures) (at-carried-next .carried-next .kept .1 .1 .1 .0) (at-carried-next .carried-next .kept .1 .1 .1 .1 .0) (at-ended .ended .kept .1 .0) (at-carried-next .carried-next .kept .1 .1 .1 .1 .1 .1 .1 .0)
+    kept-next (at-loop .loop .inv) (at-if1 .if1 .taken) (at-carried-next .carried-next .ensures) (at-ended .ended .ensures) _ _ (c .before .with-part .ensures)
+    (c .next .ensures) (at-carried-next .carried-next .kept .1 .1 .1 .0) (at-carried-next .carried-next .kept .1 .1 .1 .1 .0) (at-ended .ended .kept .1 .0)
+    (at-carried-next .carried-next .kept .1 .1 .1 .1 .1 .1 .1 .0)
 
 cast-count : tie.Need-cast-count Inv-loop μ-loop
 cast-count c = search needs
@@ -71,12 +77,12 @@ cast-count c = search needs
 land-requires : tie.Need-land-requires Inv-loop μ-loop
 land-requires c κs =
     let at-loop = c .before .before .before .before .before in
-    (at-loop .loop .inv .within, omega arith, kept-writes (at-loop .loop .inv))
+    (omega (arith, at-loop .loop .inv .within), omega (arith, at-loop .loop .inv .within), kept-writes (at-loop .loop .inv))
 
 snooped-by-requires : tie.Need-snooped-by-requires Inv-loop μ-loop
 snooped-by-requires c κs =
     let at-loop = c .before .before .before .before .before .before .before .before .before .before in
-    (at-loop .loop .inv .within, omega arith, at-loop .loop .inv .writes .few)
+    (omega (arith, at-loop .loop .inv .within), omega (arith, at-loop .loop .inv .within), at-loop .loop .inv .writes .few)
 
 cast-t42 : tie.Need-cast-t42 Inv-loop μ-loop
 cast-t42 c =
@@ -111,7 +117,8 @@ returns c =
     let at-loop = at-land .before .before .before .before .before .before in
     let start = at-loop .before .before .before .before .before .before .before in
     let a = start .args in
-    carry-made (a .t1) (memory (now (a .ram)) (now (a .parity))) (now (a .«data»)) (a .address) (a .width) (now (a .answers)) (now (a .log)) (a .pcd) (a .carried) (start .pre) (at-loop .loop .inv) (omega arith) _ _ (c .before .snooped-by .ensures) (at-land .land .ensures)
+    carry-made (a .t1) (memory (now (a .ram)) (now (a .parity))) (now (a .«data»)) (a .address) (a .width) (now (a .answers)) (now (a .log)) (a .pcd) (a .carried)
+    (start .pre) (at-loop .loop .inv) (omega arith) _ _ (c .before .snooped-by .ensures) (at-land .land .ensures)
 
 pub read-all-spec : {M : Type 1} → statement M
 read-all-spec =

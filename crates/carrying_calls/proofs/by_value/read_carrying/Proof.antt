@@ -28,7 +28,8 @@ returns c =
     let at-read-carrying-number = c .before .before in
     let start = at-read-carrying-number .before .before .before .before .before .before .before .before .before .before .before .before .before .before in
     let a = start .args in
-    rw (c .answered .ensures) (carry-turned (a .t1) (memory (now (a .ram)) (now (a .parity))) (now (a .«data»)) (a .address) (a .width) (now (a .answers)) (now (a .log)) (a .pcd) (a .carried) _ (at-read-carrying-number .read-carrying-number .ensures) (c .before .if1 .taken))
+    rw (c .answered .ensures) (carry-turned (a .t1) (memory (now (a .ram)) (now (a .parity))) (now (a .«data»)) (a .address) (a .width) (now (a .answers))
+    (now (a .log)) (a .pcd) (a .carried) _ (at-read-carrying-number .read-carrying-number .ensures) (c .before .if1 .taken))
 
 read-all-requires : tie.Need-read-all-requires
 read-all-requires c κs = search needs

@@ -37,8 +37,12 @@ loop-less c = omega arith
 loop-again : tie.Need-loop-again Inv-loop μ-loop
 loop-again c =
     let at-loop = c .before .before .before in
-    let start = at-loop .before in
-    (omega arith, omega arith, c .snooped .ensures ∙ ap (λ (d : Directory). afterSnoop d (getD (start .args .t2 .addresses) (at-loop .loop .k) 0)) (at-loop .loop .inv .2) ∙ sym (snooped-next _ _ _ _ (at-loop .loop .inv .0)))
+    let start = at-loop .before in (
+      omega arith,
+      omega arith,
+      c .snooped .ensures ∙ ap (λ (d : Directory). afterSnoop d (getD (start .args .t2 .addresses) (at-loop .loop .k) 0))
+          (at-loop .loop .inv .2) ∙ sym (snooped-next _ _ _ _ (at-loop .loop .inv .0)),
+    )
 
 returns : tie.Need-returns Inv-loop μ-loop
 returns c =

@@ -10,7 +10,9 @@ use Rattle.carrying_calls.proofs.in_place.read_accepted.Statement.{stat
 use Rattle.carrying_calls.proofs.in_place.read_accepted.Tie as tie
 
 abbrev Inv-loop : tie.InvT-loop
-Inv-loop tags₀ valid₀ lru₀ cd nw ram₀ parity₀ data₀ address width pcd answers log₀ carried value₀ landed₀ cursor₀ tags valid lru ram parity «data» log value landed cursor = CarryKept pcd answers carried (allCarried (directoryOf tags₀ valid₀ lru₀ cd nw) (memory ram₀ parity₀) data₀ address width answers log₀ pcd carried) log₀ data₀ (memory ram₀ parity₀) cursor (directoryOf tags valid lru cd nw) (memory ram parity) «data» log value landed
+Inv-loop tags₀ valid₀ lru₀ cd nw ram₀ parity₀ data₀ address width pcd answers log₀ carried value₀ landed₀ cursor₀ tags valid lru ram parity «data» log value landed cursor =
+    CarryKept pcd answers carried (allCarried (directoryOf tags₀ valid₀ lru₀ cd nw) (memory ram₀ parity₀) data₀ address width answers log₀ pcd carried) log₀ data₀
+    (memory ram₀ parity₀) cursor (directoryOf tags valid lru cd nw) (memory ram parity) «data» log value landed
 
 abbrev μ-loop : tie.MeasureT-loop
 μ-loop tags₀ valid₀ lru₀ cd nw ram₀ parity₀ data₀ address width pcd answers log₀ carried value₀ landed₀ cursor₀ tags valid lru ram parity «data» log value landed cursor = cursor .left
@@ -22,7 +24,8 @@ loop-holds : tie.Need-loop-holds Inv-loop μ-loop
 loop-holds c =
     let start = c .before .before .before .before .before .before in
     let a = start .args in
-    rw (c .begin .ensures) (carry-begin (directoryOf (now (a .tags)) (now (a .valid)) (now (a .lru)) (a .cd) (a .nw)) (memory (now (a .ram)) (now (a .parity))) (now (a .«data»)) (a .address) (a .width) (now (a .answers)) (now (a .log)) (a .pcd) (a .carried) (start .pre))
+    rw (c .begin .ensures) (carry-begin (directoryOf (now (a .tags)) (now (a .valid)) (now (a .lru)) (a .cd) (a .nw)) (memory (now (a .ram)) (now (a .parity)))
+    (now (a .«data»)) (a .address) (a .width) (now (a .answers)) (now (a .log)) (a .pcd) (a .carried) (start .pre))
 
 carried-next-requires : tie.Need-carried-next-requires Inv-loop μ-loop
 carried-next-requires c κs =
@@ -37,7 +40,9 @@ end-in-place-requires c κs =
     let at-loop = at-if1 .before .before in
     let start = at-loop .before .before .before .before .before .before .before in
     let a = start .args in
-    end-needs (a .pcd) (now (a .answers)) (a .carried) (at-loop .loop .cursor) (directoryOf (at-loop .loop .tags) (at-loop .loop .valid) (at-loop .loop .lru) (a .cd) (a .nw)) _ _ _ (at-loop .loop .landed) (at-loop .loop .inv .none) (at-carried-next .carried-next .ensures) (at-loop .loop .inv .within) (kept-writes (at-loop .loop .inv)) (kept-needs (at-loop .loop .inv) (at-if1 .if1 .taken) .arrayLength)
+    end-needs (a .pcd) (now (a .answers)) (a .carried) (at-loop .loop .cursor) (directoryOf (at-loop .loop .tags) (at-loop .loop .valid) (at-loop .loop .lru) (a .cd)
+    (a .nw)) _ _ _ (at-loop .loop .landed) (at-loop .loop .inv .none) (at-carried-next .carried-next .ensures) (kept-writes (at-loop .loop .inv)) (kept-needs
+    (at-loop .loop .inv) (at-if1 .if1 .taken) .arrayLength)
 
 with-part-requires : tie.Need-with-part-requires Inv-loop μ-loop
 with-part-requires c κs =
@@ -64,7 +69,9 @@ loop-again c =
     let at-carried-next = at-end-in-place .before .before .before .before .before .before .before .before .before .before .before in
     let at-if1 = at-carried-next .before .before .before .before .before .before .before in
     let at-loop = at-if1 .before .before in
-    kept-next (at-loop .loop .inv) (at-if1 .if1 .taken) (at-carried-next .carried-next .ensures) (at-end-in-place .end-in-place .ensures _) _ _ (c .before .with-part .ensures) (c .next .ensures) (at-carried-next .carried-next .kept .1 .1 .1 .0) (at-carried-next .carried-next .kept .1 .1 .1 .1 .0) (at-end-in-place .end-in-place .kept .1 .1 .1 .1 .0) (at-carried-next .carried-next .kept .1 .1 .1 .1 .1 .1 .1 .0)
+    kept-next (at-loop .loop .inv) (at-if1 .if1 .taken) (at-carried-next .carried-next .ensures) (at-end-in-place .end-in-place .ensures _) _ _
+    (c .before .with-part .ensures) (c .next .ensures) (at-carried-next .carried-next .kept .1 .1 .1 .0) (at-carried-next .carried-next .kept .1 .1 .1 .1 .0)
+    (at-end-in-place .end-in-place .kept .1 .1 .1 .1 .0) (at-carried-next .carried-next .kept .1 .1 .1 .1 .1 .1 .1 .0)
 
 cast-count : tie.Need-cast-count Inv-loop μ-loop
 cast-count c = search needs
@@ -72,12 +79,12 @@ cast-count c = search needs
 land-requires : tie.Need-land-requires Inv-loop μ-loop
 land-requires c κs =
     let at-loop = c .before .before .before .before .before in
-    (at-loop .loop .inv .within, omega arith, kept-writes (at-loop .loop .inv))
+    (omega (arith, at-loop .loop .inv .within), omega (arith, at-loop .loop .inv .within), kept-writes (at-loop .loop .inv))
 
 snoop-in-place-requires : tie.Need-snoop-in-place-requires Inv-loop μ-loop
 snoop-in-place-requires c κs =
     let at-loop = c .before .before .before .before .before .before .before .before .before .before .before .before in
-    (at-loop .loop .inv .within, omega arith, at-loop .loop .inv .writes .few)
+    (omega (arith, at-loop .loop .inv .within), omega (arith, at-loop .loop .inv .within), at-loop .loop .inv .writes .few)
 
 cast-t48 : tie.Need-cast-t48 Inv-loop μ-loop
 cast-t48 c =
@@ -112,7 +119,9 @@ returns c =
     let at-loop = at-land .before .before .before .before .before .before in
     let start = at-loop .before .before .before .before .before .before .before in
     let a = start .args in
-    carry-made (directoryOf (now (a .tags)) (now (a .valid)) (now (a .lru)) (a .cd) (a .nw)) (memory (now (a .ram)) (now (a .parity))) (now (a .«data»)) (a .address) (a .width) (now (a .answers)) (now (a .log)) (a .pcd) (a .carried) (start .pre) (at-loop .loop .inv) (omega arith) _ _ (c .before .snoop-in-place .ensures _ _) (at-land .land .ensures)
+    carry-made (directoryOf (now (a .tags)) (now (a .valid)) (now (a .lru)) (a .cd) (a .nw)) (memory (now (a .ram)) (now (a .parity))) (now (a .«data»)) (a .address)
+    (a .width) (now (a .answers)) (now (a .log)) (a .pcd) (a .carried) (start .pre) (at-loop .loop .inv) (omega arith) _ _ (c .before .snoop-in-place .ensures _ _)
+    (at-land .land .ensures)
 
 pub read-accepted-spec : {M : Type 1} → statement M
 read-accepted-spec =

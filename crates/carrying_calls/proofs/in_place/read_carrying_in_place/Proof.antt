@@ -29,7 +29,9 @@ returns c =
     let at-read-carrying-number = c .before .before in
     let start = at-read-carrying-number .before .before .before .before .before .before .before .before .before .before .before .before .before in
     let a = start .args in
-    rw (c .number-only .ensures) (carry-turned (directoryOf (now (a .tags)) (now (a .valid)) (now (a .lru)) (a .cd) (a .nw)) (memory (now (a .ram)) (now (a .parity))) (now (a .«data»)) (a .address) (a .width) (now (a .answers)) (now (a .log)) (a .pcd) (a .carried) _ (at-read-carrying-number .read-carrying-number .ensures) (c .before .if1 .taken))
+    rw (c .number-only .ensures) (carry-turned (directoryOf (now (a .tags)) (now (a .valid)) (now (a .lru)) (a .cd) (a .nw)) (memory (now (a .ram))
+    (now (a .parity))) (now (a .«data»)) (a .address) (a .width) (now (a .answers)) (now (a .log)) (a .pcd) (a .carried) _
+    (at-read-carrying-number .read-carrying-number .ensures) (c .before .if1 .taken))
 
 read-accepted-requires : tie.Need-read-accepted-requires
 read-accepted-requires c κs = search needs

@@ -14,7 +14,8 @@ use Rattle.carrying_calls.proofs.in_place.snoop_in_place.Statement.{sta
 use Rattle.carrying_calls.proofs.in_place.snoop_in_place.Tie as tie
 
 abbrev Inv-loop : tie.InvT-loop
-Inv-loop tags valid₀ nw from to carried k₀ valid k = (from ≤ k) × (k ≤ to) × ((lru : List ℕ) (cd : Bool) → directoryOf tags valid lru cd nw ≡ snoopedTo carried from k (directoryOf tags valid₀ lru cd nw))
+Inv-loop tags valid₀ nw from to carried k₀ valid k =
+    (from ≤ k) × (k ≤ to) × ((lru : List ℕ) (cd : Bool) → directoryOf tags valid lru cd nw ≡ snoopedTo carried from k (directoryOf tags valid₀ lru cd nw))
 
 abbrev μ-loop : tie.MeasureT-loop
 μ-loop tags valid₀ nw from to carried k₀ valid k = to - k
@@ -41,14 +42,19 @@ loop-less c = omega arith
 loop-again : tie.Need-loop-again Inv-loop μ-loop
 loop-again c =
     let at-loop = c .before .before .before .before in
-    let start = at-loop .before in
-    (omega arith, omega arith, λ lru cd. c .invalidate-in-place .ensures lru cd ∙ ap (λ (d : Directory). afterSnoop d (getD (start .args .t4 .addresses) (at-loop .loop .k) 0)) (at-loop .loop .inv .2 lru cd) ∙ sym (snooped-next _ _ _ _ (at-loop .loop .inv .0)))
+    let start = at-loop .before in (
+      omega arith,
+      omega arith,
+      λ lru cd. c .invalidate-in-place .ensures lru cd ∙ ap (λ (d : Directory). afterSnoop d (getD (start .args .t4 .addresses)
+          (at-loop .loop .k) 0)) (at-loop .loop .inv .2 lru cd) ∙ sym (snooped-next _ _ _ _ (at-loop .loop .inv .0)),
+    )
 
 returns : tie.Need-returns Inv-loop μ-loop
 returns c =
     let start = c .before .before in
     let a = start .args in
-    λ lru cd. let e : c .before .loop .k ≡ a .to = omega arith in c .before .loop .inv .2 lru cd ∙ ap (λ (i : ℕ). snoopedTo (a .t4) (a .from) i (directoryOf (now (a .tags)) (now (a .valid)) lru cd (a .nw))) e
+    λ lru cd. let e : c .before .loop .k ≡ a .to = omega arith in c .before .loop .inv .2 lru cd ∙ ap (λ (i : ℕ). snoopedTo (a .t4) (a .from) i (directoryOf
+    (now (a .tags)) (now (a .valid)) lru cd (a .nw))) e
 
 pub snoop-in-place-spec : {M : Type 1} → statement M
 snoop-in-place-spec =
