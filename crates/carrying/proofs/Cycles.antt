@@ -37,7 +37,6 @@ none-lands carried line n at m to e h those lefts =
       above = omega arith;
       within = rw e at h;
       same = refl;
-      buffers = refl;
       spoils = rw none (by-test (λ b. at .spoiled ≡ (at .spoiled || (b && false))) (ltb 0 (at .used)) (λ _. or-false (at .spoiled)) (λ _. or-false (at .spoiled)));
     }
   where
@@ -74,11 +73,12 @@ module _ (kind line first : ℕ) (carried : CarriedWrites) (from : ℕ) (m₀ : 
   abbrev at : ℕ → Memory
   at = memoryAt m₀ ws
 
-  abbrev Brings : List Cycle → Brought → Brought → Memory → List ℕ → List ℕ → Type 0
+  abbrev Brings : List Cycle → Brought → Brought → Memory → List ℕ → List ℕ → List ℕ → List ℕ → Type 0
   Brings = CyclesBrought kind line first carried from m₀
 
-  pub brought-append : (cs ds : List Cycle) (a b r : Brought) (m m′ : Memory) (log₀ log log′ : List ℕ) → Brings cs a b m log₀ log → Brings ds b r m′ log log′ → Brings (cs ++ ds) a r m′ log₀ log′
-  brought-append cs ds a b r m m′ log₀ log log′ p q =
+  pub brought-append : (cs ds : List Cycle) (a b r : Brought) (m m′ : Memory) (buffer₀ buffer buffer′ log₀ log log′ : List ℕ) → Brings cs a b m buffer₀ buffer log₀ log → Brings ds b r m′ buffer buffer′ log log′ →
+      Brings (cs ++ ds) a r m′ buffer₀ buffer′ log₀ log′
+  brought-append cs ds a b r m m′ buffer₀ buffer buffer′ log₀ log log′ p q =
       let n = first + a .used in
       let e : first + b .used ≡ n + length cs = omega (arith, p .made) in
       let k : n + length (recordsOf kind at line n cs) ≡ first + b .used = omega (arith, p .made, records-length at line kind n cs) in
@@ -94,8 +94,8 @@ module _ (kind line first : ℕ) (carried : CarriedWrites) (from : ℕ) (m₀ : 
         buffers =
             q .buffers
             ∙ ap (bufferOf at line (first + b .used) ds) (p .buffers)
-            ∙ ap (λ (i : ℕ). bufferOf at line i ds (bufferOf at line n cs (a .buffer))) e
-            ∙ sym (buffer-append at line n cs ds (a .buffer));
+            ∙ ap (λ (i : ℕ). bufferOf at line i ds (bufferOf at line n cs buffer₀)) e
+            ∙ sym (buffer-append at line n cs ds buffer₀);
         lands = q .lands;
         spoils = λ h. q .spoils (p .spoils h);
       }
@@ -145,11 +145,11 @@ module _ (kind line first : ℕ) (carried : CarriedWrites) (from : ℕ) (m₀ : 
       ap (λ (y : List Carried). due n x ++ due (suc n) y) (sym (later-then (suc first) n l ws)) ∙ due-then n (suc n) up x in
       rw (h, lt-ltb 0 used (omega arith)) (sym (in-line-append line (due n x) (due (suc n) (later n ws))) ∙ ap (inLine line) t))
 
-  pub brought-one : (start count x : ℕ) (last : Bool) (place : ℕ) (a b r : Brought) (m m′ : Memory) (log₀ log : List ℕ) → LandedTo carried from m₀ (first + a .used) m (a .landed) →
-      LandsDue carried line (first + a .used) a b m m′ → MovesBytes kind m′ line start count last place b r log₀ log → place ≡ first + b .used →
-      Brings (record { moved = run start count; answer = x; last = last } ∷ []) a r m′ log₀ log
+  pub brought-one : (start count x : ℕ) (last : Bool) (place : ℕ) (a b r : Brought) (m m′ : Memory) (buffer₀ buffer log₀ log : List ℕ) → LandedTo carried from m₀ (first + a .used) m (a .landed) →
+      LandsDue carried line (first + a .used) a b m m′ → MovesBytes kind m′ line start count last place b r buffer₀ buffer log₀ log → place ≡ first + b .used →
+      Brings (record { moved = run start count; answer = x; last = last } ∷ []) a r m′ buffer₀ buffer log₀ log
   unfolding recordsOf bufferOf readRecord
-  brought-one start count x last place a b r m m′ log₀ log g l v ep =
+  brought-one start count x last place a b r m m′ buffer₀ buffer log₀ log g l v ep =
       let n = first + a .used in
       let d = landed-next n m m′ a b g l in
       let p : place ≡ n = omega (arith, l .same) in
@@ -157,7 +157,7 @@ module _ (kind line first : ℕ) (carried : CarriedWrites) (from : ℕ) (m₀ : 
       record {
         made = omega (arith, l .same, v .makes);
         logs = v .logs ∙ rw (p, d .memories);
-        buffers = v .buffers ∙ rw (l .buffers, d .memories);
+        buffers = v .buffers ∙ rw (d .memories);
         lands = rw (u, v .same) d;
         spoils = λ h.
             v .spoils

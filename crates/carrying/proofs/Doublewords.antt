@@ -60,7 +60,7 @@ module _ (cursor : AccessCursor) (xs : List ℕ) (carried : CarriedWrites) (land
   -- a hit
   pub hit-next : (group : List ℕ) (way : ℕ) (r : CarriedRead) → f ≡ At way → due first ws ≡ [] → landed ≤ carried .count →
       r .value ≡ valueOf (bytesAt array (dataOffset (w .line) way + w .from) (w .count)) → r .value < 256 ^ w .count →
-      r ≡ carriedRead (w .line) (At way) (noneBrought landed) false (w .count) (r .value) → Leaves group r m log₀
+      r ≡ carriedRead (w .line) (At way) (noneBrought landed) false (replicate 16 0) (w .count) (r .value) → Leaves group r m log₀
   unfolding begunBy wordsOf
   hit-next group way r e d h ev fits er =
       let n : first + 0 ≡ first = omega arith in
@@ -80,13 +80,13 @@ module _ (cursor : AccessCursor) (xs : List ℕ) (carried : CarriedWrites) (land
       })
 
   -- a miss
-  module _ (e : f ≡ Nothing) (group : List ℕ) (b : Brought) (m′ : Memory) (log : List ℕ) (kept : Bool) (r : CarriedRead)
-      (ev : r .value ≡ valueOf (bytesAt (b .buffer) (w .from) (w .count))) (fits : r .value < 256 ^ w .count) (er : r ≡ carriedRead (w .line) Nothing b kept (w .count) (r .value)) (most : b .used ≤ 16) where
+  module _ (e : f ≡ Nothing) (group : List ℕ) (b : Brought) (m′ : Memory) (buffer log : List ℕ) (kept : Bool) (r : CarriedRead)
+      (ev : r .value ≡ valueOf (bytesAt buffer (w .from) (w .count))) (fits : r .value < 256 ^ w .count) (er : r ≡ carriedRead (w .line) Nothing b kept buffer (w .count) (r .value)) (most : b .used ≤ 16) where
     abbrev here : Doubleword
     here = doublewordOf (wantedOf cursor) group
 
     missed-next : (missed : Missed) → readMiss mayFill m ws first here ≡ missed → LandedTo carried landed m (first + b .used) m′ (b .landed) → log ≡ logged log₀ first (missed .records) → b .used ≡ length (missed .records) →
-        b .buffer ≡ missed .buffer → kept ≡ missed .kept → Leaves group r m′ log
+        buffer ≡ missed .buffer → kept ≡ missed .kept → Leaves group r m′ log
     unfolding begunBy
     missed-next missed em lands el en eb ek =
         rw (e, em)
@@ -104,7 +104,7 @@ module _ (cursor : AccessCursor) (xs : List ℕ) (carried : CarriedWrites) (land
           lands = rw (ap (λ (x : CarriedRead). x .cycles) er, ap (λ (x : CarriedRead). x .landed) er) lands;
         })
 
-    module _ (kind : ℕ) (cs : List Cycle) (made : CyclesBrought kind (lineAddress cursor) first carried landed m cs (noneBrought landed) b m′ log₀ log) where
+    module _ (kind : ℕ) (cs : List Cycle) (made : CyclesBrought kind (lineAddress cursor) first carried landed m cs (noneBrought landed) b m′ (replicate 16 0) buffer log₀ log) where
       used-is : b .used ≡ length cs
       used-is = omega (arith, made .made)
 
@@ -117,26 +117,26 @@ module _ (cursor : AccessCursor) (xs : List ℕ) (carried : CarriedWrites) (land
       logs-made : log ≡ logged log₀ first (recordsOf kind (memoryAt m ws) (lineAddress cursor) first cs)
       logs-made = rw zero-more at (made .logs)
 
-      buffers-made : b .buffer ≡ bufferOf (memoryAt m ws) (lineAddress cursor) first cs (replicate 16 0)
+      buffers-made : buffer ≡ bufferOf (memoryAt m ws) (lineAddress cursor) first cs (replicate 16 0)
       buffers-made = rw zero-more at (made .buffers)
 
     -- as the code has it, from its own wanted bytes and group of answers
     module _ (given : List ℕ) (eg : given ≡ group) where
-      pub plain-next : (mayFill && ken (getD given 0 0)) ≡ false → kept ≡ false → CyclesBrought plainKind (w .line) first carried landed m (cyclesOf given (run (w .from) (w .count) ∷ [])) (noneBrought landed) b m′ log₀ log →
+      pub plain-next : (mayFill && ken (getD given 0 0)) ≡ false → kept ≡ false → CyclesBrought plainKind (w .line) first carried landed m (cyclesOf given (run (w .from) (w .count) ∷ [])) (noneBrought landed) b m′ (replicate 16 0) buffer log₀ log →
           Leaves group r m′ log
       unfolding readMiss plainMiss
       plain-next p ek k =
           let cs = plainCycles here in
-          let made : CyclesBrought plainKind (lineAddress cursor) first carried landed m cs (noneBrought landed) b m′ log₀ log = rw (ew, eg) at k in
+          let made : CyclesBrought plainKind (lineAddress cursor) first carried landed m cs (noneBrought landed) b m′ (replicate 16 0) buffer log₀ log = rw (ew, eg) at k in
           missed-next (plainMiss m ws first here) (cond-false _ _ _ (rw eg at p)) (made .lands) (logs-made plainKind cs made) (records-made plainKind cs made) (buffers-made plainKind cs made) ek
 
       -- kept where the last answer used has KEN# and no write landed in the line after the first cycle
-      pub fill-next : (mayFill && ken (getD given 0 0)) ≡ true → CyclesBrought fillKind (w .line) first carried landed m (cyclesOf given (burst (w .from / 4))) (noneBrought landed) b m′ log₀ log → 0 < b .used →
+      pub fill-next : (mayFill && ken (getD given 0 0)) ≡ true → CyclesBrought fillKind (w .line) first carried landed m (cyclesOf given (burst (w .from / 4))) (noneBrought landed) b m′ (replicate 16 0) buffer log₀ log → 0 < b .used →
           kept ≡ (not (b .spoiled) && ken (getD given (b .used - 1) 0)) → Leaves group r m′ log
       unfolding readMiss fillMiss spoiled inLine
       fill-next p k some ek =
           let cs = fillCycles here in
-          let made : CyclesBrought fillKind (lineAddress cursor) first carried landed m cs (noneBrought landed) b m′ log₀ log = rw (ew, eg) at k in
+          let made : CyclesBrought fillKind (lineAddress cursor) first carried landed m cs (noneBrought landed) b m′ (replicate 16 0) buffer log₀ log = rw (ew, eg) at k in
           let start : false ≡ spoiledAt carried landed (lineAddress cursor) first (first + 0) = rw (zero-more fillKind cs made, due-early first (suc first) ws (omega arith)) in
           let u = used-is fillKind cs made in
           let s : b .spoiled ≡ spoiled ws first here = made .spoils start ∙ ap (spoiledAt carried landed (lineAddress cursor) first) (ap (λ (i : ℕ). first + i) u) in

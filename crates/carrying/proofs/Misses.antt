@@ -75,9 +75,9 @@ module _ (ram₀ parity₀ xs log₀ : List ℕ) (carried : CarriedWrites) (line
     pub plain-needs : RunNeeds line start count first (at .used) (length ram₀) (length parity₀) (length xs) (length log₀) × CarriedNeeds carried (length ram₀) (length parity₀) × (at .landed ≤ carried .count) × (0 ≤ 32)
     plain-needs = rw ea (run-needs ram₀ parity₀ log₀ refl refl refl start count 0 some lanes short (omega arith), z .writes, z .within, omega arith)
 
-    pub plain-brought : {r : Brought} {m : Memory} {log : List ℕ} →
-        ((place : ℕ) (m₁ : Memory) → LandedTo carried place m₁ (first + at .used) m₀ (at .landed) → CyclesBrought plainKind line first carried place m₁ (runCycles true (drop (at .used) xs) (run start count)) at r m log₀ log) →
-        CyclesBrought plainKind line first carried landed₀ m₀ (cyclesOf xs (run start count ∷ [])) (noneBrought landed₀) r m log₀ log
+    pub plain-brought : {r : Brought} {m : Memory} {buffer₀ buffer log : List ℕ} →
+        ((place : ℕ) (m₁ : Memory) → LandedTo carried place m₁ (first + at .used) m₀ (at .landed) → CyclesBrought plainKind line first carried place m₁ (runCycles true (drop (at .used) xs) (run start count)) at r m buffer₀ buffer log₀ log) →
+        CyclesBrought plainKind line first carried landed₀ m₀ (cyclesOf xs (run start count ∷ [])) (noneBrought landed₀) r m buffer₀ buffer log₀ log
     plain-brought f = rw (cycles-alone xs (run start count)) ((rw ea at f) landed₀ m₀ miss-begin)
 
     pub plain-most : {r : ℕ} → r ≤ at .used + count → r ≤ 16
@@ -85,13 +85,14 @@ module _ (ram₀ parity₀ xs log₀ : List ℕ) (carried : CarriedWrites) (line
 
   -- A FILL
 
-  module _ (start : ℕ) (sl : start < 4) where
-    abbrev Fills : List Cycle → Brought → Brought → Memory → List ℕ → List ℕ → Type 0
+  module _ (buffer₀ : List ℕ) (start : ℕ) (sl : start < 4) where
+    abbrev Fills : List Cycle → Brought → Brought → Memory → List ℕ → List ℕ → List ℕ → List ℕ → Type 0
     Fills = CyclesBrought fillKind line first carried landed₀ m₀
 
-    pub record FillLoop (ram parity log : List ℕ) (now : Brought) (turn : ℕ) : Type 0 where
+    pub record FillLoop (ram parity buffer log : List ℕ) (now : Brought) (turn : ℕ) : Type 0 where
       pub lands : LandedTo carried landed₀ m₀ (first + now .used) (memory ram parity) (now .landed)
-      pub rest : (r : Brought) (m′ : Memory) (log′ : List ℕ) → Fills (cyclesOf (drop (now .used) xs) (drop turn (burst start))) now r m′ log log′ → Fills (cyclesOf xs (burst start)) (noneBrought landed₀) r m′ log₀ log′
+      pub rest : (r : Brought) (m′ : Memory) (buffer′ log′ : List ℕ) → Fills (cyclesOf (drop (now .used) xs) (drop turn (burst start))) now r m′ buffer buffer′ log log′ →
+          Fills (cyclesOf xs (burst start)) (noneBrought landed₀) r m′ buffer₀ buffer′ log₀ log′
       pub turns : turn ≤ 4
       pub some : turn ≤ now .used
       pub most : now .used ≤ 4 * turn
@@ -99,13 +100,14 @@ module _ (ram₀ parity₀ xs log₀ : List ℕ) (carried : CarriedWrites) (line
       pub rams : length ram ≡ length ram₀
       pub parities : length parity ≡ length parity₀
       pub logs : length log ≡ length log₀
+      pub buffers : length buffer ≡ length buffer₀
 
-    pub fill-begin : (now : Brought) → now ≡ noneBrought landed₀ → FillLoop ram₀ parity₀ log₀ now 0
+    pub fill-begin : (now : Brought) → now ≡ noneBrought landed₀ → FillLoop ram₀ parity₀ buffer₀ log₀ now 0
     fill-begin now e =
         rw e
         (record {
           lands = miss-begin;
-          rest = λ r m′ log′ k. k;
+          rest = λ r m′ buffer′ log′ k. k;
           turns = omega arith;
           some = omega arith;
           most = omega arith;
@@ -113,9 +115,10 @@ module _ (ram₀ parity₀ xs log₀ : List ℕ) (carried : CarriedWrites) (line
           rams = refl;
           parities = refl;
           logs = refl;
+          buffers = refl;
         })
 
-    module _ {ram parity log : List ℕ} {now : Brought} {turn : ℕ} (g : FillLoop ram parity log now turn) (tl : turn < 4) (order : List ℕ) (eo : order ≡ offsets (burst start)) where
+    module _ {ram parity buffer log : List ℕ} {now : Brought} {turn : ℕ} (g : FillLoop ram parity buffer log now turn) (tl : turn < 4) (order : List ℕ) (eo : order ≡ offsets (burst start)) where
       abbrev o : ℕ
       o = getD order turn 0
 
@@ -125,10 +128,10 @@ module _ (ram₀ parity₀ xs log₀ : List ℕ) (carried : CarriedWrites) (line
           let e : o ≡ getD (offsets (burst start)) turn 0 = ap (λ (l : List ℕ). getD l turn 0) eo in
           (run-needs ram parity log (g .rams) (g .parities) (g .logs) o 4 (now .used) (omega arith) (rw e (omega (arith, t .2))) (rw e (t .3)) (omega (arith, g .most)), rw (g .rams, g .parities) (z .writes), g .within, omega arith)
 
-      module _ {r : Brought} {ram′ parity′ log′ : List ℕ}
-          (f : (place : ℕ) (m₁ : Memory) → LandedTo carried place m₁ (first + now .used) (memory ram parity) (now .landed) → CyclesBrought fillKind line first carried place m₁ (runCycles (eqb turn 3) (drop (now .used) xs) (run o 4)) now r (memory ram′ parity′) log log′)
-          (most : r .used ≤ now .used + 4) (er : length ram′ ≡ length ram) (ep : length parity′ ≡ length parity) (el : length log′ ≡ length log) where
-        pub fill-next : FillLoop ram′ parity′ log′ r (turn + 1)
+      module _ {r : Brought} {ram′ parity′ buffer′ log′ : List ℕ}
+          (f : (place : ℕ) (m₁ : Memory) → LandedTo carried place m₁ (first + now .used) (memory ram parity) (now .landed) → CyclesBrought fillKind line first carried place m₁ (runCycles (eqb turn 3) (drop (now .used) xs) (run o 4)) now r (memory ram′ parity′) buffer buffer′ log log′)
+          (most : r .used ≤ now .used + 4) (er : length ram′ ≡ length ram) (ep : length parity′ ≡ length parity) (el : length log′ ≡ length log) (eb : length buffer′ ≡ length buffer) where
+        pub fill-next : FillLoop ram′ parity′ buffer′ log′ r (turn + 1)
         fill-next =
             let b = f landed₀ m₀ (g .lands) in
             let cs = runCycles (eqb turn 3) (drop (now .used) xs) (run o 4) in
@@ -146,7 +149,7 @@ module _ (ram₀ parity₀ xs log₀ : List ℕ) (carried : CarriedWrites) (line
             ∙ rw (t .1, left) in
             record {
               lands = b .lands;
-              rest = λ r′ m′ log″ k. g .rest r′ m′ log″ (rw all (brought-append fillKind line first carried landed₀ m₀ cs (cyclesOf (drop (r .used) xs) next) now r r′ (memory ram′ parity′) m′ log log′ log″ b k));
+              rest = λ r′ m′ buffer″ log″ k. g .rest r′ m′ buffer″ log″ (rw all (brought-append fillKind line first carried landed₀ m₀ cs (cyclesOf (drop (r .used) xs) next) now r r′ (memory ram′ parity′) m′ buffer buffer′ buffer″ log log′ log″ b k));
               turns = omega arith;
               some = omega (arith, g .some, b .made);
               most = omega (arith, g .most);
@@ -154,16 +157,17 @@ module _ (ram₀ parity₀ xs log₀ : List ℕ) (carried : CarriedWrites) (line
               rams = er ∙ g .rams;
               parities = ep ∙ g .parities;
               logs = el ∙ g .logs;
+              buffers = eb ∙ g .buffers;
             }
 
     -- after the last turn
-    pub fill-end : {ram parity log : List ℕ} {now : Brought} {turn : ℕ} → FillLoop ram parity log now turn → (turn < 4 → ⊥) →
-        Fills (cyclesOf xs (burst start)) (noneBrought landed₀) now (memory ram parity) log₀ log × (0 < now .used) × (now .used ≤ 16)
+    pub fill-end : {ram parity buffer log : List ℕ} {now : Brought} {turn : ℕ} → FillLoop ram parity buffer log now turn → (turn < 4 → ⊥) →
+        Fills (cyclesOf xs (burst start)) (noneBrought landed₀) now (memory ram parity) buffer₀ buffer log₀ log × (0 < now .used) × (now .used ≤ 16)
     unfolding recordsOf bufferOf wordsOf
-    fill-end {ram} {parity} {log} {now} {turn} g n =
+    fill-end {ram} {parity} {buffer} {log} {now} {turn} g n =
         let e : turn ≡ 4 = omega (arith, g .turns) in
         let d : cyclesOf (drop (now .used) xs) (drop turn (burst start)) ≡ [] = ap (cyclesOf (drop (now .used) xs)) (burst-done start turn sl e) ∙ cycles-none (drop (now .used) xs) in (
-          g .rest now (memory ram parity) log (rw d (record { made = omega arith; logs = refl; buffers = refl; lands = g .lands; spoils = λ h. h })),
+          g .rest now (memory ram parity) buffer log (rw d (record { made = omega arith; logs = refl; buffers = refl; lands = g .lands; spoils = λ h. h })),
           omega (arith, g .some),
           omega (arith, g .most, g .turns),
         )

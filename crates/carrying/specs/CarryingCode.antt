@@ -36,13 +36,12 @@ pub record LandsDue (carried : CarriedWrites) (line n : ℕ) (at r : Brought) (m
   pub above : at .landed ≤ r .landed
   pub within : r .landed ≤ carried .count
   pub same : r .used ≡ at .used
-  pub buffers : r .buffer ≡ at .buffer
   pub spoils : r .spoiled ≡ (at .spoiled || (ltb 0 (at .used) && inLine line (due (suc n) (leftFrom carried (at .landed)))))
 
 -- What a cycle of so many bytes, from an offset of a line on, leaves.
-pub record MovesBytes (kind : ℕ) (m : Memory) (line from count : ℕ) (last : Bool) (place : ℕ) (at r : Brought) (log₀ log : List ℕ) : Type 0 where
+pub record MovesBytes (kind : ℕ) (m : Memory) (line from count : ℕ) (last : Bool) (place : ℕ) (at r : Brought) (buffer₀ buffer log₀ log : List ℕ) : Type 0 where
   pub logs : log ≡ logged log₀ place (readRecord kind m line (moving from count last) ∷ [])
-  pub buffers : r .buffer ≡ bufferAfter (m .ram) line (run from count) (at .buffer)
+  pub buffers : buffer ≡ bufferAfter (m .ram) line (run from count) buffer₀
   pub makes : r .used ≡ at .used + 1
   pub same : r .landed ≡ at .landed
   pub spoils : r .spoiled ≡ at .spoiled
@@ -62,10 +61,10 @@ abbrev pub spoiledAt : CarriedWrites → ℕ → ℕ → ℕ → ℕ → Bool
 spoiledAt carried from line first n = inLine line (due n (later (suc first) (leftFrom carried from)))
 
 -- What cycles of a doubleword leave, by memory as it is at each of them.
-pub record CyclesBrought (kind line first : ℕ) (carried : CarriedWrites) (from : ℕ) (m₀ : Memory) (cs : List Cycle) (at r : Brought) (m : Memory) (log₀ log : List ℕ) : Type 0 where
+pub record CyclesBrought (kind line first : ℕ) (carried : CarriedWrites) (from : ℕ) (m₀ : Memory) (cs : List Cycle) (at r : Brought) (m : Memory) (buffer₀ buffer log₀ log : List ℕ) : Type 0 where
   pub made : r .used ≡ at .used + length cs
   pub logs : log ≡ logged log₀ (first + at .used) (recordsOf kind (memoryAt m₀ (leftFrom carried from)) line (first + at .used) cs)
-  pub buffers : r .buffer ≡ bufferOf (memoryAt m₀ (leftFrom carried from)) line (first + at .used) cs (at .buffer)
+  pub buffers : buffer ≡ bufferOf (memoryAt m₀ (leftFrom carried from)) line (first + at .used) cs buffer₀
   pub lands : LandedTo carried from m₀ (first + r .used) m (r .landed)
   pub spoils : at .spoiled ≡ spoiledAt carried from line first (first + at .used) → r .spoiled ≡ spoiledAt carried from line first (first + r .used)
 
@@ -86,7 +85,7 @@ pub record RunNeeds (line from count first used ram parity answers log : ℕ) : 
 
 -- Before its first cycle nothing is brought.
 abbrev pub noneBrought : ℕ → Brought
-noneBrought landed = record { used = 0; landed = landed; buffer = replicate 16 0; spoiled = false }
+noneBrought landed = record { used = 0; landed = landed; spoiled = false }
 
 -- What the cycles of a miss need.
 pub record MissNeeds (carried : CarriedWrites) (line first from ram parity answers log : ℕ) : Type 0 where
@@ -126,13 +125,13 @@ begunBy Nothing mayFill m ws first array w =
     }
 
 -- What the code hands back, from what was found and brought.
-abbrev pub carriedRead : ℕ → Found → Brought → Bool → ℕ → ℕ → CarriedRead
-carriedRead line f b kept count value =
+abbrev pub carriedRead : ℕ → Found → Brought → Bool → List ℕ → ℕ → ℕ → CarriedRead
+carriedRead line f b kept buffer count value =
     record {
       line = line;
       found = f;
       kept = kept;
-      buffer = b .buffer;
+      buffer = buffer;
       count = count;
       value = value;
       cycles = b .used;

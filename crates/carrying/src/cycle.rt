@@ -16,12 +16,11 @@ use words::copy_bytes;
 use words::lanes_mask;
 use words::word_at;
 
-// What the cycles of a doubleword have brought: how many were made, how many writes have landed, the line buffer, and whether a write
-// landed in the line after the first cycle.
+// How far the cycles of a doubleword have come: how many were made, how many writes have landed, and whether one landed in the line after
+// the first cycle.
 pub struct Brought {
     pub used: usize,
     pub landed: usize,
-    pub buffer: [u8; 16],
     pub spoiled: bool,
 }
 
@@ -44,12 +43,10 @@ pub fn land_due(
     }
     land(carried, from, to, ram, parity);
     let hit = any_in_line(carried, from, to, line);
-    let buffer = at.buffer;
     let spoiled = at.spoiled | ((0 < at.used) & hit);
     Brought {
         used: at.used,
         landed: to,
-        buffer,
         spoiled,
     }
 }
@@ -75,6 +72,7 @@ pub fn moved_count(answer: u8, from: usize, left: usize) -> usize
 pub fn move_bytes(
     ram: &[u8],
     parity: &[u8],
+    buffer: &mut [u8],
     log: &mut [u32],
     line: u32,
     from: usize,
@@ -84,8 +82,8 @@ pub fn move_bytes(
     place: usize,
     at: Brought,
 ) -> Brought
-    requires { ⌜ (line % 16 ≡ 0) × (line + 16 ≤ length (now ram)) × (length (now ram) ≤ 16777216) × (length (now ram) ≤ 4 * length (now parity)) × (0 < count) × (from % 4 + count ≤ 4) × (from < 16) × (kind ≤ 32) × (3 * place + 3 ≤ length (now log)) × (at .used < 64) ⌝ }
-    ensures { λ r. ⌜ MovesBytes kind (lentMemory (ram .entry) (parity .entry)) line from count last place at r (now (log .entry)) (now (log .exit)) ⌝ }
+    requires { ⌜ (line % 16 ≡ 0) × (line + 16 ≤ length (now ram)) × (length (now ram) ≤ 16777216) × (length (now ram) ≤ 4 * length (now parity)) × (0 < count) × (from % 4 + count ≤ 4) × (from < 16) × (kind ≤ 32) × (3 * place + 3 ≤ length (now log)) × (at .used < 64) × (length (now buffer) ≡ 16) ⌝ }
+    ensures { λ r. ⌜ MovesBytes kind (lentMemory (ram .entry) (parity .entry)) line from count last place at r (now (buffer .entry)) (now (buffer .exit)) (now (log .entry)) (now (log .exit)) ⌝ }
 {
     let start = line as usize;
     let base = start + from / 4 * 4;
@@ -94,12 +92,10 @@ pub fn move_bytes(
     let due = due_bits(&ram[..], base);
     let mask = lanes_mask(from % 4, count);
     put_part(log, place, base as u32, word, held, due, mask, kind, last);
-    let mut buffer = at.buffer;
-    copy_bytes(&ram[..], start + from, &mut buffer, from, count);
+    copy_bytes(&ram[..], start + from, buffer, from, count);
     Brought {
         used: at.used + 1,
         landed: at.landed,
-        buffer,
         spoiled: at.spoiled,
     }
 }

@@ -23,7 +23,6 @@ fn none_brought(landed: usize) -> Brought
     Brought {
         used: 0,
         landed,
-        buffer: [0; 16],
         spoiled: false,
     }
 }
@@ -33,6 +32,7 @@ pub fn plain_miss(
     ram: &mut [u8],
     parity: &mut [u8],
     answers: &[u8],
+    buffer: &mut [u8],
     log: &mut [u32],
     carried: CarriedWrites,
     line: u32,
@@ -41,14 +41,15 @@ pub fn plain_miss(
     first: usize,
     landed: usize,
 ) -> Brought
-    requires { ⌜ MissNeeds carried line first landed (length (now ram)) (length (now parity)) (length (now answers)) (length (now log)) × (0 < count) × (from % 4 + count ≤ 4) × (from < 16) ⌝ }
-    ensures { λ r. ⌜ CyclesBrought plainKind line first carried landed (lentMemory (ram .entry) (parity .entry)) (cyclesOf (now (answers .entry)) (run from count ∷ [])) (noneBrought landed) r (lentMemory (ram .exit) (parity .exit)) (now (log .entry)) (now (log .exit)) × (r .used ≤ groupSize) ⌝ }
+    requires { ⌜ MissNeeds carried line first landed (length (now ram)) (length (now parity)) (length (now answers)) (length (now log)) × (now buffer ≡ replicate 16 0) × (0 < count) × (from % 4 + count ≤ 4) × (from < 16) ⌝ }
+    ensures { λ r. ⌜ CyclesBrought plainKind line first carried landed (lentMemory (ram .entry) (parity .entry)) (cyclesOf (now (answers .entry)) (run from count ∷ [])) (noneBrought landed) r (lentMemory (ram .exit) (parity .exit)) (replicate 16 0) (now (buffer .exit)) (now (log .entry)) (now (log .exit)) × (r .used ≤ groupSize) ⌝ }
 {
     let start = none_brought(landed);
     run_cycles(
         ram,
         parity,
         answers,
+        buffer,
         log,
         carried,
         line,
@@ -66,6 +67,7 @@ pub fn fill_miss(
     ram: &mut [u8],
     parity: &mut [u8],
     answers: &[u8],
+    buffer: &mut [u8],
     log: &mut [u32],
     carried: CarriedWrites,
     line: u32,
@@ -73,8 +75,8 @@ pub fn fill_miss(
     first: usize,
     landed: usize,
 ) -> Brought
-    requires { ⌜ MissNeeds carried line first landed (length (now ram)) (length (now parity)) (length (now answers)) (length (now log)) × (start < 4) ⌝ }
-    ensures { λ r. ⌜ CyclesBrought fillKind line first carried landed (lentMemory (ram .entry) (parity .entry)) (cyclesOf (now (answers .entry)) (burst start)) (noneBrought landed) r (lentMemory (ram .exit) (parity .exit)) (now (log .entry)) (now (log .exit)) × (0 < r .used) × (r .used ≤ groupSize) ⌝ }
+    requires { ⌜ MissNeeds carried line first landed (length (now ram)) (length (now parity)) (length (now answers)) (length (now log)) × (now buffer ≡ replicate 16 0) × (start < 4) ⌝ }
+    ensures { λ r. ⌜ CyclesBrought fillKind line first carried landed (lentMemory (ram .entry) (parity .entry)) (cyclesOf (now (answers .entry)) (burst start)) (noneBrought landed) r (lentMemory (ram .exit) (parity .exit)) (replicate 16 0) (now (buffer .exit)) (now (log .entry)) (now (log .exit)) × (0 < r .used) × (r .used ≤ groupSize) ⌝ }
 {
     let order = burst_order(start);
     let mut now = none_brought(landed);
@@ -84,6 +86,7 @@ pub fn fill_miss(
             ram,
             parity,
             answers,
+            buffer,
             log,
             carried,
             line,

@@ -3,7 +3,7 @@ ghost use mathlib.Core.Path.{_≡_};
 ghost use mathlib.Core.List.{[]};
 ghost use mathlib.Core.Bool.{false};
 ghost use Prim.Native.Nat.{_+_, _*_, _/_, _%_, _^_, _≤_, _<_};
-ghost use lib.ListN.{length};
+ghost use lib.ListN.{length, replicate};
 ghost use Rattle.ways.specs.Address.{dataOffset, dataSize, setOf};
 ghost use Rattle.ways.specs.declared.ways.Found.the-variants.{At, Nothing};
 ghost use Rattle.ways.specs.Ways.{lookupIn, victimIn};
@@ -54,7 +54,7 @@ fn number_at(src: &[u8], at: usize, count: usize) -> u32
 fn hit_read(data: &[u8], w: Wanted, way: usize, landed: usize) -> CarriedRead
     requires { ⌜ (way < 4) × (length (now «data») ≡ dataSize) × (0 < w .count) × (w .from % 4 + w .count ≤ 4) × (w .from < 16) ⌝ }
     ensures { λ r. ⌜ (r .value ≡ valueOf (bytesAt (now («data» .entry)) (dataOffset (w .line) way + w .from) (w .count))) × (r .value < 256 ^ w .count)
-        × (r ≡ carriedRead (w .line) (At way) (noneBrought landed) false (w .count) (r .value)) ⌝ }
+        × (r ≡ carriedRead (w .line) (At way) (noneBrought landed) false (replicate 16 0) (w .count) (r .value)) ⌝ }
 {
     let value = number_at(data, data_offset(w.line, way) + w.from, w.count);
     CarriedRead {
@@ -70,12 +70,11 @@ fn hit_read(data: &[u8], w: Wanted, way: usize, landed: usize) -> CarriedRead
 }
 
 // What the cycles of a miss brought.
-fn miss_read(w: Wanted, brought: Brought, kept: bool) -> CarriedRead
+fn miss_read(w: Wanted, brought: Brought, buffer: [u8; 16], kept: bool) -> CarriedRead
     requires { ⌜ (0 < w .count) × (w .from % 4 + w .count ≤ 4) × (w .from < 16) ⌝ }
-    ensures { λ r. ⌜ (r .value ≡ valueOf (bytesAt (brought .buffer) (w .from) (w .count))) × (r .value < 256 ^ w .count)
-        × (r ≡ carriedRead (w .line) Nothing brought kept (w .count) (r .value)) ⌝ }
+    ensures { λ r. ⌜ (r .value ≡ valueOf (bytesAt buffer (w .from) (w .count))) × (r .value < 256 ^ w .count)
+        × (r ≡ carriedRead (w .line) Nothing brought kept buffer (w .count) (r .value)) ⌝ }
 {
-    let buffer = brought.buffer;
     let value = number_at(&buffer[..], w.from, w.count);
     CarriedRead {
         line: w.line,
@@ -117,25 +116,40 @@ pub fn carried_next<'a>(
     if let Found::At(way) = ways::lookup(tags, valid, line) {
         return hit_read(data, w, way, landed);
     }
+    let mut buffer = [0u8; 16];
     if !(may_fill & (group[0] % 2 == 1)) {
+        let from = w.from;
+        let count = w.count;
         let plain = plain_miss(
             ram,
             parity,
             group,
+            &mut buffer,
             log,
             carried,
             line,
-            w.from,
-            w.count,
+            from,
+            count,
             first,
             landed,
         );
-        return miss_read(w, plain, false);
+        return miss_read(w, plain, buffer, false);
     }
     let start = w.from / 4;
-    let fill = fill_miss(ram, parity, group, log, carried, line, start, first, landed);
+    let fill = fill_miss(
+        ram,
+        parity,
+        group,
+        &mut buffer,
+        log,
+        carried,
+        line,
+        start,
+        first,
+        landed,
+    );
     let last = group[fill.used - 1];
-    miss_read(w, fill, !fill.spoiled & (last % 2 == 1))
+    miss_read(w, fill, buffer, !fill.spoiled & (last % 2 == 1))
 }
 
 // A use of the way that was found.

@@ -19,6 +19,7 @@ pub fn run_cycles(
     ram: &mut [u8],
     parity: &mut [u8],
     answers: &[u8],
+    buffer: &mut [u8],
     log: &mut [u32],
     carried: CarriedWrites,
     line: u32,
@@ -30,9 +31,9 @@ pub fn run_cycles(
     at: Brought,
 ) -> Brought
     requires { ⌜ RunNeeds line from count first (at .used) (length (now ram)) (length (now parity)) (length (now answers)) (length (now log))
-        × CarriedNeeds carried (length (now ram)) (length (now parity)) × (at .landed ≤ carried .count) × (kind ≤ 32) ⌝ }
+        × CarriedNeeds carried (length (now ram)) (length (now parity)) × (at .landed ≤ carried .count) × (kind ≤ 32) × (length (now buffer) ≡ 16) ⌝ }
     ensures { λ r. ⌜ ((place : ℕ) (m₀ : Memory) → LandedTo carried place m₀ (first + at .used) (lentMemory (ram .entry) (parity .entry)) (at .landed)
-        → CyclesBrought kind line first carried place m₀ (runCycles last (drop (at .used) (now (answers .entry))) (run from count)) at r (lentMemory (ram .exit) (parity .exit)) (now (log .entry)) (now (log .exit)))
+        → CyclesBrought kind line first carried place m₀ (runCycles last (drop (at .used) (now (answers .entry))) (run from count)) at r (lentMemory (ram .exit) (parity .exit)) (now (buffer .entry)) (now (buffer .exit)) (now (log .entry)) (now (log .exit)))
         × (at .used ≤ r .used) × (r .used ≤ at .used + count) × (r .landed ≤ carried .count) ⌝ }
 {
     let mut now = at;
@@ -46,6 +47,7 @@ pub fn run_cycles(
         now = move_bytes(
             &ram[..],
             &parity[..],
+            buffer,
             log,
             line,
             next,

@@ -44,7 +44,7 @@ same-length-2 c = search needs
 
 returns-2 : tie.Need-returns-2
 returns-2 c =
-    let at-any-in-line = c .before .before .before in
+    let at-any-in-line = c .before .before in
     let at-land = at-any-in-line .before .before .before .before .before in
     let at-due-end = at-land .before .before .before .before in
     let start = at-due-end .before .before .before .before in
@@ -59,9 +59,8 @@ returns-2 c =
           .0;
       within = d .1;
       same = refl;
-      buffers = refl;
-      spoils = ap (λ (b : Bool). a .at .spoiled || (ltb 0 (a .at .used) && b)) (at-any-in-line .any-in-line .ensures ∙ ap
-          (inLine (a .line)) (d .2));
+      spoils = ap (λ (b : Bool). a .at .spoiled || (ltb 0 (a .at .used) && b)) (at-any-in-line .any-in-line .ensures ∙ ap (inLine (a .line)) (d
+          .2));
     }
 
 pub land-due-spec : {M : Type 1} → statement M

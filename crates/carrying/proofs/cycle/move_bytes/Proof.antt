@@ -1,8 +1,7 @@
 use Rattle.carrying.proofs.Moved.{moved-record}
 use denote.Ref.{now}
-use lib.ListN.{length}
 use Prim.Native.Nat.{_%_}
-use mathlib.Core.Path.{_≡_, refl}
+use mathlib.Core.Path.{refl}
 use native.Mathlib.Omega.{arith}
 use borrow.Author.Needs.{needs}
 use Rattle.carrying.proofs.cycle.move_bytes.Statement.{statement}
@@ -35,15 +34,10 @@ put-part-requires c κs = search needs
 add-copy-bytes : tie.Need-add-copy-bytes
 add-copy-bytes c = search needs
 
-slice-aggregate-copy-bytes : tie.Need-slice-aggregate-copy-bytes
-slice-aggregate-copy-bytes c = search needs
-
-sixteen : (c : tie.After-buffer2) → length (c .before .before .before .before .before .before .before .before .before .before .before .before .before .args .at .buffer) ≡ 16
-sixteen c =
-    search needs
-
 copy-bytes-requires : tie.Need-copy-bytes-requires
-copy-bytes-requires c κs = (omega arith, omega (arith, sixteen c))
+copy-bytes-requires c κs =
+    let start = c .before .before .before .before .before .before .before .before .before .before .before .before .before in
+    (omega arith, omega (arith, start .pre .10))
 
 add-t19 : tie.Need-add-t19
 add-t19 c = search needs
@@ -51,14 +45,17 @@ add-t19 c = search needs
 same-length : tie.Need-same-length
 same-length c = search needs
 
+same-length-2 : tie.Need-same-length-2
+same-length-2 c = search needs
+
 returns : tie.Need-returns
 returns c =
-    let at-copy-bytes = c .before .before in
-    let at-put-part = at-copy-bytes .before .before .before .before .before in
+    let at-copy-bytes = c .before .before .before in
+    let at-put-part = at-copy-bytes .before .before .before .before in
     let at-lanes-mask = at-put-part .before .before in
     let at-due-bits = at-lanes-mask .before in
     let at-word-at = at-due-bits .before .before in
-    let at-shared-slice-known = at-word-at .before .before .before in
+    let at-shared-slice-known = at-word-at .before .before .before .before in
     let start = at-shared-slice-known .before in
     let a = start .args in
     let p = start .pre in
@@ -87,8 +84,8 @@ move-bytes-spec =
     cast-put-part
     put-part-requires
     add-copy-bytes
-    slice-aggregate-copy-bytes
     copy-bytes-requires
     add-t19
     same-length
+    same-length-2
     returns)

@@ -17,7 +17,8 @@ number-at-requires c κs = search needs
 
 returns : tie.Need-returns
 returns c =
-    let at-data-offset = c .before .before in
+    let at-before = c .before in
+    let at-data-offset = at-before .before in
     let start = at-data-offset .before .before in (
       c .number-at .ensures .0 ∙ ap (λ (x : ℕ). valueOf (bytesAt (now (start .args .«data»)) (x + start .args .w .from) (start .args .w .count))) (at-data-offset .data-offset
           .ensures .0),

@@ -36,7 +36,8 @@ same-length c = search needs
 
 returns : tie.Need-returns
 returns c =
-    let at-copy-line = c .before .before in
+    let at-before = c .before in
+    let at-copy-line = at-before .before in
     let at-data-offset = at-copy-line .before .before .before .before in
     let at-victim = at-data-offset .before in
     let at-set-of = at-victim .before in
