@@ -1,12 +1,13 @@
 -- The cycles of a miss: those of the wanted bytes, and the loop over the doublewords of a fill.
 use Prim.Native.Nat.{ℕ, _+_, _*_, _%_, _≤_, _<_}
 use mathlib.Core.Path.{_≡_, refl, sym, _∙_, ap}
-use mathlib.Core.Bool.{true, cond}
+use mathlib.Core.Bool.{cond}
 use mathlib.Core.List.{List, [], _∷_, _++_}
 use native.Mathlib.Omega.{arith}
 use lib.Dec.{eqb, ltb}
 use lib.ListN.{length, getD, drop, length-drop}
 use lib.Seq.{drop-drop}
+use Rattle.laws.proofs.Below.{four}
 use Rattle.laws.proofs.Tests.{by-test}
 use Rattle.memory.specs.Parity.{Memory, memory}
 use Rattle.carried.specs.declared.CarriedWrites.{CarriedWrites}
@@ -14,12 +15,12 @@ use Rattle.carried.specs.Carried.{Carried, due, later, landed}
 use Rattle.carried.specs.CarriedCode.{leftFrom, CarriedNeeds}
 use Rattle.carried.proofs.Writes.{writes-none}
 use Rattle.bus.specs.Bus.{Run, run, Cycle, cyclesOf, burst}
-use Rattle.bus.specs.Record.{fillKind, plainKind, wordsOf}
+use Rattle.bus.specs.Record.{wordsOf}
 use Rattle.bus.specs.Runs.{runCycles, offsets}
-use Rattle.bus.proofs.Runs.{cycles-none, cycles-run, cycles-alone, run-some, burst-turn, burst-done}
+use Rattle.bus.proofs.Runs.{cycles-none, cycles-run, run-some, burst-turn, burst-done}
 use Rattle.reading.specs.Reading.{bufferOf, recordsOf}
 use Rattle.carrying.specs.declared.cycle.Brought.{Brought}
-use Rattle.carrying.specs.CarryingCode.{LandedTo, CyclesBrought, RunNeeds, noneBrought, MissNeeds}
+use Rattle.carrying.specs.CarryingCode.{LandedTo, CyclesBrought, RunNeeds, noneBrought, MissNeeds, TurnNeeds, TurnsOf}
 use Rattle.carrying.proofs.Cycles.{brought-append}
 
 -- where none is due all are left
@@ -69,91 +70,77 @@ module _ (ram₀ parity₀ xs log₀ : List ℕ) (carried : CarriedWrites) (line
         few = omega (arith, z .few);
       }
 
-  -- THE WANTED BYTES
+  -- TURNS
 
-  module _ (start count : ℕ) (some : 0 < count) (lanes : start % 4 + count ≤ 4) (short : start < 16) (at : Brought) (ea : at ≡ noneBrought landed₀) where
-    pub plain-needs : RunNeeds line start count first (at .used) (length ram₀) (length parity₀) (length xs) (length log₀) × CarriedNeeds carried (length ram₀) (length parity₀) × (at .landed ≤ carried .count) × (0 ≤ 32)
-    plain-needs = rw ea (run-needs ram₀ parity₀ log₀ refl refl refl start count 0 some lanes short (omega arith), z .writes, z .within, omega arith)
+  module _ (buffer₀ order : List ℕ) (turns count kind : ℕ) (y : TurnNeeds order turns count) where
+    abbrev Brings : List Cycle → Brought → Brought → Memory → List ℕ → List ℕ → List ℕ → List ℕ → Type 0
+    Brings = CyclesBrought kind line first carried landed₀ m₀
 
-    pub plain-brought : {r : Brought} {m : Memory} {buffer₀ buffer log : List ℕ} →
-        ((place : ℕ) (m₁ : Memory) → LandedTo carried place m₁ (first + at .used) m₀ (at .landed) → CyclesBrought plainKind line first carried place m₁ (runCycles true (drop (at .used) xs) (run start count)) at r m buffer₀ buffer log₀ log) →
-        CyclesBrought plainKind line first carried landed₀ m₀ (cyclesOf xs (run start count ∷ [])) (noneBrought landed₀) r m buffer₀ buffer log₀ log
-    plain-brought f = rw (cycles-alone xs (run start count)) ((rw ea at f) landed₀ m₀ miss-begin)
-
-    pub plain-most : {r : ℕ} → r ≤ at .used + count → r ≤ 16
-    plain-most h = let e : at .used ≡ 0 = ap (λ (b : Brought). b .used) ea in omega arith
-
-  -- A FILL
-
-  module _ (buffer₀ : List ℕ) (start : ℕ) (sl : start < 4) where
-    abbrev Fills : List Cycle → Brought → Brought → Memory → List ℕ → List ℕ → List ℕ → List ℕ → Type 0
-    Fills = CyclesBrought fillKind line first carried landed₀ m₀
-
-    pub record FillLoop (ram parity buffer log : List ℕ) (now : Brought) (turn : ℕ) : Type 0 where
+    pub record TurnLoop (ram parity buffer log : List ℕ) (now : Brought) (turn : ℕ) : Type 0 where
       pub lands : LandedTo carried landed₀ m₀ (first + now .used) (memory ram parity) (now .landed)
-      pub rest : (r : Brought) (m′ : Memory) (buffer′ log′ : List ℕ) → Fills (cyclesOf (drop (now .used) xs) (drop turn (burst start))) now r m′ buffer buffer′ log log′ →
-          Fills (cyclesOf xs (burst start)) (noneBrought landed₀) r m′ buffer₀ buffer′ log₀ log′
-      pub turns : turn ≤ 4
+      pub rest : (runs : List Run) → TurnsOf runs order turns count → (r : Brought) (m′ : Memory) (buffer′ log′ : List ℕ) →
+          Brings (cyclesOf (drop (now .used) xs) (drop turn runs)) now r m′ buffer buffer′ log log′ → Brings (cyclesOf xs runs) (noneBrought landed₀) r m′ buffer₀ buffer′ log₀ log′
+      pub within : turn ≤ turns
       pub some : turn ≤ now .used
       pub most : now .used ≤ 4 * turn
-      pub within : now .landed ≤ carried .count
+      pub places : now .landed ≤ carried .count
       pub rams : length ram ≡ length ram₀
       pub parities : length parity ≡ length parity₀
       pub logs : length log ≡ length log₀
       pub buffers : length buffer ≡ length buffer₀
 
-    pub fill-begin : (now : Brought) → now ≡ noneBrought landed₀ → FillLoop ram₀ parity₀ buffer₀ log₀ now 0
-    fill-begin now e =
+    pub turn-begin : (now : Brought) → now ≡ noneBrought landed₀ → TurnLoop ram₀ parity₀ buffer₀ log₀ now 0
+    turn-begin now e =
         rw e
         (record {
           lands = miss-begin;
-          rest = λ r m′ buffer′ log′ k. k;
-          turns = omega arith;
+          rest = λ runs t r m′ buffer′ log′ k. k;
+          within = omega arith;
           some = omega arith;
           most = omega arith;
-          within = z .within;
+          places = z .within;
           rams = refl;
           parities = refl;
           logs = refl;
           buffers = refl;
         })
 
-    module _ {ram parity buffer log : List ℕ} {now : Brought} {turn : ℕ} (g : FillLoop ram parity buffer log now turn) (tl : turn < 4) (order : List ℕ) (eo : order ≡ offsets (burst start)) where
+    module _ {ram parity buffer log : List ℕ} {now : Brought} {turn : ℕ} (g : TurnLoop ram parity buffer log now turn) (tl : turn < turns) where
       abbrev o : ℕ
       o = getD order turn 0
 
-      pub fill-needs : RunNeeds line o 4 first (now .used) (length ram) (length parity) (length xs) (length log) × CarriedNeeds carried (length ram) (length parity) × (now .landed ≤ carried .count) × (32 ≤ 32)
-      fill-needs =
-          let t = burst-turn start turn sl tl in
-          let e : o ≡ getD (offsets (burst start)) turn 0 = ap (λ (l : List ℕ). getD l turn 0) eo in
-          (run-needs ram parity log (g .rams) (g .parities) (g .logs) o 4 (now .used) (omega arith) (rw e (omega (arith, t .2))) (rw e (t .3)) (omega (arith, g .most)), rw (g .rams, g .parities) (z .writes), g .within, omega arith)
+      pub turn-needs : kind ≤ 32 → length buffer₀ ≡ 16 →
+          RunNeeds line o count first (now .used) (length ram) (length parity) (length xs) (length log) × CarriedNeeds carried (length ram) (length parity) × (now .landed ≤ carried .count) × (kind ≤ 32) × (length buffer ≡ 16)
+      turn-needs k sixteen = (
+        run-needs ram parity log (g .rams) (g .parities) (g .logs) o count (now .used) (y .some) (y .lanes turn tl) (y .short turn tl) (omega (arith, g .most, y .most, y .few)),
+        rw (g .rams, g .parities) (z .writes),
+        g .places,
+        k,
+        g .buffers ∙ sixteen,
+      )
 
       module _ {r : Brought} {ram′ parity′ buffer′ log′ : List ℕ}
-          (f : (place : ℕ) (m₁ : Memory) → LandedTo carried place m₁ (first + now .used) (memory ram parity) (now .landed) → CyclesBrought fillKind line first carried place m₁ (runCycles (eqb turn 3) (drop (now .used) xs) (run o 4)) now r (memory ram′ parity′) buffer buffer′ log log′)
-          (most : r .used ≤ now .used + 4) (er : length ram′ ≡ length ram) (ep : length parity′ ≡ length parity) (el : length log′ ≡ length log) (eb : length buffer′ ≡ length buffer) where
-        pub fill-next : FillLoop ram′ parity′ buffer′ log′ r (turn + 1)
-        fill-next =
+          (f : (place : ℕ) (m₁ : Memory) → LandedTo carried place m₁ (first + now .used) (memory ram parity) (now .landed) → CyclesBrought kind line first carried place m₁ (runCycles (eqb (turn + 1) turns) (drop (now .used) xs) (run o count)) now r (memory ram′ parity′) buffer buffer′ log log′)
+          (most : r .used ≤ now .used + count) (er : length ram′ ≡ length ram) (ep : length parity′ ≡ length parity) (el : length log′ ≡ length log) (eb : length buffer′ ≡ length buffer) where
+        pub turn-next : TurnLoop ram′ parity′ buffer′ log′ r (turn + 1)
+        turn-next =
             let b = f landed₀ m₀ (g .lands) in
-            let cs = runCycles (eqb turn 3) (drop (now .used) xs) (run o 4) in
+            let cs = runCycles (eqb (turn + 1) turns) (drop (now .used) xs) (run o count) in
             let ys = drop (now .used) xs in
-            let next = drop (turn + 1) (burst start) in
-            let t = burst-turn start turn sl tl in
-            let e : run (getD (offsets (burst start)) turn 0) 4 ≡ run o 4 = ap (λ (l : List ℕ). run (getD l turn 0) 4) (sym eo) in
-            let there : 0 < length ys = rw (length-drop (now .used) xs) (omega (arith, g .most, z .served)) in
-            let made : 0 < length cs = run-some (eqb turn 3) ys (run o 4) there in
+            let there : 0 < length ys = rw (length-drop (now .used) xs) (omega (arith, g .most, y .few, z .served)) in
+            let made : 0 < length cs = run-some (eqb (turn + 1) turns) ys (run o count) there in
             let left : drop (length cs) ys ≡ drop (r .used) xs = drop-drop (length cs) (now .used) xs ∙ ap (λ (i : ℕ). drop i xs) (sym (b .made)) in
-            let all : cyclesOf ys (drop turn (burst start)) ≡ cs ++ cyclesOf (drop (r .used) xs) next =
-            ap (cyclesOf ys) (t .0)
-            ∙ ap (λ (w : Run). cyclesOf ys (w ∷ next)) e
-            ∙ cycles-run ys (run o 4) next
-            ∙ rw (t .1, left) in
             record {
               lands = b .lands;
-              rest = λ r′ m′ buffer″ log″ k. g .rest r′ m′ buffer″ log″ (rw all (brought-append fillKind line first carried landed₀ m₀ cs (cyclesOf (drop (r .used) xs) next) now r r′ (memory ram′ parity′) m′ buffer buffer′ buffer″ log log′ log″ b k));
-              turns = omega arith;
+              rest = λ runs t r′ m′ buffer″ log″ k.
+                  let next = drop (turn + 1) runs in
+                  let all : cyclesOf ys (drop turn runs) ≡ cs ++ cyclesOf (drop (r .used) xs) next =
+                  ap (cyclesOf ys) (t .each turn tl) ∙ cycles-run ys (run o count) next ∙ rw (t .last turn tl, left) in
+                  g .rest runs t r′ m′ buffer″ log″ (rw all (brought-append kind line first carried landed₀ m₀ cs (cyclesOf (drop (r .used) xs) next) now r r′ (memory ram′ parity′) m′ buffer buffer′ buffer″ log log′ log″ b k));
+              within = omega arith;
               some = omega (arith, g .some, b .made);
-              most = omega (arith, g .most);
-              within = b .lands .within;
+              most = omega (arith, g .most, y .most);
+              places = b .lands .within;
               rams = er ∙ g .rams;
               parities = ep ∙ g .parities;
               logs = el ∙ g .logs;
@@ -161,13 +148,60 @@ module _ (ram₀ parity₀ xs log₀ : List ℕ) (carried : CarriedWrites) (line
             }
 
     -- after the last turn
-    pub fill-end : {ram parity buffer log : List ℕ} {now : Brought} {turn : ℕ} → FillLoop ram parity buffer log now turn → (turn < 4 → ⊥) →
-        Fills (cyclesOf xs (burst start)) (noneBrought landed₀) now (memory ram parity) buffer₀ buffer log₀ log × (0 < now .used) × (now .used ≤ 16)
+    pub turn-end : {ram parity buffer log : List ℕ} {now : Brought} {turn : ℕ} → TurnLoop ram parity buffer log now turn → (turn < turns → ⊥) →
+        ((runs : List Run) → TurnsOf runs order turns count → Brings (cyclesOf xs runs) (noneBrought landed₀) now (memory ram parity) buffer₀ buffer log₀ log) × (turns ≤ now .used) × (now .used ≤ 16)
     unfolding recordsOf bufferOf wordsOf
-    fill-end {ram} {parity} {buffer} {log} {now} {turn} g n =
-        let e : turn ≡ 4 = omega (arith, g .turns) in
-        let d : cyclesOf (drop (now .used) xs) (drop turn (burst start)) ≡ [] = ap (cyclesOf (drop (now .used) xs)) (burst-done start turn sl e) ∙ cycles-none (drop (now .used) xs) in (
-          g .rest now (memory ram parity) buffer log (rw d (record { made = omega arith; logs = refl; buffers = refl; lands = g .lands; spoils = λ h. h })),
+    turn-end {ram} {parity} {buffer} {log} {now} {turn} g n =
+        let e : turn ≡ turns = omega (arith, g .within) in (
+          λ runs t.
+              let d : cyclesOf (drop (now .used) xs) (drop turn runs) ≡ [] = ap (λ (i : ℕ). cyclesOf (drop (now .used) xs) (drop i runs)) e ∙ ap (cyclesOf (drop (now .used) xs)) (t .done) ∙ cycles-none (drop (now .used) xs) in
+              g .rest runs t now (memory ram parity) buffer log (rw d (record { made = omega arith; logs = refl; buffers = refl; lands = g .lands; spoils = λ h. h })),
           omega (arith, g .some),
-          omega (arith, g .most, g .turns),
+          omega (arith, g .most, g .within, y .few),
         )
+
+-- THE WANTED BYTES, AND A FILL
+
+module _ (start count : ℕ) (some : 0 < count) (lanes : start % 4 + count ≤ 4) (short : start < 16) where
+  abbrev alone : List ℕ
+  alone = start ∷ 0 ∷ 0 ∷ 0 ∷ []
+
+  pub one-turn-needs : TurnNeeds alone 1 count
+  one-turn-needs =
+      record {
+        few = omega arith;
+        some = some;
+        most = omega arith;
+        lanes = λ turn h. at-zero turn h lanes;
+        short = λ turn h. let e : turn ≡ 0 = omega arith in rw e short;
+      }
+    where
+      at-zero : (turn : ℕ) → turn < 1 → start % 4 + count ≤ 4 → getD alone turn 0 % 4 + count ≤ 4
+      at-zero turn h l = let e : turn ≡ 0 = omega arith in rw e l
+
+  pub one-turn : TurnsOf (run start count ∷ []) alone 1 count
+  one-turn =
+      record {
+        each = λ turn h. let e : turn ≡ 0 = omega arith in rw e;
+        last = λ turn h. let e : turn ≡ 0 = omega arith in rw e;
+        done = refl;
+      }
+
+module _ (start : ℕ) (sl : start < 4) (order : List ℕ) (eo : order ≡ offsets (burst start)) where
+  pub four-turns-needs : TurnNeeds order 4 4
+  four-turns-needs =
+      record {
+        few = omega arith;
+        some = omega arith;
+        most = omega arith;
+        lanes = λ turn h. let t = burst-turn start turn sl h in rw eo (omega (arith, t .2));
+        short = λ turn h. rw eo (burst-turn start turn sl h .3);
+      }
+
+  pub four-turns : TurnsOf (burst start) order 4 4
+  four-turns =
+      record {
+        each = λ turn h. rw eo (burst-turn start turn sl h .0);
+        last = λ turn h. burst-turn start turn sl h .1 ∙ four (λ t. eqb t 3 ≡ eqb (t + 1) 4) refl refl refl refl turn h;
+        done = burst-done start 4 sl refl;
+      }

@@ -3,8 +3,8 @@ use Prim.Native.Nat.{ℕ, suc, _+_, _*_, _-_, _%_, _^_, _≤_, _<_}
 use mathlib.Core.Path.{_≡_}
 use mathlib.Core.Bool.{Bool, false, cond, _&&_, _||_}
 use mathlib.Core.List.{List, [], _∷_}
-use lib.Dec.{ltb}
-use lib.ListN.{length, replicate}
+use lib.Dec.{eqb, ltb}
+use lib.ListN.{length, getD, drop, replicate}
 use Rattle.ways.specs.Address.{dataOffset}
 use Rattle.ways.specs.declared.ways.Found.{Found}
 use Rattle.ways.specs.declared.ways.Found.the-variants.{At, Nothing}
@@ -13,7 +13,7 @@ use Rattle.memory.specs.Parity.{Memory}
 use Rattle.carried.specs.declared.CarriedWrites.{CarriedWrites}
 use Rattle.carried.specs.Carried.{Carried, due, later, landed, memoryAt, inLine}
 use Rattle.carried.specs.CarriedCode.{writesFrom, leftFrom, CarriedNeeds}
-use Rattle.bus.specs.Bus.{run, Cycle, bufferAfter}
+use Rattle.bus.specs.Bus.{Run, run, Cycle, none, bufferAfter}
 use Rattle.bus.specs.Groups.{groupSize}
 use Rattle.bus.specs.Record.{Record, readRecord, logged}
 use Rattle.parts.specs.Parts.{moving}
@@ -99,6 +99,20 @@ pub record MissNeeds (carried : CarriedWrites) (line first from ram parity answe
   pub writes : CarriedNeeds carried ram parity
   pub within : from ≤ carried .count
   pub due : due first (leftFrom carried from) ≡ []
+
+-- So many turns, each of so many bytes of a doubleword, from the offset that an order names for it.
+pub record TurnNeeds (order : List ℕ) (turns count : ℕ) : Type 0 where
+  pub few : turns ≤ 4
+  pub some : 0 < count
+  pub most : count ≤ 4
+  pub lanes : (turn : ℕ) → turn < turns → getD order turn 0 % 4 + count ≤ 4
+  pub short : (turn : ℕ) → turn < turns → getD order turn 0 < 16
+
+-- The turns are those of runs.
+pub record TurnsOf (runs : List Run) (order : List ℕ) (turns count : ℕ) : Type 0 where
+  pub each : (turn : ℕ) → turn < turns → drop turn runs ≡ run (getD order turn 0) count ∷ drop (turn + 1) runs
+  pub last : (turn : ℕ) → turn < turns → none (drop (turn + 1) runs) ≡ eqb (turn + 1) turns
+  pub done : drop turns runs ≡ []
 
 -- What the lookup and the cycles of a doubleword brought, by what the lookup found.
 pub record Begun : Type 0 where

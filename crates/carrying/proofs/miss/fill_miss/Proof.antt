@@ -1,108 +1,46 @@
-use borrow.Author.Needs.{needs}
-use Rattle.carrying.proofs.Misses.{FillLoop, fill-begin, fill-needs, fill-next, fill-end}
-use Rattle.carrying.specs.CarryingCode.{MissNeeds}
-use lib.ListN.{length}
-use Prim.Native.Nat.{_-_, _<_}
-use mathlib.Core.Path.{_∙_, ap}
 use native.Mathlib.Omega.{arith}
+use Rattle.carrying.proofs.Misses.{four-turns-needs, four-turns}
+use borrow.Author.Needs.{needs}
 use Rattle.carrying.proofs.miss.fill_miss.Statement.{statement}
 use Rattle.carrying.proofs.miss.fill_miss.Tie as tie
 
-abbrev Inv-loop : tie.InvT-loop
-Inv-loop ram₀ parity₀ answers buffer₀ log₀ carried line start first landed order now₀ turn₀ ram parity buffer log now turn = (z : MissNeeds carried line first landed (length ram₀) (length parity₀) (length answers) (length log₀)) (sl : start < 4) → FillLoop ram₀ parity₀ answers log₀ carried line first landed z buffer₀ start sl ram parity buffer log now turn
-
-abbrev μ-loop : tie.MeasureT-loop
-μ-loop ram₀ parity₀ answers buffer₀ log₀ carried line start first landed order now₀ turn₀ ram parity buffer log now turn = 4 - turn
-
-burst-order-requires : tie.Need-burst-order-requires Inv-loop μ-loop
+burst-order-requires : tie.Need-burst-order-requires
 burst-order-requires c κs = search needs
 
-none-brought-requires : tie.Need-none-brought-requires Inv-loop μ-loop
-none-brought-requires c κs = search needs
-
-loop-holds : tie.Need-loop-holds Inv-loop μ-loop
-loop-holds c = λ z sl. fill-begin _ _ _ _ _ _ _ _ z _ _ sl _ (c .none-brought .ensures)
-
-mul-run-cycles : tie.Need-mul-run-cycles Inv-loop μ-loop
-mul-run-cycles c = search needs
-
-array-read-run-cycles : tie.Need-array-read-run-cycles Inv-loop μ-loop
-array-read-run-cycles c = search needs
-
-run-cycles-requires : tie.Need-run-cycles-requires Inv-loop μ-loop
-run-cycles-requires c κs =
-    let at-loop-test = c .before .before .before .before in
-    let at-loop = at-loop-test .before in
-    let at-burst-order = at-loop .before .before in
+turn-cycles-requires : tie.Need-turn-cycles-requires
+turn-cycles-requires c κs =
+    let at-burst-order = c .before .before .before .before in
     let start = at-burst-order .before .before .before .before .before .before in
     let p = start .pre in
-    let g = at-loop .loop .inv (p .0) (p .2) in
-    let q = fill-needs _ _ _ _ _ _ _ _ (p .0) _ _ (p .2) g (at-loop-test .loop-test .taken) _ (at-burst-order .burst-order .ensures) in
-    (q .0, q .1, q .2, q .3, g .buffers ∙ ap length (p .1))
+    (p .0, p .1, four-turns-needs _ (p .2) _ (at-burst-order .burst-order .ensures), omega arith)
 
-add-turn : tie.Need-add-turn Inv-loop μ-loop
-add-turn c = search needs
+same-length : tie.Need-same-length
+same-length c = search needs
 
-loop-less : tie.Need-loop-less Inv-loop μ-loop
-loop-less c =
-    let at-loop-test = c .before .before .before .before .before .before .before .before .before .before .before .before .before in
-    omega (arith, at-loop-test .loop-test .taken)
+same-length-2 : tie.Need-same-length-2
+same-length-2 c = search needs
 
-loop-again : tie.Need-loop-again Inv-loop μ-loop
-loop-again c =
-    let at-run-cycles = c .before .before .before .before .before .before .before .before in
-    let at-loop-test = at-run-cycles .before .before .before .before .before in
-    let at-loop = at-loop-test .before in
-    let at-burst-order = at-loop .before .before in
-    λ z sl. let e = at-run-cycles .run-cycles .ensures in let k = at-run-cycles .run-cycles .kept in fill-next _ _ _ _ _ _ _ _ z _ _ sl (at-loop .loop .inv z sl)
-    (at-loop-test .loop-test .taken) _ (at-burst-order .burst-order .ensures) (e .0) (e .2) (k .0) (k .1 .0) (k .1 .1 .1 .1 .0) (k .1 .1 .1 .0)
+same-length-3 : tie.Need-same-length-3
+same-length-3 c = search needs
 
-same-length : tie.Need-same-length Inv-loop μ-loop
-same-length c =
-    let at-loop = c .before in
-    let start = at-loop .before .before .before .before .before .before .before .before in
-    at-loop .loop .inv (start .pre .0) (start .pre .2) .rams
+same-length-4 : tie.Need-same-length-4
+same-length-4 c = search needs
 
-same-length-2 : tie.Need-same-length-2 Inv-loop μ-loop
-same-length-2 c =
-    let at-loop = c .before in
-    let start = at-loop .before .before .before .before .before .before .before .before in
-    at-loop .loop .inv (start .pre .0) (start .pre .2) .parities
-
-same-length-3 : tie.Need-same-length-3 Inv-loop μ-loop
-same-length-3 c =
-    let at-loop = c .before in
-    let start = at-loop .before .before .before .before .before .before .before .before in
-    at-loop .loop .inv (start .pre .0) (start .pre .2) .buffers
-
-same-length-4 : tie.Need-same-length-4 Inv-loop μ-loop
-same-length-4 c =
-    let at-loop = c .before in
-    let start = at-loop .before .before .before .before .before .before .before .before in
-    at-loop .loop .inv (start .pre .0) (start .pre .2) .logs
-
-returns : tie.Need-returns Inv-loop μ-loop
+returns : tie.Need-returns
 returns c =
-    let at-loop = c .before in
-    let start = at-loop .before .before .before .before .before .before .before .before in
+    let at-turn-cycles = c .before .before .before .before .before .before .before .before in
+    let at-burst-order = at-turn-cycles .before .before .before .before .before in
+    let start = at-burst-order .before .before .before .before .before .before in
     let p = start .pre in
-    rw (p .1) at (fill-end _ _ _ _ _ _ _ _ (p .0) _ _ (p .2) (at-loop .loop .inv (p .0) (p .2)) (λ l. omega (arith, c .loop-test .left)))
+    let e = at-turn-cycles .turn-cycles .ensures in
+    (e .0 _ (four-turns _ (p .2) _ (at-burst-order .burst-order .ensures)), omega (arith, e .1), e .2)
 
 pub fill-miss-spec : {M : Type 1} → statement M
 fill-miss-spec =
     tie.close
     (tie.spec
-    Inv-loop
-    μ-loop
     burst-order-requires
-    none-brought-requires
-    loop-holds
-    mul-run-cycles
-    array-read-run-cycles
-    run-cycles-requires
-    add-turn
-    loop-less
-    loop-again
+    turn-cycles-requires
     same-length
     same-length-2
     same-length-3

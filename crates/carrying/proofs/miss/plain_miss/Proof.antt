@@ -1,23 +1,14 @@
-use Rattle.carrying.proofs.Misses.{plain-needs, plain-brought, plain-most}
-use lib.ListN.{length}
-use mathlib.Core.Path.{ap}
-use denote.Ref.{now}
+use native.Mathlib.Omega.{arith}
+use Rattle.carrying.proofs.Misses.{one-turn-needs, one-turn}
 use borrow.Author.Needs.{needs}
 use Rattle.carrying.proofs.miss.plain_miss.Statement.{statement}
 use Rattle.carrying.proofs.miss.plain_miss.Tie as tie
 
-none-brought-requires : tie.Need-none-brought-requires
-none-brought-requires c κs = search needs
-
-run-cycles-requires : tie.Need-run-cycles-requires
-run-cycles-requires c κs =
-    let at-none-brought = c .before .before .before .before in
-    let start = at-none-brought .before .before .before .before .before .before in
+turn-cycles-requires : tie.Need-turn-cycles-requires
+turn-cycles-requires c κs =
+    let start = c .before .before .before .before .before .before .before .before .before in
     let p = start .pre in
-    let a = start .args in
-    let q = plain-needs (now (a .ram)) (now (a .parity)) (now (a .answers)) (now (a .log)) _ _ _ _ (p .0) _ _ (p .2) (p .3) (p .4) _ (at-none-brought .none-brought .ensures)
-    in
-    (q .0, q .1, q .2, q .3, ap length (p .1))
+    (p .0, p .1, one-turn-needs _ _ (p .2) (p .3) (p .4), omega arith)
 
 same-length : tie.Need-same-length
 same-length c = search needs
@@ -33,26 +24,13 @@ same-length-4 c = search needs
 
 returns : tie.Need-returns
 returns c =
-    let at-run-cycles = c .before .before .before .before .before .before .before .before in
-    let at-none-brought = at-run-cycles .before .before .before .before .before in
-    let start = at-none-brought .before .before .before .before .before .before in
+    let at-turn-cycles = c .before .before .before .before .before .before .before .before in
+    let start = at-turn-cycles .before .before .before .before .before .before .before .before .before .before in
     let p = start .pre in
-    let a = start .args in
-    let e = at-run-cycles .run-cycles .ensures in (
-      rw (p .1) at (plain-brought (now (a .ram)) (now (a .parity)) (now (a .answers)) (now (a .log)) _ _ _ _ (p .0) _ _ (p .2) (p .3) (p .4) _ (at-none-brought .none-brought
-          .ensures) (e .0)),
-      plain-most (now (a .ram)) (now (a .parity)) (now (a .answers)) (now (a .log)) _ _ _ _ (p .0) _ _ (p .2) (p .3) (p .4) _ (at-none-brought .none-brought
-          .ensures) (e .2),
-    )
+    let e = at-turn-cycles .turn-cycles .ensures in
+    (e .0 _ (one-turn _ _ (p .2) (p .3) (p .4)), e .2)
 
 pub plain-miss-spec : {M : Type 1} → statement M
 plain-miss-spec =
     tie.close
-    (tie.spec
-    none-brought-requires
-    run-cycles-requires
-    same-length
-    same-length-2
-    same-length-3
-    same-length-4
-    returns)
+    (tie.spec turn-cycles-requires same-length same-length-2 same-length-3 same-length-4 returns)

@@ -43,7 +43,8 @@ add-move-bytes c =
 
 move-bytes-requires : tie.Need-move-bytes-requires Inv-loop μ-loop
 move-bytes-requires c κs =
-    let at-moved-count = c .before .before .before .before in
+    let at-before = c .before .before .before in
+    let at-moved-count = at-before .before in
     let at-land-due = at-moved-count .before .before .before .before .before .before in
     let at-loop = at-land-due .before .before .before in
     let start = at-loop .before .before .before .before .before .before in
@@ -54,13 +55,15 @@ move-bytes-requires c κs =
 
 same-length : tie.Need-same-length Inv-loop μ-loop
 same-length c =
-    let at-land-due = c .before .before .before .before .before .before .before .before .before .before .before .before .before .before .before .before in
+    let at-before = c .before .before .before .before .before .before .before .before .before .before .before .before .before .before .before in
+    let at-land-due = at-before .before in
     let at-loop = at-land-due .before .before .before in
     at-land-due .land-due .kept .0 ∙ at-loop .loop .inv .rams
 
 same-length-2 : tie.Need-same-length-2 Inv-loop μ-loop
 same-length-2 c =
-    let at-land-due = c .before .before .before .before .before .before .before .before .before .before .before .before .before .before .before .before in
+    let at-before = c .before .before .before .before .before .before .before .before .before .before .before .before .before .before .before in
+    let at-land-due = at-before .before in
     let at-loop = at-land-due .before .before .before in
     at-land-due .land-due .kept .1 .0 ∙ at-loop .loop .inv .parities
 
@@ -78,7 +81,8 @@ same-length-4 c =
 
 returns : tie.Need-returns Inv-loop μ-loop
 returns c =
-    let at-move-bytes = c .before .before .before .before .before in
+    let at-before = c .before .before .before .before in
+    let at-move-bytes = at-before .before in
     let at-moved-count = at-move-bytes .before .before .before .before .before in
     let at-land-due = at-moved-count .before .before .before .before .before .before in
     let at-loop = at-land-due .before .before .before in
@@ -104,7 +108,8 @@ loop-less c =
 
 loop-again : tie.Need-loop-again Inv-loop μ-loop
 loop-again c =
-    let at-move-bytes = c .before .before .before .before .before in
+    let at-before = c .before .before .before .before in
+    let at-move-bytes = at-before .before in
     let at-moved-count = at-move-bytes .before .before .before .before .before in
     let at-land-due = at-moved-count .before .before .before .before .before .before in
     let at-loop = at-land-due .before .before .before in
