@@ -112,14 +112,11 @@ pub fn carried_next<'a>(
     let w = cursor.wanted();
     let group = cursor.group_of(answers);
     let line = w.line;
-    let first = cursor.cycles;
     if let Found::At(way) = ways::lookup(tags, valid, line) {
         return hit_read(data, w, way, landed);
     }
     let mut buffer = [0u8; 16];
     if !(may_fill & (group[0] % 2 == 1)) {
-        let from = w.from;
-        let count = w.count;
         let plain = plain_miss(
             ram,
             parity,
@@ -128,9 +125,9 @@ pub fn carried_next<'a>(
             log,
             carried,
             line,
-            from,
-            count,
-            first,
+            w.from,
+            w.count,
+            cursor.cycles,
             landed,
         );
         return miss_read(w, plain, buffer, false);
@@ -145,7 +142,7 @@ pub fn carried_next<'a>(
         carried,
         line,
         start,
-        first,
+        cursor.cycles,
         landed,
     );
     let last = group[fill.used - 1];

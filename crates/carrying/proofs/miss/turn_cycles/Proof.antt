@@ -9,7 +9,9 @@ use Rattle.carrying.proofs.miss.turn_cycles.Statement.{statement}
 use Rattle.carrying.proofs.miss.turn_cycles.Tie as tie
 
 abbrev Inv-loop : tie.InvT-loop
-Inv-loop ram₀ parity₀ answers buffer₀ log₀ carried line turns count kind first landed order now₀ turn₀ ram parity buffer log now turn = (z : MissNeeds carried line first landed (length ram₀) (length parity₀) (length answers) (length log₀)) (y : TurnNeeds order turns count) → TurnLoop ram₀ parity₀ answers log₀ carried line first landed z buffer₀ order turns count kind y ram parity buffer log now turn
+Inv-loop ram₀ parity₀ answers buffer₀ log₀ carried line turns count kind first landed order now₀ turn₀ ram parity buffer log now turn =
+    (z : MissNeeds carried line first landed (length ram₀) (length parity₀) (length answers) (length log₀)) (y : TurnNeeds order turns count) →
+    TurnLoop ram₀ parity₀ answers log₀ carried line first landed z buffer₀ order turns count kind y ram parity buffer log now turn
 
 abbrev μ-loop : tie.MeasureT-loop
 μ-loop ram₀ parity₀ answers buffer₀ log₀ carried line turns count kind first landed order now₀ turn₀ ram parity buffer log now turn = turns - turn
@@ -41,9 +43,9 @@ run-cycles-requires c κs =
 
 add-turn : tie.Need-add-turn Inv-loop μ-loop
 add-turn c =
-    let start = c .before .before .before .before .before .before .before .before .before .before .before .before .before .before .before .before .before .before .before
-    .before .before in
-    omega (arith, start .pre .2 .few)
+    let at-loop-test = c .before .before .before .before .before .before .before .before .before .before .before .before .before in
+    let start = at-loop-test .before .before .before .before .before .before .before .before in
+    omega (arith, at-loop-test .loop-test .taken, start .pre .2 .few)
 
 loop-less : tie.Need-loop-less Inv-loop μ-loop
 loop-less c =
