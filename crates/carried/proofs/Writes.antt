@@ -10,7 +10,7 @@ use borrow.Author.Tests.{lt-ltb, le-ltb}
 use Rattle.words.specs.Bytes.{bytesAt}
 use Rattle.memory.specs.Parity.{Memory, memory, stored}
 use Rattle.carried.specs.Carried.{Carried, due, later, landed, inLine}
-use Rattle.carried.specs.CarriedCode.{writeIn, writesFrom, leftFrom, CarriedNeeds}
+use Rattle.carried.specs.CarriedCode.{writeIn, writesFrom, carriedOf, leftFrom, CarriedNeeds}
 use Rattle.carried.specs.declared.CarriedWrites.{CarriedWrites}
 use Rattle.carried.proofs.Due.{due-first, due-stop, later-first, later-stop, landed-append, in-line-append}
 
@@ -37,6 +37,11 @@ module _ (c : CarriedWrites) where
   pub writes-none : (k : ℕ) → writesFrom c k (k - k) ≡ []
   unfolding writesFrom
   writes-none k = let e : k - k ≡ 0 = omega arith in rw e
+
+  -- a read that carries none is the read without writes: both calls cite one definition, at this list
+  pub carried-none : c .count ≡ 0 → carriedOf c ≡ []
+  unfolding writesFrom
+  carried-none e = rw e
 
   -- those left are the next and those after it
   pub left-next : (k : ℕ) → k < c .count → leftFrom c k ≡ writeIn c k ∷ leftFrom c (k + 1)
