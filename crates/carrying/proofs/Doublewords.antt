@@ -1,7 +1,7 @@
 -- One doubleword of a read that carries writes, from what its parts leave.
 use Prim.Native.Nat.{ℕ, suc, _+_, _-_, _/_, _%_, _^_, _≤_, _<_}
 use mathlib.Core.Path.{_≡_, refl, sym, _∙_, ap}
-use mathlib.Core.Bool.{Bool, true, false, not, _&&_}
+use mathlib.Core.Bool.{Bool, true, false, not, _&&_, and-false}
 use mathlib.Core.List.{List, [], _∷_}
 use native.Mathlib.Omega.{arith}
 use lib.ListN.{length, getD, replicate}
@@ -26,7 +26,7 @@ use Rattle.doubleword.specs.Cursor.{wantedOf, lineAddress}
 use Rattle.reading.specs.Reading.{Missed, bufferOf, recordsOf, plainMiss, fillCycles, spoiled, fillMiss, readMiss}
 use Rattle.carrying.specs.declared.cycle.Brought.{Brought}
 use Rattle.carrying.specs.declared.next.CarriedRead.{CarriedRead}
-use Rattle.carrying.specs.CarryingCode.{LandedTo, CyclesBrought, spoiledAt, noneBrought, MissNeeds, begunBy, carriedRead, CarriedNext}
+use Rattle.carrying.specs.CarryingCode.{LandedTo, CyclesBrought, spoiledAt, noneBrought, MissNeeds, begunBy, carriedRead, keeps, CarriedNext}
 use Rattle.carrying.proofs.Cycles.{records-length}
 use Rattle.carrying.proofs.Misses.{landed-begin}
 
@@ -69,7 +69,7 @@ module _ (cursor : AccessCursor) (xs : List ℕ) (carried : CarriedWrites) (land
         line = ap (λ (x : CarriedRead). x .line) er ∙ ap (λ (x : Wanted). x .line) ew;
         counts = ap (λ (x : CarriedRead). x .count) er ∙ ap (λ (x : Wanted). x .count) ew;
         founds = ap (λ (x : CarriedRead). x .found) er;
-        keeps = ap (λ (x : CarriedRead). x .kept) er;
+        kept = ap keeps er;
         buffers = ap (λ (x : CarriedRead). x .buffer) er;
         gives = rw ew at ev;
         fits = rw ew at fits;
@@ -80,13 +80,13 @@ module _ (cursor : AccessCursor) (xs : List ℕ) (carried : CarriedWrites) (land
       })
 
   -- a miss
-  module _ (e : f ≡ Nothing) (group : List ℕ) (b : Brought) (m′ : Memory) (buffer log : List ℕ) (kept : Bool) (r : CarriedRead)
-      (ev : r .value ≡ valueOf (bytesAt buffer (w .from) (w .count))) (fits : r .value < 256 ^ w .count) (er : r ≡ carriedRead (w .line) Nothing b kept buffer (w .count) (r .value)) (most : b .used ≤ 16) where
+  module _ (e : f ≡ Nothing) (group : List ℕ) (b : Brought) (m′ : Memory) (buffer log : List ℕ) (last : Bool) (r : CarriedRead)
+      (ev : r .value ≡ valueOf (bytesAt buffer (w .from) (w .count))) (fits : r .value < 256 ^ w .count) (er : r ≡ carriedRead (w .line) Nothing b last buffer (w .count) (r .value)) (most : b .used ≤ 16) where
     abbrev here : Doubleword
     here = doublewordOf (wantedOf cursor) group
 
     missed-next : (missed : Missed) → readMiss mayFill m ws first here ≡ missed → LandedTo carried landed m (first + b .used) m′ (b .landed) → log ≡ logged log₀ first (missed .records) → b .used ≡ length (missed .records) →
-        buffer ≡ missed .buffer → kept ≡ missed .kept → Leaves group r m′ log
+        buffer ≡ missed .buffer → (not (b .spoiled) && last) ≡ missed .kept → Leaves group r m′ log
     unfolding begunBy
     missed-next missed em lands el en eb ek =
         rw (e, em)
@@ -94,7 +94,7 @@ module _ (cursor : AccessCursor) (xs : List ℕ) (carried : CarriedWrites) (land
           line = ap (λ (x : CarriedRead). x .line) er ∙ ap (λ (x : Wanted). x .line) ew;
           counts = ap (λ (x : CarriedRead). x .count) er ∙ ap (λ (x : Wanted). x .count) ew;
           founds = ap (λ (x : CarriedRead). x .found) er;
-          keeps = ap (λ (x : CarriedRead). x .kept) er ∙ ek;
+          kept = ap keeps er ∙ ek;
           buffers = ap (λ (x : CarriedRead). x .buffer) er ∙ eb;
           gives = rw (ew, eb) at ev;
           fits = rw ew at fits;
@@ -122,23 +122,23 @@ module _ (cursor : AccessCursor) (xs : List ℕ) (carried : CarriedWrites) (land
 
     -- as the code has it, from its own wanted bytes and group of answers
     module _ (given : List ℕ) (eg : given ≡ group) where
-      pub plain-next : (mayFill && ken (getD given 0 0)) ≡ false → kept ≡ false → CyclesBrought plainKind (w .line) first carried landed m (cyclesOf given (run (w .from) (w .count) ∷ [])) (noneBrought landed) b m′ (replicate 16 0) buffer log₀ log →
+      pub plain-next : (mayFill && ken (getD given 0 0)) ≡ false → last ≡ false → CyclesBrought plainKind (w .line) first carried landed m (cyclesOf given (run (w .from) (w .count) ∷ [])) (noneBrought landed) b m′ (replicate 16 0) buffer log₀ log →
           Leaves group r m′ log
       unfolding readMiss plainMiss
-      plain-next p ek k =
+      plain-next p el k =
           let cs = plainCycles here in
           let made : CyclesBrought plainKind (lineAddress cursor) first carried landed m cs (noneBrought landed) b m′ (replicate 16 0) buffer log₀ log = rw (ew, eg) at k in
-          missed-next (plainMiss m ws first here) (cond-false _ _ _ (rw eg at p)) (made .lands) (logs-made plainKind cs made) (records-made plainKind cs made) (buffers-made plainKind cs made) ek
+          missed-next (plainMiss m ws first here) (cond-false _ _ _ (rw eg at p)) (made .lands) (logs-made plainKind cs made) (records-made plainKind cs made) (buffers-made plainKind cs made) (rw el (and-false (not (b .spoiled))))
 
       -- kept where the last answer used has KEN# and no write landed in the line after the first cycle
       pub fill-next : (mayFill && ken (getD given 0 0)) ≡ true → CyclesBrought fillKind (w .line) first carried landed m (cyclesOf given (burst (w .from / 4))) (noneBrought landed) b m′ (replicate 16 0) buffer log₀ log → 0 < b .used →
-          kept ≡ (not (b .spoiled) && ken (getD given (b .used - 1) 0)) → Leaves group r m′ log
+          last ≡ ken (getD given (b .used - 1) 0) → Leaves group r m′ log
       unfolding readMiss fillMiss spoiled inLine
-      fill-next p k some ek =
+      fill-next p k some el =
           let cs = fillCycles here in
           let made : CyclesBrought fillKind (lineAddress cursor) first carried landed m cs (noneBrought landed) b m′ (replicate 16 0) buffer log₀ log = rw (ew, eg) at k in
           let start : false ≡ spoiledAt carried landed (lineAddress cursor) first (first + 0) = rw (zero-more fillKind cs made, due-early first (suc first) ws (omega arith)) in
           let u = used-is fillKind cs made in
           let s : b .spoiled ≡ spoiled ws first here = made .spoils start ∙ ap (spoiledAt carried landed (lineAddress cursor) first) (ap (λ (i : ℕ). first + i) u) in
           let l : ken (lastAnswer 0 cs) ≡ ken (getD group (b .used - 1) 0) = ap ken (last-answer group (burst (cursor .address % 16 / 4)) (b .used) u some) in
-          missed-next (fillMiss m ws first here) (cond-true _ _ _ (rw eg at p)) (made .lands) (logs-made fillKind cs made) (records-made fillKind cs made) (buffers-made fillKind cs made) ((rw eg at ek) ∙ rw (s, ← l))
+          missed-next (fillMiss m ws first here) (cond-true _ _ _ (rw eg at p)) (made .lands) (logs-made fillKind cs made) (records-made fillKind cs made) (buffers-made fillKind cs made) (rw (s, l, el, eg))

@@ -1,7 +1,7 @@
 -- What the parts of the code of a read that carries writes leave.
 use Prim.Native.Nat.{ℕ, suc, _+_, _*_, _-_, _%_, _^_, _≤_, _<_}
 use mathlib.Core.Path.{_≡_}
-use mathlib.Core.Bool.{Bool, false, cond, _&&_, _||_}
+use mathlib.Core.Bool.{Bool, false, cond, not, _&&_, _||_}
 use mathlib.Core.List.{List, [], _∷_}
 use lib.Dec.{eqb, ltb}
 use lib.ListN.{length, getD, drop, replicate}
@@ -140,11 +140,12 @@ begunBy Nothing mayFill m ws first array w =
 
 -- What the code hands back, from what was found and brought.
 abbrev pub carriedRead : ℕ → Found → Brought → Bool → List ℕ → ℕ → ℕ → CarriedRead
-carriedRead line f b kept buffer count value =
+carriedRead line f b ken buffer count value =
     record {
       line = line;
       found = f;
-      kept = kept;
+      ken = ken;
+      spoiled = b .spoiled;
       buffer = buffer;
       count = count;
       value = value;
@@ -152,12 +153,16 @@ carriedRead line f b kept buffer count value =
       landed = b .landed;
     }
 
+-- Whether the line is kept, whatever NW is.
+abbrev pub keeps : CarriedRead → Bool
+keeps r = not (r .spoiled) && r .ken
+
 -- What the code hands back and leaves for that.
 pub record CarriedNext (f : Found) (b : Begun) (carried : CarriedWrites) (from : ℕ) (m₀ : Memory) (cursor : AccessCursor) (log₀ : List ℕ) (r : CarriedRead) (m : Memory) (log : List ℕ) : Type 0 where
   pub line : r .line ≡ lineAddress cursor
   pub counts : r .count ≡ countOf cursor
   pub founds : r .found ≡ f
-  pub keeps : r .kept ≡ b .kept
+  pub kept : keeps r ≡ b .kept
   pub buffers : r .buffer ≡ b .buffer
   pub gives : r .value ≡ valueOf (b .bytes)
   pub fits : r .value < 256 ^ countOf cursor

@@ -29,12 +29,14 @@ use ways::data_offset;
 use words::copy_line;
 use words::value_at;
 
-// What the lookup and the cycles of a doubleword brought: its line, what was found, whether the line buffer is a line to keep, how many
-// bytes were read and their number, the count of cycles, and how many of the writes have landed.
+// What the lookup and the cycles of a doubleword brought: its line, what was found, whether the line buffer is a fill whose last answer
+// has KEN# and whether a write landed in its line after the first cycle, how many bytes were read and their number, the count of cycles,
+// and how many of the writes have landed.
 pub struct CarriedRead {
     pub line: u32,
     pub found: Found,
-    pub kept: bool,
+    pub ken: bool,
+    pub spoiled: bool,
     pub buffer: [u8; 16],
     pub count: usize,
     pub value: u32,
@@ -60,7 +62,8 @@ fn hit_read(data: &[u8], w: Wanted, way: usize, landed: usize) -> CarriedRead
     CarriedRead {
         line: w.line,
         found: Found::At(way),
-        kept: false,
+        ken: false,
+        spoiled: false,
         buffer: [0; 16],
         count: w.count,
         value,
@@ -70,16 +73,17 @@ fn hit_read(data: &[u8], w: Wanted, way: usize, landed: usize) -> CarriedRead
 }
 
 // What the cycles of a miss brought.
-fn miss_read(w: Wanted, brought: Brought, buffer: [u8; 16], kept: bool) -> CarriedRead
+fn miss_read(w: Wanted, brought: Brought, buffer: [u8; 16], ken: bool) -> CarriedRead
     requires { ⌜ (0 < w .count) × (w .from % 4 + w .count ≤ 4) × (w .from < 16) ⌝ }
     ensures { λ r. ⌜ (r .value ≡ valueOf (bytesAt buffer (w .from) (w .count))) × (r .value < 256 ^ w .count)
-        × (r ≡ carriedRead (w .line) Nothing brought kept buffer (w .count) (r .value)) ⌝ }
+        × (r ≡ carriedRead (w .line) Nothing brought ken buffer (w .count) (r .value)) ⌝ }
 {
     let value = number_at(&buffer[..], w.from, w.count);
     CarriedRead {
         line: w.line,
         found: Found::Nothing,
-        kept,
+        ken,
+        spoiled: brought.spoiled,
         buffer,
         count: w.count,
         value,
@@ -146,7 +150,7 @@ pub fn carried_next<'a>(
         landed,
     );
     let last = group[fill.used - 1];
-    miss_read(w, fill, buffer, !fill.spoiled & (last % 2 == 1))
+    miss_read(w, fill, buffer, last % 2 == 1)
 }
 
 // A use of the way that was found.
@@ -166,12 +170,13 @@ pub fn settle<'a>(
     lru: &'a [u8; SETS],
     data: &mut [u8],
     read: CarriedRead,
+    kept: bool,
 ) -> Change
     requires { ⌜ (length (now «data») ≡ dataSize) × FoundBelow (read .found) ⌝ }
-    ensures { λ r. ⌜ (r ≡ settledChange (read .kept) (victimIn (now (valid .entry)) (now (lru .entry)) (setOf (read .line))) (read .found)) × BelowFour r
-        × (now («data» .exit) ≡ keptArray (read .kept) (victimIn (now (valid .entry)) (now (lru .entry)) (setOf (read .line))) (read .line) (read .buffer) (now («data» .entry))) ⌝ }
+    ensures { λ r. ⌜ (r ≡ settledChange kept (victimIn (now (valid .entry)) (now (lru .entry)) (setOf (read .line))) (read .found)) × BelowFour r
+        × (now («data» .exit) ≡ keptArray kept (victimIn (now (valid .entry)) (now (lru .entry)) (setOf (read .line))) (read .line) (read .buffer) (now («data» .entry))) ⌝ }
 {
-    if read.kept {
+    if kept {
         let way = ways::victim(valid, lru, ways::set_of(read.line));
         let offset = data_offset(read.line, way);
         let buffer = read.buffer;

@@ -36,7 +36,7 @@ use Rattle.access.proofs.Alone.{done-length}
 use Rattle.access.proofs.ReadLoop.{ReadInvariant, reading-begin, reading-next, reading-end, number-fits}
 use Rattle.access.proofs.Calls.{read-refused, read-done, whole, needs-begin}
 use Rattle.carrying.specs.declared.next.CarriedRead.{CarriedRead}
-use Rattle.carrying.specs.CarryingCode.{Begun, begunBy, CarriedNext, settledChange, FoundBelow}
+use Rattle.carrying.specs.CarryingCode.{Begun, begunBy, CarriedNext, settledChange, keeps, FoundBelow}
 use Rattle.carrying_calls.specs.CarryingCalls.{snoopedTo, Ended, EndNeeds}
 
 -- the two stages of the code do what the rules do for a doubleword
@@ -123,7 +123,7 @@ module _ (pcd : Bool) (xs : List ℕ) (carried : CarriedWrites) (cursor : Access
 
       directories : d′ ≡ changed (directoryAfter u (length (done .records))) (lineAddress cursor) (done .change)
       directories =
-          (rw (snooped, k .line, k .keeps, k .founds) at (e .directories))
+          (rw (snooped, k .line, k .kept, k .founds) at (e .directories))
           ∙ ap (changed (directoryAfter u (length (begun .records))) (lineAddress cursor)) (whole-done .changes)
           ∙ ap (λ (n : ℕ). changed (directoryAfter u n) (lineAddress cursor) (done .change)) (ap length (whole-done .records))
 
@@ -131,7 +131,7 @@ module _ (pcd : Bool) (xs : List ℕ) (carried : CarriedWrites) (cursor : Access
       memories = k .lands .memories ∙ ap (λ (n : ℕ). landed (due (cursor .cycles + n) (leftFrom carried from)) m) (k .made) ∙ whole-done .memories
 
       arrays : array′ ≡ done .array
-      arrays = (rw (snooped, k .line, k .keeps, k .buffers) at (e .arrays)) ∙ whole-done .arrays
+      arrays = (rw (snooped, k .line, k .kept, k .buffers) at (e .arrays)) ∙ whole-done .arrays
 
       -- the read after the doubleword
       goes : underWay (state d′ m′ array′) (leftFrom carried (r .landed)) (cursor .cycles + r .cycles) ≡ readNext u w done
@@ -196,8 +196,8 @@ module _ {pcd : Bool} {xs : List ℕ} {carried : CarriedWrites} {p : Progress} {
 
 -- the end of a doubleword, by the steps of the code
 pub ended-by : {carried : CarriedWrites} {from : ℕ} {read : CarriedRead} {d : Directory} {array : List ℕ} {d′ : Directory} {array′ : List ℕ} (d₁ : Directory) (change : Change) →
-    d₁ ≡ snoopedTo carried from (read .landed) d → change ≡ settledChange (read .kept) (victimOf d₁ (setOf (read .line))) (read .found) →
-    d′ ≡ changed d₁ (read .line) change → array′ ≡ keptArray (read .kept) (victimOf d₁ (setOf (read .line))) (read .line) (read .buffer) array →
+    d₁ ≡ snoopedTo carried from (read .landed) d → change ≡ settledChange (keeps read) (victimOf d₁ (setOf (read .line))) (read .found) →
+    d′ ≡ changed d₁ (read .line) change → array′ ≡ keptArray (keeps read) (victimOf d₁ (setOf (read .line))) (read .line) (read .buffer) array →
     Ended carried from read d array d′ array′
 ended-by {read = read} d₁ change es ec ed ea = record { directories = rw (← es) (ed ∙ ap (changed d₁ (read .line)) ec); arrays = rw (← es) ea }
 

@@ -10,7 +10,7 @@ use Rattle.carried.specs.CarriedCode.{writesFrom}
 use Rattle.doubleword.specs.Doubleword.{changed}
 use Rattle.reading.specs.Reading.{keptArray}
 use Rattle.carrying.specs.declared.next.CarriedRead.{CarriedRead}
-use Rattle.carrying.specs.CarryingCode.{settledChange, FoundBelow}
+use Rattle.carrying.specs.CarryingCode.{settledChange, keeps, FoundBelow}
 use Rattle.access.specs.Access.{snoopedBy}
 
 -- The directory once the writes of some places are snooped.
@@ -19,8 +19,8 @@ snoopedTo carried from to d = snoopedBy (writesFrom carried from (to - from)) d
 
 -- What the end of a doubleword leaves, by the directory after the snoops of what landed during its cycles.
 pub record Ended (carried : CarriedWrites) (from : ℕ) (read : CarriedRead) (d : Directory) (array : List ℕ) (d′ : Directory) (array′ : List ℕ) : Type 0 where
-  pub directories : d′ ≡ changed (snoopedTo carried from (read .landed) d) (read .line) (settledChange (read .kept) (victimOf (snoopedTo carried from (read .landed) d) (setOf (read .line))) (read .found))
-  pub arrays : array′ ≡ keptArray (read .kept) (victimOf (snoopedTo carried from (read .landed) d) (setOf (read .line))) (read .line) (read .buffer) array
+  pub directories : d′ ≡ changed (snoopedTo carried from (read .landed) d) (read .line) (settledChange (keeps read) (victimOf (snoopedTo carried from (read .landed) d) (setOf (read .line))) (read .found))
+  pub arrays : array′ ≡ keptArray (keeps read) (victimOf (snoopedTo carried from (read .landed) d) (setOf (read .line))) (read .line) (read .buffer) array
 
 -- What it needs: places in their order, and a way that exists.
 pub record EndNeeds (carried : CarriedWrites) (from : ℕ) (read : CarriedRead) (array : ℕ) : Type 0 where

@@ -34,8 +34,8 @@ fn snooped_by(mut given: Directory, carried: CarriedWrites, from: usize, to: usi
     given
 }
 
-// The end of a doubleword: what landed during its cycles is snooped, then a kept line goes into the victim's place and the directory is
-// changed. from: how many of the writes had landed before it.
+// The end of a doubleword: what landed during its cycles is snooped and drops a fill that it spoiled, whatever NW is; then a kept line
+// goes into the victim's place and the directory is changed. from: how many of the writes had landed before it.
 fn ended(
     given: Directory,
     data: &mut [u8],
@@ -47,7 +47,8 @@ fn ended(
     ensures { λ r. ⌜ Ended carried from read given (now («data» .entry)) r (now («data» .exit)) ⌝ }
 {
     let snooped = snooped_by(given, carried, from, read.landed);
-    let change = settle(&snooped.valid, &snooped.lru, data, read);
+    let kept = !read.spoiled & read.ken;
+    let change = settle(&snooped.valid, &snooped.lru, data, read, kept);
     match change {
         Change::Unchanged => snooped,
         _ => changed_by(snooped, read.line, change),

@@ -45,8 +45,8 @@ fn snoop_in_place<'a>(
     }
 }
 
-// The end of a doubleword: what landed during its cycles is snooped, then a kept line goes into the victim's place and the directory is
-// changed. from: how many of the writes had landed before it.
+// The end of a doubleword: what landed during its cycles is snooped and drops a fill that it spoiled, whatever NW is; then a kept line
+// goes into the victim's place and the directory is changed. from: how many of the writes had landed before it.
 fn end_in_place<'a>(
     tags: &'a mut [u32; LINES],
     valid: &'a mut [bool; LINES],
@@ -62,7 +62,8 @@ fn end_in_place<'a>(
         (lentDirectory (tags .exit) (valid .exit) (lru .exit) cd nw) (now («data» .exit))) ⌝ }
 {
     snoop_in_place(tags, valid, nw, carried, from, read.landed);
-    let change = settle(valid, lru, data, read);
+    let kept = !read.spoiled & read.ken;
+    let change = settle(valid, lru, data, read, kept);
     change_in_place(tags, valid, lru, read.line, change);
 }
 

@@ -123,7 +123,7 @@ shared-slice-read-last c =
 
 miss-read-requires-2 : tie.Need-miss-read-requires-2
 miss-read-requires-2 c κs =
-    let at-group-of = c .before .before .before .before .before .before .before .before .before .before .before .before .before .before .before .before .before .before
+    let at-group-of = c .before .before .before .before .before .before .before .before .before .before .before .before .before .before .before .before .before
     .before .before .before in
     let at-wanted = at-group-of .before in
     let start = at-wanted .before .before .before .before .before .before in
@@ -142,7 +142,7 @@ same-length-6 c = search needs
 
 returns-3 : tie.Need-returns-3
 returns-3 c =
-    let at-fill-miss = c .before .before .before .before .before .before .before .before .before .before .before in
+    let at-fill-miss = c .before .before .before .before .before .before .before .before .before .before in
     let at-if1 = at-fill-miss .before .before .before .before .before .before in
     let at-enum-told = at-if1 .before .before in
     let at-lookup = at-enum-told .before .before in

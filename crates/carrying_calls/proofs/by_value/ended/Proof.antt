@@ -10,7 +10,7 @@ snooped-by-requires c κs = (c .before .pre .above, c .before .pre .within, c .b
 
 settle-requires : tie.Need-settle-requires
 settle-requires c κs =
-    let start = c .before .before .before .before .before .before in
+    let start = c .before .before .before .before .before .before .before .before in
     (start .pre .arrayLength, start .pre .below)
 
 enum-told : tie.Need-enum-told
@@ -25,7 +25,7 @@ same-length c = search needs
 returns : tie.Need-returns
 returns c =
     let at-settle = c .before .before .before .before in
-    let at-snooped-by = at-settle .before .before .before .before .before in
+    let at-snooped-by = at-settle .before .before .before .before .before .before .before in
     ended-by _ _ (at-snooped-by .snooped-by .ensures) (at-settle .settle .ensures .0) (keep-changed _ _ _ _ (c .enum-told .given .1) refl) (at-settle .settle .ensures .2)
 
 same-length-2 : tie.Need-same-length-2
@@ -34,7 +34,7 @@ same-length-2 c = search needs
 returns-2 : tie.Need-returns-2
 returns-2 c =
     let at-settle = c .before .before .before .before in
-    let at-snooped-by = at-settle .before .before .before .before .before in
+    let at-snooped-by = at-settle .before .before .before .before .before .before .before in
     ended-by _ _ (at-snooped-by .snooped-by .ensures) (at-settle .settle .ensures .0) (c .changed-by .ensures) (at-settle .settle .ensures .2)
 
 pub ended-spec : {M : Type 1} → statement M

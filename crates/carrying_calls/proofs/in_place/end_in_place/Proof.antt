@@ -10,7 +10,7 @@ snoop-in-place-requires c κs =
 
 settle-requires : tie.Need-settle-requires
 settle-requires c κs =
-    let start = c .before .before .before .before .before .before .before in
+    let start = c .before .before .before .before .before .before .before .before .before in
     (start .pre .arrayLength, start .pre .below)
 
 change-in-place-requires : tie.Need-change-in-place-requires
@@ -22,7 +22,7 @@ same-length c = search needs
 returns : tie.Need-returns
 returns c =
     let at-settle = c .before .before .before .before .before .before in
-    let at-snoop-in-place = at-settle .before .before .before .before in
+    let at-snoop-in-place = at-settle .before .before .before .before .before .before in
     λ cd. ended-by _ _ (at-snoop-in-place .snoop-in-place .ensures _ cd) (at-settle .settle .ensures .0) (c .change-in-place .ensures cd _) (at-settle .settle .ensures .2)
 
 pub end-in-place-spec : {M : Type 1} → statement M
