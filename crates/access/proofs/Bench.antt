@@ -7,7 +7,7 @@ use Rattle.directory.specs.Steps.{afterUse, withLine, afterFill, afterReset, af
 use Rattle.words.specs.Bytes.{bytesAt, valueOf, bytesOf}
 use Rattle.memory.specs.Parity.{onesOf, dpOf, laneBit, dpAt, withDp, put, stored, wrongAt, wrongIn}
 use Rattle.carried.specs.Carried.{due, later, landed, inLine}
-use Rattle.bus.specs.Bus.{sizeLimit, sizeOf, wantedAfter, cyclesOf, burst, lastAnswer, afterCycles}
+use Rattle.bus.specs.Bus.{sizeLimit, sizeOf, wantedAfter, cyclesOf, burstOrder, burst, lastAnswer, afterCycles}
 use Rattle.bus.specs.Record.{lanesOf, flagsOf, readRecord, writeRecord, wordsOf}
 use Rattle.doubleword.specs.Doubleword.{doublewordsOf, changed}
 use Rattle.reading.specs.Reading.{readHit, bufferOf, recordsOf, plainMiss, spoiled, fillMiss, readMiss, settled, readDone}
@@ -18,7 +18,7 @@ use Rattle.access.specs.Bench.{BenchTable}
 
 pub bench-table : BenchTable
 unfolding due later landed inLine bufferOf recordsOf spoiled carriedNumber inOrder anyRefused carriedStatesNumberIn snoopedBy landedAfter readEach lruAfter lruWay lowest lookupIn victimIn sameTags tagsAbove firstNumber stateNumberIn afterUse withLine afterFill afterReset afterControl
-    bytesAt valueOf bytesOf onesOf dpOf laneBit dpAt withDp put stored wrongAt wrongIn sizeLimit sizeOf wantedAfter cyclesOf burst
+    bytesAt valueOf bytesOf onesOf dpOf laneBit dpAt withDp put stored wrongAt wrongIn sizeLimit sizeOf wantedAfter cyclesOf burstOrder burst
     lastAnswer afterCycles lanesOf flagsOf readRecord writeRecord wordsOf doublewordsOf changed readHit plainMiss fillMiss readMiss settled
     readDone writeThrough hitArray writeDone memoryNumber lentNumber anyAbove argumentNumber valueNumber statesNumberIn readOne writeOne
     allOf readNumber writeNumber readAll writeAll readCall writeCall

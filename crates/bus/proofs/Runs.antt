@@ -1,5 +1,5 @@
 -- Laws of the cycles of one run: one after another, and among other runs.
-use Prim.Native.Nat.{ℕ, suc, _+_, _-_, _%_, _≤_, _<_}
+use Prim.Native.Nat.{ℕ, suc, _+_, _-_, _≤_, _<_}
 use mathlib.Core.Path.{_≡_, refl, sym, _∙_, ap}
 use mathlib.Core.Bool.{Bool, true, false, cond, _&&_}
 use mathlib.Core.List.{List, [], _∷_, _++_, append-nil}
@@ -7,10 +7,9 @@ use native.Mathlib.Omega.{arith}
 use lib.Dec.{eqb}
 use lib.ListN.{length, getD, drop}
 use borrow.Author.Tests.{eqb-false, eq-eqb, ne-eqb}
-use Rattle.laws.proofs.Below.{four}
 use Rattle.laws.proofs.Tests.{by-test}
-use Rattle.bus.specs.Bus.{Run, run, sizeOf, wantedAfter, Cycle, none, cyclesOf, burst, lastAnswer}
-use Rattle.bus.specs.Runs.{runCycles, offsets}
+use Rattle.bus.specs.Bus.{Run, run, sizeOf, wantedAfter, Cycle, none, cyclesOf, lastAnswer}
+use Rattle.bus.specs.Runs.{runCycles}
 use Rattle.bus.proofs.Sizing.{size-some, size-most}
 
 -- CYCLES OF A RUN
@@ -88,28 +87,3 @@ pub last-answer : (xs : List ℕ) (ws : List Run) (n : ℕ) → n ≡ length (cy
 last-answer xs ws n e h =
     let s : n ≡ suc (n - 1) = omega arith in
     last-used 0 xs ws ∙ ap (λ (k : ℕ). getD (0 ∷ xs) k 0) (sym e ∙ s)
-
--- THE BURST ORDER
-
--- a turn of it: its offset, what is wanted then and after it
-abbrev pub Turn : ℕ → ℕ → Type 0
-Turn start turn =
-    (drop turn (burst start) ≡ run (getD (offsets (burst start)) turn 0) 4 ∷ drop (turn + 1) (burst start))
-    × (none (drop (turn + 1) (burst start)) ≡ eqb turn 3)
-    × (getD (offsets (burst start)) turn 0 % 4 ≡ 0)
-    × (getD (offsets (burst start)) turn 0 < 16)
-
-pub burst-turn : (start turn : ℕ) → start < 4 → turn < 4 → Turn start turn
-unfolding burst
-burst-turn start turn sl tl =
-    four (λ s. Turn s turn)
-    (four (Turn 0) (refl, refl, refl, omega arith) (refl, refl, refl, omega arith) (refl, refl, refl, omega arith) (refl, refl, refl, omega arith) turn tl)
-    (four (Turn 1) (refl, refl, refl, omega arith) (refl, refl, refl, omega arith) (refl, refl, refl, omega arith) (refl, refl, refl, omega arith) turn tl)
-    (four (Turn 2) (refl, refl, refl, omega arith) (refl, refl, refl, omega arith) (refl, refl, refl, omega arith) (refl, refl, refl, omega arith) turn tl)
-    (four (Turn 3) (refl, refl, refl, omega arith) (refl, refl, refl, omega arith) (refl, refl, refl, omega arith) (refl, refl, refl, omega arith) turn tl)
-    start
-    sl
-
-pub burst-done : (start turn : ℕ) → start < 4 → turn ≡ 4 → drop turn (burst start) ≡ []
-unfolding burst
-burst-done start turn sl e = rw e (four (λ s. drop 4 (burst s) ≡ []) refl refl refl refl start sl)

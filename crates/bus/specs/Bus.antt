@@ -1,7 +1,8 @@
 -- Document 01, 'One doubleword': the board's answers, the sizing of a cycle, the cycles of a list of wanted bytes, the burst order.
-use Prim.Native.Nat.{ℕ, zero, suc, _+_, _-_, _/_, _%_, min}
+use Prim.Native.Nat.{ℕ, _+_, _-_, _*_, _/_, _%_, min}
 use mathlib.Core.Bool.{Bool, true, false, cond}
-use mathlib.Core.List.{List, [], _∷_}
+use mathlib.Core.List.{List, [], _∷_, map}
+use lib.Bits.{bitXor}
 use lib.Dec.{eqb}
 use lib.Seq.{sets}
 use Rattle.words.specs.Bytes.{bytesAt}
@@ -57,12 +58,22 @@ cyclesOf (x ∷ xs) [] = []
 cyclesOf (x ∷ xs) (w ∷ ws) =
     record { moved = run (w .from) (sizeOf x w); answer = x; last = none (wantedAfter x w ws) } ∷ cyclesOf xs (wantedAfter x w ws)
 
--- "Starting at byte 0, 4, 8 or 12, the order is 0-4-8-12, 4-0-12-8, 8-12-0-4 or 12-8-4-0." (002) By the doubleword that it starts with.
+-- "Starting at byte 0, 4, 8 or 12, the order is 0-4-8-12, 4-0-12-8, 8-12-0-4 or 12-8-4-0." By the byte of its line that a burst starts at;
+-- "written as in the data sheet" (document 02, C-13), whose table has a line for each: First, Second, Third, Fourth Address (002, table 3-9).
+unfoldable pub burstOrder : ℕ → List ℕ
+burstOrder start =
+    cond (eqb start 0) (0 ∷ 4 ∷ 8 ∷ 12 ∷ [])  -- 0 4 8 C
+    (cond (eqb start 4) (4 ∷ 0 ∷ 12 ∷ 8 ∷ [])  -- 4 0 C 8
+    (cond (eqb start 8) (8 ∷ 12 ∷ 0 ∷ 4 ∷ [])  -- 8 C 0 4
+    (12 ∷ 8 ∷ 4 ∷ 0 ∷ [])))  -- C 8 4 0
+
+-- C-13: a start "exclusive-or 0, 4, 8 and 12 in turn", with what the language's own `^` means. That each case is this is a law, `order-exclusive-or`.
+abbrev pub exclusiveOrs : ℕ → List ℕ
+exclusiveOrs start = map (bitXor start) (0 ∷ 4 ∷ 8 ∷ 12 ∷ [])
+
+-- "all four bytes of each doubleword of the line", in burst order. By the doubleword, 0 to 3, that it starts with.
 unfoldable pub burst : ℕ → List Run
-burst zero = run 0 4 ∷ run 4 4 ∷ run 8 4 ∷ run 12 4 ∷ []
-burst (suc zero) = run 4 4 ∷ run 0 4 ∷ run 12 4 ∷ run 8 4 ∷ []
-burst (suc (suc zero)) = run 8 4 ∷ run 12 4 ∷ run 0 4 ∷ run 4 4 ∷ []
-burst (suc (suc (suc q))) = run 12 4 ∷ run 8 4 ∷ run 4 4 ∷ run 0 4 ∷ []
+burst doubleword = map (λ from. run from 4) (burstOrder (doubleword * 4))
 
 -- The answer of the last cycle, or another where there is none.
 unfoldable pub lastAnswer : ℕ → List Cycle → ℕ

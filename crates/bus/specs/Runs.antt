@@ -11,8 +11,3 @@ runCycles last [] w = []
 runCycles last (x ∷ xs) w =
     record { moved = run (w .from) (sizeOf x w); answer = x; last = eqb (sizeOf x w) (w .count) && last }
     ∷ cond (eqb (sizeOf x w) (w .count)) [] (runCycles last xs (run (w .from + sizeOf x w) (w .count - sizeOf x w)))
-
--- The offsets of runs.
-abbrev pub offsets : List Run → List ℕ
-offsets [] = []
-offsets (w ∷ ws) = w .from ∷ offsets ws

@@ -1,8 +1,10 @@
 // The bus: the widths of an access, the sizing of cycles, and the records that they leave. It knows nothing of the directory.
+mod burst;
 mod cycle;
 mod record;
 mod sizes;
 
+pub use burst::burst_order;
 pub use cycle::moved_lanes;
 pub use record::flags_of;
 pub use record::put_record;

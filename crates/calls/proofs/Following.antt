@@ -15,7 +15,7 @@ use Rattle.words.specs.Bytes.{bytesAt}
 use Rattle.words.proofs.Places.{bytes-length, sets-below, sets-above}
 use Rattle.memory.specs.Parity.{Memory, wrongIn}
 use Rattle.carried.specs.Carried.{Carried}
-use Rattle.bus.specs.Bus.{Run, run, Cycle, burst, none, wantedAfter, cyclesOf, afterCycles, bufferAfter}
+use Rattle.bus.specs.Bus.{Run, run, Cycle, burstOrder, burst, none, wantedAfter, cyclesOf, afterCycles, bufferAfter}
 use Rattle.bus.specs.Record.{Record, lanesOf, flagsOf, readRecord}
 use Rattle.bus.proofs.Flags.{lanes-below}
 use Rattle.bus.proofs.Sizing.{size-some}
@@ -260,7 +260,7 @@ records-length kind at line n (c ∷ cs) = rw (records-length kind at line (suc 
 
 -- a fill begins with its own doubleword
 pub burst-begins : (q : ℕ) → q < 4 → (xs : List ℕ) → 16 ≤ length xs → Begins (q * 4) (cyclesOf xs (burst q))
-unfolding burst
+unfolding burst burstOrder
 burst-begins zero h xs l = cycles-begin xs (run 0 4) _ (burst-each 0) l
 burst-begins (suc zero) h xs l = cycles-begin xs (run 4 4) _ (burst-each 1) l
 burst-begins (suc (suc zero)) h xs l = cycles-begin xs (run 8 4) _ (burst-each 2) l

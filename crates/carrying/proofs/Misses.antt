@@ -14,10 +14,11 @@ use Rattle.carried.specs.declared.CarriedWrites.{CarriedWrites}
 use Rattle.carried.specs.Carried.{Carried, due, later, landed}
 use Rattle.carried.specs.CarriedCode.{leftFrom, CarriedNeeds}
 use Rattle.carried.proofs.Writes.{writes-none}
-use Rattle.bus.specs.Bus.{Run, run, Cycle, cyclesOf, burst}
+use Rattle.bus.specs.Bus.{Run, run, Cycle, cyclesOf, burstOrder, burst}
 use Rattle.bus.specs.Record.{wordsOf}
-use Rattle.bus.specs.Runs.{runCycles, offsets}
-use Rattle.bus.proofs.Runs.{cycles-none, cycles-run, run-some, burst-turn, burst-done}
+use Rattle.bus.specs.Runs.{runCycles}
+use Rattle.bus.proofs.Runs.{cycles-none, cycles-run, run-some}
+use Rattle.bus.proofs.BurstOrder.{burst-turn, burst-done}
 use Rattle.reading.specs.Reading.{bufferOf, recordsOf}
 use Rattle.carrying.specs.declared.cycle.Brought.{Brought}
 use Rattle.carrying.specs.CarryingCode.{LandedTo, CyclesBrought, RunNeeds, noneBrought, MissNeeds, TurnNeeds, TurnsOf}
@@ -187,21 +188,21 @@ module _ (start count : ℕ) (some : 0 < count) (lanes : start % 4 + count ≤ 4
         done = refl;
       }
 
-module _ (start : ℕ) (sl : start < 4) (order : List ℕ) (eo : order ≡ offsets (burst start)) where
+module _ (start : ℕ) (order : List ℕ) (eo : order ≡ burstOrder (start * 4)) where
   pub four-turns-needs : TurnNeeds order 4 4
   four-turns-needs =
       record {
         few = omega arith;
         some = omega arith;
         most = omega arith;
-        lanes = λ turn h. let t = burst-turn start turn sl h in rw eo (omega (arith, t .2));
-        short = λ turn h. rw eo (burst-turn start turn sl h .3);
+        lanes = λ turn h. let t = burst-turn start turn h in rw eo (omega (arith, t .whole .aligned));
+        short = λ turn h. rw eo (burst-turn start turn h .whole .inside);
       }
 
   pub four-turns : TurnsOf (burst start) order 4 4
   four-turns =
       record {
-        each = λ turn h. rw eo (burst-turn start turn sl h .0);
-        last = λ turn h. burst-turn start turn sl h .1 ∙ four (λ t. eqb t 3 ≡ eqb (t + 1) 4) refl refl refl refl turn h;
-        done = burst-done start 4 sl refl;
+        each = λ turn h. rw eo (burst-turn start turn h .next);
+        last = λ turn h. burst-turn start turn h .last ∙ four (λ t. eqb t 3 ≡ eqb (t + 1) 4) refl refl refl refl turn h;
+        done = burst-done start 4 refl;
       }

@@ -13,8 +13,8 @@ ghost use Rattle.bus.specs.Record.{fillKind, plainKind};
 ghost use Rattle.carrying.specs.CarryingCode.{CyclesBrought, MissNeeds, TurnNeeds, TurnsOf, noneBrought};
 use crate::cycle::Brought;
 use crate::run::run_cycles;
+use bus::burst_order;
 use carried::CarriedWrites;
-use cycles::burst_order;
 
 // Before the first cycle of a doubleword: nothing is brought.
 fn none_brought(landed: usize) -> Brought
@@ -122,7 +122,7 @@ pub fn fill_miss(
     requires { ⌜ MissNeeds carried line first landed (length (now ram)) (length (now parity)) (length (now answers)) (length (now log)) × (now buffer ≡ replicate 16 0) × (start < 4) ⌝ }
     ensures { λ r. ⌜ CyclesBrought fillKind line first carried landed (lentMemory (ram .entry) (parity .entry)) (cyclesOf (now (answers .entry)) (burst start)) (noneBrought landed) r (lentMemory (ram .exit) (parity .exit)) (replicate 16 0) (now (buffer .exit)) (now (log .entry)) (now (log .exit)) × (0 < r .used) × (r .used ≤ groupSize) ⌝ }
 {
-    let order = burst_order(start);
+    let order = burst_order(start * 4);
     turn_cycles(
         ram,
         parity,

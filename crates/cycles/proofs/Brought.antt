@@ -14,8 +14,9 @@ use Rattle.laws.proofs.Lists.{sets-append}
 use Rattle.words.specs.Bytes.{bytesAt}
 use Rattle.words.proofs.Places.{bytes-at, bytes-length, sets-above, sets-below, sets-in}
 use Rattle.words.proofs.Spans.{bytes-split, bytes-same}
-use Rattle.bus.specs.Bus.{Run, run, sizeOf, wantedAfter, cyclesOf, burst, afterCycles, bufferAfter}
+use Rattle.bus.specs.Bus.{Run, run, sizeOf, wantedAfter, cyclesOf, burstOrder, burst, afterCycles, bufferAfter}
 use Rattle.bus.proofs.Sizing.{size-some, size-most}
+use Rattle.bus.proofs.BurstOrder.{burst-cases}
 
 -- bytes of one doubleword of a line
 pub record OneDoubleword (r : Run) : Type 0 where
@@ -141,43 +142,24 @@ all-below p (suc n) h o l =
     same-or _ o n (λ e. rw e (q .0)) (λ k. all-below p n (q .1) o (omega arith))
 
 pub burst-total : (q : ℕ) → total (burst q) ≡ 16
-unfolding burst
-burst-total zero = refl
-burst-total (suc zero) = refl
-burst-total (suc (suc zero)) = refl
-burst-total (suc (suc (suc q))) = refl
+unfolding burst burstOrder
+burst-total = burst-cases (λ ws. total ws ≡ 16) refl refl refl refl
 
 whole : (f : ℕ) → f % 4 ≡ 0 → f + 4 ≤ 16 → OneDoubleword (run f 4)
 whole f e l = record { some = omega arith; lanes = omega arith; line = l }
 
 pub burst-each : (q : ℕ) → Each (burst q)
-unfolding burst
-burst-each q = by-start q
-  where
-    at0 : OneDoubleword (run 0 4)
-    at0 = whole 0 refl (omega arith)
-
-    at4 : OneDoubleword (run 4 4)
-    at4 = whole 4 refl (omega arith)
-
-    at8 : OneDoubleword (run 8 4)
-    at8 = whole 8 refl (omega arith)
-
-    at12 : OneDoubleword (run 12 4)
-    at12 = whole 12 refl (omega arith)
-
-    by-start : (q : ℕ) → Each (burst q)
-    by-start zero = (at0, (at4, (at8, (at12, tt))))
-    by-start (suc zero) = (at4, (at0, (at12, (at8, tt))))
-    by-start (suc (suc zero)) = (at8, (at12, (at0, (at4, tt))))
-    by-start (suc (suc (suc q))) = (at12, (at8, (at4, (at0, tt))))
+unfolding burst burstOrder
+burst-each =
+    let at0 : OneDoubleword (run 0 4) = whole 0 refl (omega arith) in
+    let at4 : OneDoubleword (run 4 4) = whole 4 refl (omega arith) in
+    let at8 : OneDoubleword (run 8 4) = whole 8 refl (omega arith) in
+    let at12 : OneDoubleword (run 12 4) = whole 12 refl (omega arith) in
+    burst-cases Each (at0, (at4, (at8, (at12, tt)))) (at4, (at0, (at12, (at8, tt)))) (at8, (at12, (at0, (at4, tt)))) (at12, (at8, (at4, (at0, tt))))
 
 burst-covers : (ram : List ℕ) (line q o : ℕ) → o < 16 → covers ram line o (burst q) ≡ true
-unfolding burst allBelow
-burst-covers ram line zero = all-below (λ o. covers ram line o (burst 0)) 16 refl
-burst-covers ram line (suc zero) = all-below (λ o. covers ram line o (burst 1)) 16 refl
-burst-covers ram line (suc (suc zero)) = all-below (λ o. covers ram line o (burst 2)) 16 refl
-burst-covers ram line (suc (suc (suc q))) = all-below (λ o. covers ram line o (burst 3)) 16 refl
+unfolding burst burstOrder allBelow
+burst-covers ram line = burst-cases (λ ws. (o : ℕ) → o < 16 → covers ram line o ws ≡ true) (all-below _ 16 refl) (all-below _ 16 refl) (all-below _ 16 refl) (all-below _ 16 refl)
 
 -- a fill brings all of RAM's line
 pub fill-buffer : (ram : List ℕ) (line q : ℕ) (xs : List ℕ) → 16 ≤ length xs → (o : ℕ) → o < 16 →
@@ -219,11 +201,8 @@ counted-split o a m n before =
 
 -- a fill moves every byte of the line once, a plain read every wanted one
 burst-counted : (q o : ℕ) → o < 16 → eqb (afterRuns (counted o) (burst q) 0) 1 ≡ true
-unfolding burst allBelow
-burst-counted zero = all-below (λ o. eqb (afterRuns (counted o) (burst 0) 0) 1) 16 refl
-burst-counted (suc zero) = all-below (λ o. eqb (afterRuns (counted o) (burst 1) 0) 1) 16 refl
-burst-counted (suc (suc zero)) = all-below (λ o. eqb (afterRuns (counted o) (burst 2) 0) 1) 16 refl
-burst-counted (suc (suc (suc q))) = all-below (λ o. eqb (afterRuns (counted o) (burst 3) 0) 1) 16 refl
+unfolding burst burstOrder allBelow
+burst-counted = burst-cases (λ ws. (o : ℕ) → o < 16 → eqb (afterRuns (counted o) ws 0) 1 ≡ true) (all-below _ 16 refl) (all-below _ 16 refl) (all-below _ 16 refl) (all-below _ 16 refl)
 
 pub fill-once : (q : ℕ) (xs : List ℕ) → 16 ≤ length xs → (o : ℕ) → o < 16 → afterCycles (counted o) (cyclesOf xs (burst q)) 0 ≡ 1
 fill-once q xs l o k =

@@ -5,26 +5,13 @@ ghost use lib.ListN.{length};
 ghost use Rattle.memory.specs.Parity.{lentMemory};
 ghost use Rattle.bus.specs.Bus.{burst, cyclesOf};
 ghost use Rattle.bus.specs.Record.{fillKind, readRecord};
-ghost use Rattle.bus.specs.Runs.{offsets};
 ghost use Rattle.bus.specs.Groups.{groupSize};
 ghost use Rattle.parts.specs.Made.{CyclesMade};
 ghost use Rattle.parts.specs.Parts.{LineNeeds};
+use bus::burst_order;
 use parts::due_bits;
 use parts::whole_cycles;
 use words::word_at;
-
-// The burst order: the offsets of the doublewords of a line, by the one that it starts with.
-pub fn burst_order(start: usize) -> [usize; 4]
-    requires { ⌜ start < 4 ⌝ }
-    ensures { λ r. ⌜ r ≡ offsets (burst start) ⌝ }
-{
-    match start {
-        0 => [0, 4, 8, 12],
-        1 => [4, 0, 12, 8],
-        2 => [8, 12, 0, 4],
-        _ => [12, 8, 4, 0],
-    }
-}
 
 // The cycles of a fill that starts with a doubleword of a line. first: the place of the first record in the log. Answers how many
 // cycles were made.
@@ -40,7 +27,7 @@ pub fn fill_cycles(
     requires { ⌜ (start < 4) × (groupSize ≤ length (now answers)) × (3 * (first + groupSize) ≤ length (now log)) × LineNeeds line 0 (length (now ram)) (length (now parity)) ⌝ }
     ensures { λ r. ⌜ CyclesMade (readRecord fillKind (lentMemory (ram .entry) (parity .entry)) line) (cyclesOf (now (answers .entry)) (burst start)) first 0 (now (log .entry)) r (now (log .exit)) × (0 < r) × (r ≤ groupSize) ⌝ }
 {
-    let order = burst_order(start);
+    let order = burst_order(start * 4);
     let mut used: usize = 0;
     let mut turn: usize = 0;
     while turn < 4 {

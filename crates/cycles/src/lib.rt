@@ -4,7 +4,6 @@ mod fill;
 mod plain;
 mod write;
 
-pub use fill::burst_order;
 pub use fill::fill_cycles;
 pub use plain::plain_cycles;
 pub use write::write_cycles;

@@ -4,6 +4,9 @@ use borrow.Author.Needs.{needs}
 use Rattle.carrying.proofs.miss.fill_miss.Statement.{statement}
 use Rattle.carrying.proofs.miss.fill_miss.Tie as tie
 
+mul-burst-order : tie.Need-mul-burst-order
+mul-burst-order c = search needs
+
 burst-order-requires : tie.Need-burst-order-requires
 burst-order-requires c κs = search needs
 
@@ -12,7 +15,7 @@ turn-cycles-requires c κs =
     let at-burst-order = c .before .before .before .before in
     let start = at-burst-order .before .before .before .before .before .before in
     let p = start .pre in
-    (p .0, p .1, four-turns-needs _ (p .2) _ (at-burst-order .burst-order .ensures), omega arith)
+    (p .0, p .1, four-turns-needs _ _ (at-burst-order .burst-order .ensures), omega arith)
 
 same-length : tie.Need-same-length
 same-length c = search needs
@@ -30,15 +33,14 @@ returns : tie.Need-returns
 returns c =
     let at-turn-cycles = c .before .before .before .before .before .before .before .before in
     let at-burst-order = at-turn-cycles .before .before .before .before .before in
-    let start = at-burst-order .before .before .before .before .before .before in
-    let p = start .pre in
     let e = at-turn-cycles .turn-cycles .ensures in
-    (e .0 _ (four-turns _ (p .2) _ (at-burst-order .burst-order .ensures)), omega (arith, e .1), e .2)
+    (e .0 _ (four-turns _ _ (at-burst-order .burst-order .ensures)), omega (arith, e .1), e .2)
 
 pub fill-miss-spec : {M : Type 1} → statement M
 fill-miss-spec =
     tie.close
     (tie.spec
+    mul-burst-order
     burst-order-requires
     turn-cycles-requires
     same-length

@@ -6,9 +6,10 @@ use lib.ListN.{length, getD}
 use denote.Ref.{now}
 use Rattle.memory.specs.Parity.{memory}
 use Rattle.bus.specs.Record.{readRecord, fillKind}
+use Rattle.bus.proofs.BurstOrder.{Whole, burst-turn}
 use Rattle.parts.specs.Parts.{LineNeeds}
 use Rattle.cycles.proofs.Records.{read-made}
-use Rattle.cycles.proofs.Loops.{FillInvariant, fill-begin, turn-offset, fill-next, fill-end}
+use Rattle.cycles.proofs.Loops.{FillInvariant, fill-begin, fill-next, fill-end}
 use borrow.Author.Needs.{needs}
 use Rattle.cycles.proofs.fill.fill_cycles.Statement.{statement}
 use Rattle.cycles.proofs.fill.fill_cycles.Tie as tie
@@ -18,6 +19,9 @@ Inv-loop ram parity answers log₀ line start first order used₀ turn₀ log us
 
 abbrev μ-loop : tie.MeasureT-loop
 μ-loop ram parity answers log₀ line start first order used₀ turn₀ log used turn = 4 - turn
+
+mul-burst-order : tie.Need-mul-burst-order Inv-loop μ-loop
+mul-burst-order c = omega (arith, c .before .before .before .before .pre .0)
 
 burst-order-requires : tie.Need-burst-order-requires Inv-loop μ-loop
 burst-order-requires c κs = search needs
@@ -40,8 +44,9 @@ here c =
     let at-burst-order = c .before .before in
     let start = at-burst-order .before .before .before .before .before in
     let n = start .pre .3 in
-    let o = turn-offset _ _ _ (start .pre .0) (c .loop-test .taken) (at-burst-order .burst-order .ensures) in
-    record { aligned = n .aligned; whole = o .0; short = o .1; inside = n .inside; small = n .small; bits = n .bits }
+    let t = burst-turn (start .args .start) (c .before .loop .turn) (c .loop-test .taken) in
+    let w : Whole (getD (at-burst-order .burst-order .result) (c .before .loop .turn) 0) = rw (at-burst-order .burst-order .ensures) (t .whole) in
+    record { aligned = n .aligned; whole = w .aligned; short = w .inside; inside = n .inside; small = n .small; bits = n .bits }
 
 add-base : tie.Need-add-base Inv-loop μ-loop
 add-base c = let n = here c in omega arith
@@ -86,7 +91,7 @@ loop-again c =
     let p = start .pre in
     let n = here at-loop-test in
     let g = rw (at-word-at .word-at .ensures, at-due-bits .due-bits .ensures) at (at-whole-cycles .whole-cycles .ensures) in
-    fill-next _ _ _ _ _ (at-loop .loop .turn) _ _ _ _ _ (p .0) (at-loop-test .loop-test .taken) (p .1) (at-loop .loop .inv)
+    fill-next _ _ _ _ _ (at-loop .loop .turn) _ _ _ _ _ (at-loop-test .loop-test .taken) (p .1) (at-loop .loop .inv)
     (ap (λ (l : List ℕ). getD l (at-loop .loop .turn) 0) (at-burst-order .burst-order .ensures))
     (read-made fillKind (now (a .ram)) (now (a .parity)) (a .line) _ 4 _ (λ i. omega (arith, at-ram .shared-slice-known .given i)) (n .aligned)
     (omega arith) (omega (arith, n .whole)) (omega (arith, n .whole)) _ _ _ _ _ _ 0 (omega (arith, n .whole)) _ g)
@@ -96,11 +101,8 @@ same-length c = c .before .loop .inv .lengths
 
 returns : tie.Need-returns Inv-loop μ-loop
 returns c =
-    let at-loop = c .before in
-    let start = at-loop .before .before .before .before .before .before in
-    let p = start .pre in
-    let k = at-loop .loop .inv in
-    (fill-end _ _ _ _ _ _ _ _ (p .0) (omega (arith, c .loop-test .left)) k, omega (arith, c .loop-test .left, k .some), omega (arith, k .most, k .turns))
+    let k = c .before .loop .inv in
+    (fill-end _ _ _ _ _ _ _ _ (omega (arith, c .loop-test .left)) k, omega (arith, c .loop-test .left, k .some), omega (arith, k .most, k .turns))
 
 pub fill-cycles-spec : {M : Type 1} → statement M
 fill-cycles-spec =
@@ -108,6 +110,7 @@ fill-cycles-spec =
     (tie.spec
     Inv-loop
     μ-loop
+    mul-burst-order
     burst-order-requires
     loop-holds
     mul-base
