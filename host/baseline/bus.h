@@ -68,7 +68,8 @@ template <class Land> bool fill_cycles(
 {
     unsigned answer = 0;
     for (unsigned offset = 0; offset < UNIT486_LINE_BYTES; offset += 4) {
-        // "0-4-8-12, 4-0-12-8, 8-12-0-4 or 12-8-4-0" is the start, exclusive-or 0, 4, 8, 12.
+        // "0-4-8-12, 4-0-12-8, 8-12-0-4 or 12-8-4-0"; document 02, C-13: "each case is its start
+        // exclusive-or 0, 4, 8 and 12 in turn".
         const uint32_t doubleword = address ^ offset;
         unsigned wanted = all_lanes;
         do {

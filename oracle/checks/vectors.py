@@ -211,12 +211,12 @@ def sizing_examples() -> None:
 # --- fills
 
 
-# Table 3-9: the order of a line's doublewords by the first one.
+# Table 3-9, which is table 6-2 and table 8-1 too: First, Second, Third, Fourth Address.
 BURST_TABLE = ("0 4 8 C", "4 0 C 8", "8 C 0 4", "C 8 4 0")
 
 
 def burst_order() -> None:
-    """Table 3-9, and its rule: each offset is the start exclusive-or 0, 4, 8, 12."""
+    """Table 3-9, and C-13: "each case is its start exclusive-or 0, 4, 8 and 12 in turn"."""
     for line in BURST_TABLE:
         order = tuple(int(offset, 16) for offset in line.split())
         check(f"order from {order[0]}", bus.BURST_ORDER[order[0]], order)

@@ -1,14 +1,16 @@
 """Table 3-9, the order of a fill's doublewords, and the fills that the sources print."""
 
 from unit486_model import directory as steps
+from unit486_model.access import Result
 from unit486_model.bus import BS8, BS16, GROUP, KEN
+from unit486_model.carried import CarriedWrite
 
-from checks.unit_calls import address_flags, answers_of, check
-from checks.vectors import BURST_TABLE, FILL_VECTORS
+from checks.unit_calls import ALL_KEN, address_flags, answers_of, check
+from checks.vectors import FILL_VECTORS
 
 from .random_source import RandomSource
-from .source_tables import fill_records
-from .writer import Script
+from .source_tables import BURST_ORDERS, fill_records
+from .writer import RAM_BYTES, Script
 
 
 def burst() -> Script:
@@ -17,6 +19,7 @@ def burst() -> Script:
     _vectors(script)
     _mixed_sizes(script)
     _wanted_bytes(script)
+    _table_during_writes(script)
     return script
 
 
@@ -33,18 +36,21 @@ def _filled(script: Script, address: int, width: int, group: list[int]) -> None:
     check("value", result.value, int.from_bytes(held, "little"))
 
 
+def _check_order(result: Result, line: int, order: list[int], answers: list[int]) -> None:
+    moved = [record.address - line for record in result.records]
+    check(f"order from {order[0]}", list(dict.fromkeys(moved)), order)
+    expected = fill_records(line + order[0], answers)
+    check(f"records from {order[0]}", address_flags(result), expected)
+
+
 def _table(script: Script) -> None:
     """Each start in a line of its own, by whole doublewords, halves and bytes."""
     script.new(cd=False)
     line = 0
     for size in (0, BS16, BS8, BS8 + BS16):
-        for row in BURST_TABLE:
-            order = [int(offset, 16) for offset in row.split()]
-            result = script.read(line + order[0], 4, [KEN + size] * (2 * GROUP))
-            moved = [record.address - line for record in result.records]
-            check(f"order from {order[0]}", list(dict.fromkeys(moved)), order)
-            expected = fill_records(line + order[0], [KEN + size] * GROUP)
-            check(f"records from {order[0]}", address_flags(result), expected)
+        for order in BURST_ORDERS.values():
+            answers = [KEN + size] * (2 * GROUP)
+            _check_order(script.read(line + order[0], 4, answers), line, order, answers)
             line += 16
 
 
@@ -72,3 +78,12 @@ def _wanted_bytes(script: Script) -> None:
         for size in (0, BS16, BS8):
             _filled(script, line + byte, width, [KEN + size])
             line += 16
+
+
+def _table_during_writes(script: Script) -> None:
+    """Each start while another master writes elsewhere: cycles are made one by one."""
+    script.new(cd=False)
+    for place, order in enumerate(BURST_ORDERS.values()):
+        line, write = 16 * place, CarriedWrite(2, RAM_BYTES // 2 + place, b"\x5a")
+        result = script.read_carrying(line + order[0], 4, [write])
+        _check_order(result, line, order, list(ALL_KEN))

@@ -28,7 +28,8 @@ LOG_WORDS = RECORD_WORDS * ANSWERS
 ALL_LANES = 15
 WRITE, FILL, LAST, WRONG = 16, 32, 64, 128
 
-# "Starting at byte 0, 4, 8 or 12, the order is 0-4-8-12, 4-0-12-8, 8-12-0-4 or 12-8-4-0."
+# "Starting at byte 0, 4, 8 or 12, the order is 0-4-8-12, 4-0-12-8, 8-12-0-4 or 12-8-4-0.", by its
+# start; C-13: "four cases of four offsets".
 BURST_ORDER = {
     0: (0, 4, 8, 12),
     4: (4, 0, 12, 8),

@@ -58,8 +58,8 @@ cyclesOf (x ∷ xs) [] = []
 cyclesOf (x ∷ xs) (w ∷ ws) =
     record { moved = run (w .from) (sizeOf x w); answer = x; last = none (wantedAfter x w ws) } ∷ cyclesOf xs (wantedAfter x w ws)
 
--- "Starting at byte 0, 4, 8 or 12, the order is 0-4-8-12, 4-0-12-8, 8-12-0-4 or 12-8-4-0." By the byte of its line that a burst starts at;
--- "written as in the data sheet" (document 02, C-13), whose table has a line for each: First, Second, Third, Fourth Address (002, table 3-9).
+-- "Starting at byte 0, 4, 8 or 12, the order is 0-4-8-12, 4-0-12-8, 8-12-0-4 or 12-8-4-0." By the byte of its line that a burst starts at.
+-- Document 02, C-13: "four cases of four offsets", as 002's table 3-9 prints them: First, Second, Third and Fourth Address.
 unfoldable pub burstOrder : ℕ → List ℕ
 burstOrder start =
     cond (eqb start 0) (0 ∷ 4 ∷ 8 ∷ 12 ∷ [])  -- 0 4 8 C
@@ -67,11 +67,11 @@ burstOrder start =
     (cond (eqb start 8) (8 ∷ 12 ∷ 0 ∷ 4 ∷ [])  -- 8 C 0 4
     (12 ∷ 8 ∷ 4 ∷ 0 ∷ [])))  -- C 8 4 0
 
--- C-13: a start "exclusive-or 0, 4, 8 and 12 in turn", with what the language's own `^` means. That each case is this is a law, `order-exclusive-or`.
+-- C-13: "each case is its start exclusive-or 0, 4, 8 and 12 in turn", which is a law, `order-exclusive-or`. `bitXor` is what the language's `^` means.
 abbrev pub exclusiveOrs : ℕ → List ℕ
 exclusiveOrs start = map (bitXor start) (0 ∷ 4 ∷ 8 ∷ 12 ∷ [])
 
--- "all four bytes of each doubleword of the line", in burst order. By the doubleword, 0 to 3, that it starts with.
+-- "all four bytes of each doubleword of the line", in that order. By the doubleword, 0 to 3, that it starts with.
 unfoldable pub burst : ℕ → List Run
 burst doubleword = map (λ from. run from 4) (burstOrder (doubleword * 4))
 

@@ -2,8 +2,8 @@
 ghost use mathlib.Core.Path.{_≡_};
 ghost use Rattle.bus.specs.Bus.{burstOrder};
 
-// The offsets of a line's doublewords in the order of a burst, by the one that it starts at: as the data sheet prints them (002, table
-// 3-9), First, Second, Third and Fourth Address.
+// The offsets of a line's doublewords in the order of a burst, by the one that it starts at. As the data sheet prints them (002, table
+// 3-9): First, Second, Third and Fourth Address.
 pub fn burst_order(start: usize) -> [usize; 4]
     ensures { λ r. ⌜ r ≡ burstOrder start ⌝ }
 {
