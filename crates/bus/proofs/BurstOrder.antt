@@ -31,12 +31,25 @@ pub burst-cases : (P : List Run → Type 0) → P (burst 0) → P (burst 1) → 
 unfolding burst
 burst-cases P p0 p1 p2 p3 doubleword = order-cases (λ order. P (map (λ from. run from 4) order)) p0 p1 p2 p3 (doubleword * 4)
 
--- TURNS
-
 -- the offset of a doubleword of a line
 pub record Whole (from : ℕ) : Type 0 where
   pub aligned : from % 4 ≡ 0
   pub inside : from < 16
+
+abbrev pub EachWhole : List ℕ → Type 0
+EachWhole [] = Unit {0}
+EachWhole (from ∷ order) = Whole from × EachWhole order
+
+pub order-whole : (start : ℕ) → EachWhole (burstOrder start)
+unfolding burstOrder
+order-whole =
+    let at0 : Whole 0 = record { aligned = refl; inside = omega arith } in
+    let at4 : Whole 4 = record { aligned = refl; inside = omega arith } in
+    let at8 : Whole 8 = record { aligned = refl; inside = omega arith } in
+    let at12 : Whole 12 = record { aligned = refl; inside = omega arith } in
+    order-cases EachWhole (at0, (at4, (at8, (at12, tt)))) (at4, (at0, (at12, (at8, tt)))) (at8, (at12, (at0, (at4, tt)))) (at12, (at8, (at4, (at0, tt))))
+
+-- TURNS
 
 -- what is wanted in a turn and after it
 pub record Turn (order : List ℕ) (wanted : List Run) (turn : ℕ) : Type 0 where
@@ -44,28 +57,26 @@ pub record Turn (order : List ℕ) (wanted : List Run) (turn : ℕ) : Type 0 whe
   pub last : none (drop (turn + 1) wanted) ≡ eqb turn 3
   pub whole : Whole (getD order turn 0)
 
-four-turns : (a b c d : ℕ) → Whole a → Whole b → Whole c → Whole d → (turn : ℕ) → turn < 4 →
-    Turn (a ∷ b ∷ c ∷ d ∷ []) (run a 4 ∷ run b 4 ∷ run c 4 ∷ run d 4 ∷ []) turn
-four-turns a b c d wa wb wc wd =
+four-turns : (a b c d turn : ℕ) → turn < 4 → EachWhole (a ∷ b ∷ c ∷ d ∷ []) → Turn (a ∷ b ∷ c ∷ d ∷ []) (run a 4 ∷ run b 4 ∷ run c 4 ∷ run d 4 ∷ []) turn
+four-turns a b c d turn l w =
     four (Turn (a ∷ b ∷ c ∷ d ∷ []) (run a 4 ∷ run b 4 ∷ run c 4 ∷ run d 4 ∷ []))
-    (record { next = refl; last = refl; whole = wa })
-    (record { next = refl; last = refl; whole = wb })
-    (record { next = refl; last = refl; whole = wc })
-    (record { next = refl; last = refl; whole = wd })
+    (record { next = refl; last = refl; whole = w .0 })
+    (record { next = refl; last = refl; whole = w .1 .0 })
+    (record { next = refl; last = refl; whole = w .1 .1 .0 })
+    (record { next = refl; last = refl; whole = w .1 .1 .1 .0 })
+    turn
+    l
 
 pub burst-turn : (doubleword turn : ℕ) → turn < 4 → Turn (burstOrder (doubleword * 4)) (burst doubleword) turn
 unfolding burst burstOrder
 burst-turn doubleword turn l =
-    let at0 : Whole 0 = record { aligned = refl; inside = omega arith } in
-    let at4 : Whole 4 = record { aligned = refl; inside = omega arith } in
-    let at8 : Whole 8 = record { aligned = refl; inside = omega arith } in
-    let at12 : Whole 12 = record { aligned = refl; inside = omega arith } in
-    order-cases (λ order. Turn order (map (λ from. run from 4) order) turn)
-    (four-turns _ _ _ _ at0 at4 at8 at12 turn l)
-    (four-turns _ _ _ _ at4 at0 at12 at8 turn l)
-    (four-turns _ _ _ _ at8 at12 at0 at4 turn l)
-    (four-turns _ _ _ _ at12 at8 at4 at0 turn l)
+    order-cases (λ order. EachWhole order → Turn order (map (λ from. run from 4) order) turn)
+    (four-turns _ _ _ _ turn l)
+    (four-turns _ _ _ _ turn l)
+    (four-turns _ _ _ _ turn l)
+    (four-turns _ _ _ _ turn l)
     (doubleword * 4)
+    (order-whole (doubleword * 4))
 
 pub burst-done : (doubleword turn : ℕ) → turn ≡ 4 → drop turn (burst doubleword) ≡ []
 unfolding burst burstOrder

@@ -1,8 +1,8 @@
 -- Whatever the answers, cycles move just the wanted bytes: a fill brings RAM's line, a plain read the wanted bytes.
-use Prim.Native.Nat.{ℕ, zero, suc, _+_, _-_, _%_, _≤_, _<_}
+use Prim.Native.Nat.{ℕ, zero, suc, _+_, _-_, _*_, _%_, _≤_, _<_}
 use mathlib.Core.Path.{_≡_, refl, sym, _∙_, ap}
 use mathlib.Core.Bool.{Bool, true, false, cond, _||_, _&&_}
-use mathlib.Core.List.{List, [], _∷_}
+use mathlib.Core.List.{List, [], _∷_, map}
 use native.Mathlib.Omega.{arith}
 use native.Mathlib.Decide.{decLe, decLt}
 use lib.ListN.{length, getD, replicate}
@@ -16,7 +16,7 @@ use Rattle.words.proofs.Places.{bytes-at, bytes-length, sets-above, sets-below,
 use Rattle.words.proofs.Spans.{bytes-split, bytes-same}
 use Rattle.bus.specs.Bus.{Run, run, sizeOf, wantedAfter, cyclesOf, burstOrder, burst, afterCycles, bufferAfter}
 use Rattle.bus.proofs.Sizing.{size-some, size-most}
-use Rattle.bus.proofs.BurstOrder.{burst-cases}
+use Rattle.bus.proofs.BurstOrder.{burst-cases, EachWhole, order-whole}
 
 -- bytes of one doubleword of a line
 pub record OneDoubleword (r : Run) : Type 0 where
@@ -145,17 +145,13 @@ pub burst-total : (q : ℕ) → total (burst q) ≡ 16
 unfolding burst burstOrder
 burst-total = burst-cases (λ ws. total ws ≡ 16) refl refl refl refl
 
-whole : (f : ℕ) → f % 4 ≡ 0 → f + 4 ≤ 16 → OneDoubleword (run f 4)
-whole f e l = record { some = omega arith; lanes = omega arith; line = l }
+whole-each : (order : List ℕ) → EachWhole order → Each (map (λ from. run from 4) order)
+whole-each [] w = tt
+whole-each (from ∷ order) w = (record { some = omega arith; lanes = omega (arith, w .0 .aligned); line = omega (arith, w .0 .aligned, w .0 .inside) }, whole-each order (w .1))
 
 pub burst-each : (q : ℕ) → Each (burst q)
-unfolding burst burstOrder
-burst-each =
-    let at0 : OneDoubleword (run 0 4) = whole 0 refl (omega arith) in
-    let at4 : OneDoubleword (run 4 4) = whole 4 refl (omega arith) in
-    let at8 : OneDoubleword (run 8 4) = whole 8 refl (omega arith) in
-    let at12 : OneDoubleword (run 12 4) = whole 12 refl (omega arith) in
-    burst-cases Each (at0, (at4, (at8, (at12, tt)))) (at4, (at0, (at12, (at8, tt)))) (at8, (at12, (at0, (at4, tt)))) (at12, (at8, (at4, (at0, tt))))
+unfolding burst
+burst-each q = whole-each (burstOrder (q * 4)) (order-whole (q * 4))
 
 burst-covers : (ram : List ℕ) (line q o : ℕ) → o < 16 → covers ram line o (burst q) ≡ true
 unfolding burst burstOrder allBelow
