@@ -1,4 +1,5 @@
-// The bus: the widths of an access, the sizing of cycles, and the records that they leave. It knows nothing of the directory.
+// The bus: the widths of an access, the sizing of cycles, the burst order, and the records that cycles leave. It knows nothing of the
+// directory.
 mod burst;
 mod cycle;
 mod record;
