@@ -11,7 +11,7 @@ use Rattle.directory.specs.WellFormed.{WellFormed}
 use Rattle.directory.proofs.Laws.{snoop-accepted, snoop-lookup, flush-lookup, reset-lookup}
 use Rattle.directory.proofs.SetState.{well-formed-zero}
 use Rattle.refusal.specs.Call.{State, nextState}
-use Rattle.calls.specs.Calls.{Call, snoop, flush, reset, step}
+use Rattle.calls.specs.Calls.{Call, snoop, flush, reset, step, stepBy}
 
 -- the way in which an address is found after a call
 abbrev foundAfter : State → Call → ℕ → Found
@@ -19,15 +19,15 @@ foundAfter s c a = lookupOf (nextState (step s c) .directory) a
 
 module _ (s : State) (a : ℕ) where
   pub snoop-drops : WellFormed (s .directory) → s .directory .nw ≡ false → foundAfter s (snoop a) a ≡ Nothing
-  unfolding step
+  unfolding stepBy
   snoop-drops g n =
       rw (snoop-accepted (s .directory) a (well-formed-zero (s .directory) g (setOf a) (omega arith)))
       (snoop-lookup (s .directory) (g .limits .sized) a (g .apart .sets (setOf a) (omega arith)) n)
 
   pub flush-drops : foundAfter s flush a ≡ Nothing
-  unfolding step
+  unfolding stepBy
   flush-drops = flush-lookup (s .directory) a
 
   pub reset-drops : foundAfter s reset a ≡ Nothing
-  unfolding step
+  unfolding stepBy
   reset-drops = reset-lookup a

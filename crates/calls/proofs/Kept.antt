@@ -34,7 +34,7 @@ use Rattle.masters.specs.Masters.{externalWriteNumber}
 use Rattle.masters.proofs.External.{external-refused, external-done}
 use Rattle.diagnostics.specs.Diagnostics.{testWriteNumber}
 use Rattle.diagnostics.proofs.Laws.{test-write-done, test-write-refused, test-write-place}
-use Rattle.calls.specs.Calls.{Call, read, write, external, snoop, flush, control, view, reset, testWrite, testRead, step}
+use Rattle.calls.specs.Calls.{Call, read, write, external, snoop, flush, control, view, reset, testWrite, testRead, step, stepBy}
 use Rattle.calls.proofs.Memories.{stored-agrees}
 use Rattle.calls.proofs.Carrying.{EachGood, carried-accepted, due-good, later-good}
 use Rattle.calls.proofs.Doublewords.{Proper, EachProper, givenOf, given-inside, given-stored, access-proper}
@@ -236,7 +236,7 @@ module _ (s : State) (k : Kept s) where
       carried-accepted size ws (or-zero (carriedNumber size ws) _ q .0) .0
 
   read-kept : (a w : ℕ) (pcd : Bool) (xs log : List ℕ) (ws : List Carried) → Kept (nextState (step s (read a w pcd xs log ws)))
-  unfolding step readNumber readAll
+  unfolding stepBy readNumber readAll
   read-kept a w pcd xs log ws =
       same-or _ (readNumber s a w xs log ws) 0
       (λ z.
@@ -245,14 +245,14 @@ module _ (s : State) (k : Kept s) where
       (λ h. rw (read-refused s a w pcd xs log ws h) k)
 
   write-kept : (a w v : ℕ) (xs log : List ℕ) → Kept (nextState (step s (write a w v xs log)))
-  unfolding step writeNumber writeAll
+  unfolding stepBy writeNumber writeAll
   write-kept a w v xs log =
       same-or _ (writeNumber s a w v xs log) 0
       (λ z. rw (write-done s a w v xs log z) (all-kept size (writeOne (operandOf v)) (λ t kt u ok. write-one-kept size t kt u ok (operandOf v)) (doublewordsOf groupCount xs a w 0) s here (proper a w xs log _ z) .kept))
       (λ h. rw (write-refused s a w v xs log h) k)
 
   external-kept : (a : ℕ) (x : List ℕ) → Kept (nextState (step s (external a x)))
-  unfolding step externalWriteNumber
+  unfolding stepBy externalWriteNumber
   external-kept a x =
       same-or _ (externalWriteNumber (s .directory) (s .memory) a x) 0
       (λ z.
@@ -261,14 +261,14 @@ module _ (s : State) (k : Kept s) where
       (λ h. rw (external-refused s a x _ refl h) k)
 
   snoop-kept : (a : ℕ) → Kept (nextState (step s (snoop a)))
-  unfolding step
+  unfolding stepBy
   snoop-kept a =
       same-or _ (stateNumberOf (s .directory) (setOf a)) 0
       (λ z. rw (snoop-accepted (s .directory) a z) (snooped-kept s k a))
       (λ h. rw (snoop-refused (s .directory) a h) k)
 
   control-kept : (cd nw : Bool) → Kept (nextState (step s (control cd nw)))
-  unfolding step
+  unfolding stepBy
   control-kept cd nw =
       by-test (λ b. controlRefused cd nw ≡ b → Kept (nextState (step s (control cd nw)))) (controlRefused cd nw)
       (λ _ e. rw (control-refused (s .directory) cd nw e) k)
@@ -277,7 +277,7 @@ module _ (s : State) (k : Kept s) where
 
   -- lines are planted within the limits of tags
   test-write-kept : (r w tag : ℕ) (mark : Bool) (x : List ℕ) → Kept (nextState (step s (testWrite r w tag mark x)))
-  unfolding step
+  unfolding stepBy
   test-write-kept r w tag mark x =
       same-or _ (testWriteNumber (length (s .array)) (s .directory .cd) r w tag) 0
       (λ z.
@@ -288,7 +288,7 @@ module _ (s : State) (k : Kept s) where
 
 -- every call, refused or done
 pub call-kept : (s : State) → Kept s → (c : Call) → Kept (nextState (step s c))
-unfolding step
+unfolding stepBy
 call-kept s k (read a w pcd xs log ws) = read-kept s k a w pcd xs log ws
 call-kept s k (write a w v xs log) = write-kept s k a w v xs log
 call-kept s k (external a x) = external-kept s k a x

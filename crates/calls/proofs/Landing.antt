@@ -27,7 +27,7 @@ use Rattle.masters.specs.Masters.{externalWriteNumber}
 use Rattle.masters.proofs.External.{external-done}
 use Rattle.access.specs.Access.{underWay, snoopedBy, landedAfter}
 use Rattle.access.proofs.Landing.{landedOne, landed-first}
-use Rattle.calls.specs.Calls.{external, step}
+use Rattle.calls.specs.Calls.{external, step, stepBy}
 use Rattle.calls.specs.Plain.{heldAtEnd}
 use Rattle.calls.proofs.Memories.{stored-ram}
 use Rattle.calls.proofs.Carrying.{EachGood, due-good, later-good}
@@ -39,7 +39,7 @@ use Rattle.calls.proofs.Snooping.{external-beside}
 -- one that lands does what an external write does that is accepted
 pub landed-external : (s : State) (w : Carried) (ws : List Carried) (n : ℕ) → externalWriteNumber (s .directory) (s .memory) (w .address) (w .bytes) ≡ 0 →
     landedAfter (underWay s (w ∷ ws) n) ≡ landedAfter (underWay (nextState (step s (external (w .address) (w .bytes)))) ws n)
-unfolding step
+unfolding stepBy
 landed-external s w ws n z = rw (external-done s (w .address) (w .bytes) z) (landed-first s w ws n)
 
 -- beside the plain memory with the same writes put in

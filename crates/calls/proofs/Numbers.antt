@@ -22,7 +22,7 @@ use Rattle.refusal.proofs.Accepted.{zero-or, first-or, GoodMemory}
 use Rattle.views.specs.View.{viewNumberIn}
 use Rattle.diagnostics.specs.Diagnostics.{testNumber, testWriteNumber}
 use Rattle.diagnostics.proofs.Laws.{test-write-done, test-write-refused, test-number-arises, test-read-number}
-use Rattle.calls.specs.Calls.{Call, read, write, external, snoop, flush, control, view, reset, testWrite, testRead, step, viewNumberOf}
+use Rattle.calls.specs.Calls.{Call, read, write, external, snoop, flush, control, view, reset, testWrite, testRead, step, stepBy, viewNumberOf}
 use Rattle.calls.specs.Plain.{someAbove, outOfOrder, someRefused, plainNumber}
 use Rattle.calls.specs.Matches.{testWriting, testReading, reading, other, kindOf, numbersOf, oneOf, Arises}
 use Rattle.calls.proofs.Kept.{Kept}
@@ -214,12 +214,12 @@ module _ (s : State) (k : Kept s) where
   test-arises outside = ranged _ (test-number-arises (length (s .array)) (s .directory .cd) outside (k .arrayLength))
 
   pub test-write-arises : (r w tag : ℕ) (mark : Bool) (x : List ℕ) → Arises testWriting (step s (testWrite r w tag mark x) .outcome .number)
-  unfolding step
+  unfolding stepBy
   test-write-arises r w tag mark x =
       same-or _ (testWriteNumber (length (s .array)) (s .directory .cd) r w tag) 0
       (λ z. rw (test-write-done s r w tag mark x z))
       (λ h. rw (test-write-refused s r w tag mark x h) (test-arises _))
 
   pub test-read-arises : (r w : ℕ) → Arises testReading (step s (testRead r w) .outcome .number)
-  unfolding step
+  unfolding stepBy
   test-read-arises r w = rw (test-read-number (s .directory) (s .array) r w) (test-arises _)

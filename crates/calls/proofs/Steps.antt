@@ -32,7 +32,7 @@ use Rattle.diagnostics.specs.Diagnostics.{testWriteNumber}
 use Rattle.diagnostics.proofs.Laws.{test-write-done, test-write-refused}
 use Rattle.views.specs.View.{shown}
 use Rattle.views.proofs.Viewing.{view-refused, view-done}
-use Rattle.calls.specs.Calls.{Call, read, write, external, snoop, flush, control, view, reset, testWrite, testRead, step, viewNumberOf, recordsLeft}
+use Rattle.calls.specs.Calls.{Call, read, write, external, snoop, flush, control, view, reset, testWrite, testRead, step, stepBy, viewNumberOf, recordsLeft}
 use Rattle.calls.specs.Plain.{Plain, bytesRead, plainAccepted, plainRefused, plainNumber, plainDone, plain, plainTold}
 use Rattle.calls.specs.Matches.{NoParityError, kindOf, testing, plants, empties, SameResults, Matches, setsNw}
 use Rattle.words.proofs.Spans.{bytes-same}
@@ -111,11 +111,11 @@ module _ (s : State) (m : List ℕ) where
     emptied-matches d g n = changed-matches d (empty-beside (state d (s .memory) (s .array)) m e g n)
 
     flush-matches : StepMatches (step s flush) (plainTold s m flush)
-    unfolding step plain plainNumber plainDone
+    unfolding stepBy plain plainNumber plainDone
     flush-matches = emptied-matches (afterFlush (s .directory)) (flush-apart (s .directory)) (flush-none (s .directory))
 
     reset-matches : StepMatches (step s reset) (plainTold s m reset)
-    unfolding step plain plainNumber plainDone
+    unfolding stepBy plain plainNumber plainDone
     reset-matches = emptied-matches afterReset reset-apart reset-none
 
     pub emptying-matches : (x : Call) → empties (kindOf x) ≡ true → CallMatches x (step s x) (plainTold s m x)
@@ -137,7 +137,7 @@ module _ (s : State) (m : List ℕ) (c : Coherent s m) where
   -- READ AND WRITE
 
   read-matches : (a w : ℕ) (pcd : Bool) (xs log : List ℕ) (ws : List Carried) → StepMatches (step s (read a w pcd xs log ws)) (plainTold s m (read a w pcd xs log ws))
-  unfolding step plainDone readAll
+  unfolding stepBy plainDone readAll
   read-matches a w pcd xs log ws =
       by-number s m c (read a w pcd xs log ws) (readNumber s a w xs log ws) (read-number s m c a w xs log ws ∙ sym (plain-read m a w pcd xs log ws))
       (λ z.
@@ -168,7 +168,7 @@ module _ (s : State) (m : List ℕ) (c : Coherent s m) where
       (λ h. rw (read-refused s a w pcd xs log ws h))
 
   write-matches : (a w v : ℕ) (xs log : List ℕ) → StepMatches (step s (write a w v xs log)) (plainTold s m (write a w v xs log))
-  unfolding step plainDone writeAll
+  unfolding stepBy plainDone writeAll
   write-matches a w v xs log =
       by-number s m c (write a w v xs log) (writeNumber s a w v xs log) (write-number s m c a w v xs log ∙ sym (plain-write m a w v xs log))
       (λ z.
@@ -192,7 +192,7 @@ module _ (s : State) (m : List ℕ) (c : Coherent s m) where
   -- OTHER MASTERS
 
   external-matches : (a : ℕ) (x : List ℕ) → StepMatches (step s (external a x)) (plainTold s m (external a x))
-  unfolding step plainDone
+  unfolding stepBy plainDone
   external-matches a x =
       let n = externalWriteNumber (s .directory) (s .memory) a x in
       by-number s m c (external a x) n (external-write-number s m c a x ∙ sym (plain-external m a x))
@@ -209,14 +209,14 @@ module _ (s : State) (m : List ℕ) (c : Coherent s m) where
   -- THE DIRECTORY ALONE
 
   snoop-matches : (a : ℕ) → StepMatches (step s (snoop a)) (plainTold s m (snoop a))
-  unfolding step plain plainNumber plainDone
+  unfolding stepBy plain plainNumber plainDone
   snoop-matches a =
       rw (snoop-accepted (s .directory) a (state-zero s m c a))
       (changed-matches s m (afterSnoop (s .directory) a) (snoop-beside s m c a))
 
   -- an accepted control call that does not set NW leaves NW = 0
   control-matches : (cd nw : Bool) → setsNw (control cd nw) ≡ false → StepMatches (step s (control cd nw)) (plainTold s m (control cd nw))
-  unfolding step plain plainNumber plainDone
+  unfolding stepBy plain plainNumber plainDone
   control-matches cd nw q =
       by-test (λ b. controlRefused cd nw ≡ b → StepMatches (step s (control cd nw)) (plainTold s m (control cd nw))) (controlRefused cd nw)
       (λ _ e.
@@ -245,7 +245,7 @@ module _ (s : State) (m : List ℕ) (c : Coherent s m) where
   shown-is a Nothing e = ap (λ (l : List ℕ). bytesAt l (a / 16 * 16) 16) (c .beside .rams)
 
   view-matches : (a : ℕ) → StepMatches (step s (view a)) (plainTold s m (view a))
-  unfolding step plainDone
+  unfolding stepBy plainDone
   view-matches a =
       let n = viewNumberOf s a in
       by-number s m c (view a) n (view-number s m c a ∙ sym (plain-view m a))
@@ -267,14 +267,14 @@ module _ (s : State) (m : List ℕ) (c : Coherent s m) where
 
   test-write-matches : (r w tag : ℕ) (mark : Bool) (x : List ℕ) →
       let y = testWrite r w tag mark x in CallMatches y (step s y) (plainTold s m y)
-  unfolding step plain plainNumber plainDone
+  unfolding stepBy plain plainNumber plainDone
   test-write-matches r w tag mark x =
       same-or _ (testWriteNumber (length (s .array)) (s .directory .cd) r w tag) 0
       (λ z. rw (test-write-done s r w tag mark x z) (tested (testWrite r w tag mark x) refl (c .beside .rams) refl (λ p. absurd (true≢false p))))
       (λ h. rw (test-write-refused s r w tag mark x h) (tested (testWrite r w tag mark x) refl (c .beside .rams) refl (λ _. c .beside)))
 
   test-read-matches : (r w : ℕ) → CallMatches (testRead r w) (step s (testRead r w)) (plainTold s m (testRead r w))
-  unfolding step plain plainNumber plainDone
+  unfolding stepBy plain plainNumber plainDone
   test-read-matches r w = tested (testRead r w) refl (c .beside .rams) refl (λ _. c .beside)
 
   -- EVERY CALL

@@ -16,7 +16,7 @@ use Rattle.refusal.specs.Refusal.{lentNumber, argumentNumber}
 use Rattle.refusal.proofs.Accepted.{or-zero, arguments-accepted}
 use Rattle.access.specs.Access.{underWay, readNumber, readAll}
 use Rattle.access.proofs.Calls.{read-done}
-use Rattle.calls.specs.Calls.{Call, read, write, external, snoop, flush, control, view, reset, testWrite, testRead, step, recordsLeft}
+use Rattle.calls.specs.Calls.{Call, read, write, external, snoop, flush, control, view, reset, testWrite, testRead, step, stepBy, recordsLeft}
 use Rattle.calls.specs.Plain.{heldAfter, heldAtEnd, groupsOf, namedBy, moves, byteMoved, byteRead, Plain, plainAccepted, plainRefused, plainNumber, plainDone, plain}
 use Rattle.calls.proofs.Counts.{reads-most, records-left}
 use Rattle.calls.proofs.Doublewords.{bytes-by-at}
@@ -24,7 +24,7 @@ use Rattle.calls.proofs.Doublewords.{bytes-by-at}
 -- the log of an accepted read has the records of its cycles
 pub read-records : (s : State) (a w : ℕ) (pcd : Bool) (xs log : List ℕ) (ws : List Carried) → readNumber s a w xs log ws ≡ 0 →
     recordsLeft (step s (read a w pcd xs log ws)) ≡ readAll s a w pcd xs ws .records
-unfolding step readNumber readAll
+unfolding stepBy readNumber readAll
 read-records s a w pcd xs log ws z =
     let size = length (s .memory .ram) in
     let p = or-zero (lentNumber size (length (s .memory .parity)) (length (s .array))) _ z .1 in

@@ -3,8 +3,9 @@ use Prim.Native.Nat.{ℕ, zero, suc, _+_}
 use mathlib.Core.Bool.{Bool}
 use mathlib.Core.List.{List, [], _∷_}
 use lib.ListN.{length, getD}
+use Rattle.directory.specs.declared.steps.Directory.{Directory}
 use Rattle.directory.specs.Outcome.{outcome}
-use Rattle.directory.specs.Steps.{snoopCall, controlCall, flushCall, resetCall}
+use Rattle.directory.specs.Steps.{snoopCall, controlCall, afterFlush, flushCall, resetCall}
 use Rattle.carried.specs.Carried.{Carried}
 use Rattle.bus.specs.Record.{Record}
 use Rattle.refusal.specs.Call.{State, After, onDirectory}
@@ -52,18 +53,22 @@ viewCall s address =
 abbrev pub testReadCall : State → ℕ → ℕ → After
 testReadCall s set way = onDirectory s (outcome (s .directory) (testReadLine (s .directory) (s .array) set way .number) 0 0)
 
--- One step of the unit, by the definitions that the contracts of the calls cite.
-unfoldable pub step : State → Call → After
-step s (read address width pcd answers log writes) = readCall s address width pcd answers log writes
-step s (write address width value answers log) = writeCall s address width value answers log
-step s (external address bytes) = externalCall s address bytes
-step s (snoop address) = onDirectory s (snoopCall (s .directory) address)
-step s flush = onDirectory s (flushCall (s .directory))
-step s (control cd nw) = onDirectory s (controlCall (s .directory) cd nw)
-step s (view address) = viewCall s address
-step s reset = onDirectory s resetCall
-step s (testWrite set way tag mark bytes) = testWriteCall s set way tag mark bytes
-step s (testRead set way) = testReadCall s set way
+-- One step of the unit, by the definitions that the contracts of the calls cite, and by a rule that says what a flush leaves of the directory.
+unfoldable pub stepBy : (Directory → Directory) → State → Call → After
+stepBy rule s (read address width pcd answers log writes) = readCall s address width pcd answers log writes
+stepBy rule s (write address width value answers log) = writeCall s address width value answers log
+stepBy rule s (external address bytes) = externalCall s address bytes
+stepBy rule s (snoop address) = onDirectory s (snoopCall (s .directory) address)
+stepBy rule s flush = onDirectory s (flushCall rule (s .directory))
+stepBy rule s (control cd nw) = onDirectory s (controlCall (s .directory) cd nw)
+stepBy rule s (view address) = viewCall s address
+stepBy rule s reset = onDirectory s resetCall
+stepBy rule s (testWrite set way tag mark bytes) = testWriteCall s set way tag mark bytes
+stepBy rule s (testRead set way) = testReadCall s set way
+
+-- Document 02, C-14: "Comparisons use the new one."
+abbrev pub step : State → Call → After
+step = stepBy afterFlush
 
 -- "Each cycle leaves three 32-bit words in the log": so many records, from a place of the log on.
 unfoldable pub recordsFrom : List ℕ → ℕ → ℕ → List Record

@@ -96,20 +96,21 @@ controlCall d cd nw =
     (outcome d 9 0 0)
     (outcome (afterControl d cd nw) 0 0 0)
 
--- "A flush (FLUSH#, INVD and WBINVD alike) clears valid marks and nothing else (H)."
+-- "A flush (FLUSH#, INVD and WBINVD alike) clears valid marks"; document 02, C-14: "The data sheet zeroes the 128 LRU numbers on a flush as on reset. This
+-- replaces our flush rule in the directory section."
 unfoldable pub afterFlush : Directory → Directory
 afterFlush d =
     record {
       tags = d .tags;
       valid = replicate lineCount false;
-      lru = d .lru;
+      lru = replicate setCount 0;
       cd = d .cd;
       nw = d .nw;
     }
 
--- A flush and a reset are never turned away.
-abbrev pub flushCall : Directory → Outcome
-flushCall d = outcome (afterFlush d) 0 0 0
+-- A flush, by a rule that says what it leaves, and a reset are never turned away.
+abbrev pub flushCall : (Directory → Directory) → Directory → Outcome
+flushCall rule d = outcome (rule d) 0 0 0
 
 abbrev pub resetCall : Outcome
 resetCall = outcome afterReset 0 0 0

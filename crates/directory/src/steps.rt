@@ -91,6 +91,7 @@ impl Directory {
         ensures { λ r. ⌜ r ≡ afterFlush self ⌝ }
     {
         self.valid = [false; LINES];
+        self.lru = [0u8; SETS];
         self
     }
 

@@ -156,11 +156,11 @@ pub extern "C" fn unit486_snoop_in_place<'a>(
 }
 
 #[no_mangle]
-pub extern "C" fn unit486_flush_in_place(valid: &mut [bool; LINES])
-    ensures { λ _. ⌜ ((tags lru : List ℕ) (cd nw : Bool) → directoryOf tags (now (valid .exit)) lru cd nw
-        ≡ afterFlush (directoryOf tags (now (valid .entry)) lru cd nw)) ⌝ }
+pub extern "C" fn unit486_flush_in_place(valid: &mut [bool; LINES], lru: &mut [u8; SETS])
+    ensures { λ _. ⌜ ((tags : List ℕ) (cd nw : Bool) → directoryOf tags (now (valid .exit)) (now (lru .exit)) cd nw
+        ≡ afterFlush (directoryOf tags (now (valid .entry)) (now (lru .entry)) cd nw)) ⌝ }
 {
-    steps_in_place::flush_in_place(valid)
+    steps_in_place::flush_in_place(valid, lru)
 }
 
 #[no_mangle]

@@ -58,7 +58,7 @@ pub fn perform<'a>(
         }
         Event::Snoop(at) => number_only(snoop_in_place(tags, valid, lru, *nw, at)),
         Event::Flush => {
-            flush_in_place(valid);
+            flush_in_place(valid, lru);
             number_only(0)
         }
         Event::Control(new_cd, new_nw) => number_only(control_in_place(cd, nw, new_cd, new_nw)),

@@ -61,11 +61,12 @@ pub fn fill_in_place(
     use_in_place(lru, set, way);
 }
 
-pub fn flush_in_place(valid: &mut [bool; LINES])
-    ensures { λ _. ⌜ ((tags lru : List ℕ) (cd nw : Bool) → directoryOf tags (now (valid .exit)) lru cd nw
-        ≡ afterFlush (directoryOf tags (now (valid .entry)) lru cd nw)) ⌝ }
+pub fn flush_in_place(valid: &mut [bool; LINES], lru: &mut [u8; SETS])
+    ensures { λ _. ⌜ ((tags : List ℕ) (cd nw : Bool) → directoryOf tags (now (valid .exit)) (now (lru .exit)) cd nw
+        ≡ afterFlush (directoryOf tags (now (valid .entry)) (now (lru .entry)) cd nw)) ⌝ }
 {
     *valid = [false; LINES];
+    *lru = [0u8; SETS];
 }
 
 // The plain snoop step.
@@ -130,8 +131,7 @@ pub fn reset_in_place(
     ensures { λ _. ⌜ lentDirectory (tags .exit) (valid .exit) (lru .exit) (now (cd .exit)) (now (nw .exit)) ≡ afterReset ⌝ }
 {
     *tags = [0u32; LINES];
-    flush_in_place(valid);
-    *lru = [0u8; SETS];
+    flush_in_place(valid, lru);
     *cd = true;
     *nw = true;
 }

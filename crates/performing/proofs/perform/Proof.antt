@@ -1,7 +1,7 @@
 use denote.Ref.{now}
 use native.Mathlib.Omega.{arith}
 use mathlib.Core.Path.{sym, ap, _∙_}
-use Rattle.calls.specs.Calls.{step}
+use Rattle.calls.specs.Calls.{stepBy}
 use Rattle.refusal.specs.Call.{lentState, onDirectory}
 use Rattle.directory.specs.declared.steps.Directory.{Directory}
 use Rattle.directory.specs.Outcome.{outcome}
@@ -148,7 +148,7 @@ returns-4 c =
     rw (sym (c15 .scan .ensures) ∙ c13 .event3 .given .1) (rw drop-part at (c4 .perform-external .ensures (now (a .cd)) (now (a .«data»))))
 
 returns-5 : tie.Need-returns-5
-unfolding callOf callDone step
+unfolding callOf callDone stepBy
 returns-5 c =
     let c1 = c .before in
     let c6 = c1 .before .before .before .before .before in
@@ -159,7 +159,7 @@ returns-5 c =
     rw (sym (c8 .scan .ensures) ∙ c6 .event4 .given .1, c .number-only2 .ensures) (ap (onDirectory s) (c1 .snoop-in-place .ensures _))
 
 returns-6 : tie.Need-returns-6
-unfolding callOf callDone step
+unfolding callOf callDone stepBy
 returns-6 c =
     let c1 = c .before in
     let c3 = c1 .before .before in
@@ -167,10 +167,10 @@ returns-6 c =
     let c10 = c5 .before .before .before .before .before in
     let a = c10 .args in
     let s = lentState (a .tags) (a .valid) (a .lru) (now (a .cd)) (now (a .nw)) (a .ram) (a .parity) (a .«data») in
-    rw (sym (c5 .scan .ensures) ∙ c3 .enum-told2 .given .1, c .number-only3 .ensures) (ap (λ (d : Directory). onDirectory s (outcome d 0 0 0)) (c1 .flush-in-place .ensures _ _ _ _))
+    rw (sym (c5 .scan .ensures) ∙ c3 .enum-told2 .given .1, c .number-only3 .ensures) (ap (λ (d : Directory). onDirectory s (outcome d 0 0 0)) (c1 .flush-in-place .ensures _ _ _))
 
 returns-7 : tie.Need-returns-7
-unfolding callOf callDone step
+unfolding callOf callDone stepBy
 returns-7 c =
     let c1 = c .before in
     let c5 = c1 .before .before .before .before in
@@ -181,7 +181,7 @@ returns-7 c =
     rw (sym (c7 .scan .ensures) ∙ c5 .event5 .given .1, c .number-only4 .ensures) (ap (onDirectory s) (c1 .control-in-place .ensures _ _ _))
 
 returns-8 : tie.Need-returns-8
-unfolding callOf callDone step
+unfolding callOf callDone stepBy
 returns-8 c =
     let c1 = c .before in
     let c7 = c1 .before .before .before .before .before .before in

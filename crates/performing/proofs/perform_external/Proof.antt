@@ -2,7 +2,7 @@ use mathlib.Core.Path.{_∙_}
 use native.Mathlib.Omega.{arith}
 use Rattle.fields.specs.Fields.{pairBytes}
 use Rattle.fields.proofs.Pairs.{front-count, pairs-length}
-use Rattle.calls.specs.Calls.{step}
+use Rattle.calls.specs.Calls.{stepBy}
 use Rattle.performing.proofs.Log.{own-log}
 use borrow.Author.Needs.{needs}
 use Rattle.performing.proofs.perform_external.Statement.{statement}
@@ -39,7 +39,7 @@ same-length-2 : tie.Need-same-length-2
 same-length-2 c = search needs
 
 returns : tie.Need-returns
-unfolding step
+unfolding stepBy
 returns c cd array =
     let c5 = c .before .before .before .before .before in
     let c11 = c5 .before .before .before .before .before .before in

@@ -1,5 +1,5 @@
 use mathlib.Core.Path.{_∙_}
-use Rattle.calls.specs.Calls.{step}
+use Rattle.calls.specs.Calls.{stepBy}
 use Rattle.performing.proofs.Log.{own-log}
 use borrow.Author.Needs.{needs}
 use Rattle.performing.proofs.perform_read.Statement.{statement}
@@ -21,7 +21,7 @@ same-length : tie.Need-same-length
 same-length c = search needs
 
 returns : tie.Need-returns
-unfolding step
+unfolding stepBy
 returns c nw =
     let c3 = c .before .before .before in
     let c10 = c3 .before .before .before .before .before .before .before in

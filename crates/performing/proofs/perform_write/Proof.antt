@@ -1,5 +1,5 @@
 use mathlib.Core.Path.{_∙_}
-use Rattle.calls.specs.Calls.{step}
+use Rattle.calls.specs.Calls.{stepBy}
 use Rattle.performing.proofs.Log.{own-log}
 use borrow.Author.Needs.{needs}
 use Rattle.performing.proofs.perform_write.Statement.{statement}
@@ -27,7 +27,7 @@ same-length-3 : tie.Need-same-length-3
 same-length-3 c = search needs
 
 returns : tie.Need-returns
-unfolding step
+unfolding stepBy
 returns c =
     let c7 = c .before .before .before .before .before .before .before in
     let c14 = c7 .before .before .before .before .before .before .before in

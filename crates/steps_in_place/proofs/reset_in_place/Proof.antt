@@ -1,7 +1,7 @@
 use mathlib.Core.Bool.{true}
 use lib.ListN.{replicate}
 use borrow.Author.Needs.{needs}
-use Rattle.ways.specs.Address.{setCount, lineCount}
+use Rattle.ways.specs.Address.{lineCount}
 use Rattle.directory.specs.Steps.{afterReset, afterFlush}
 use Rattle.steps_in_place.proofs.reset_in_place.Statement.{statement}
 use Rattle.steps_in_place.proofs.reset_in_place.Tie as tie
@@ -11,7 +11,7 @@ flush-in-place-requires c κs = search needs
 
 returns : tie.Need-returns
 unfolding afterReset afterFlush
-returns c = c .before .flush-in-place .ensures (replicate lineCount 0) (replicate setCount 0) true true
+returns c = c .before .flush-in-place .ensures (replicate lineCount 0) true true
 
 pub reset-in-place-spec : {M : Type 1} → statement M
 reset-in-place-spec = tie.close (tie.spec flush-in-place-requires returns)
