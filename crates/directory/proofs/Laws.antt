@@ -98,7 +98,7 @@ module _ (d : Directory) (s w : ℕ) where
   unfolding afterUse
   use-lru-other r n = rw getD-set-other
 
-  use-lru-below : Sized d → s < 128 → w < 4 → (r : ℕ) → lruAt d r ≤ 7 → lruAt (afterUse d s w) r ≤ 7
+  pub use-lru-below : Sized d → s < 128 → w < 4 → (r : ℕ) → lruAt d r ≤ 7 → lruAt (afterUse d s w) r ≤ 7
   use-lru-below z sl wl r h =
       same-or _ r s
       (λ e. let k = lru-after-below (lruAt d s) w wl in rw (e, use-lru z sl) (omega arith))
@@ -108,7 +108,7 @@ module _ (d : Directory) (s w : ℕ) where
   unfolding afterUse
   use-control = (refl, refl)
 
-use-sized : (d : Directory) → Sized d → (s w : ℕ) → Sized (afterUse d s w)
+pub use-sized : (d : Directory) → Sized d → (s w : ℕ) → Sized (afterUse d s w)
 unfolding afterUse
 use-sized d z s w = record { tags = z .tags; valid = z .valid; lru = rw length-set (z .lru) }
 
@@ -132,7 +132,7 @@ module _ (d : Directory) (s w tag : ℕ) (mark : Bool) where
   unfolding withLine
   line-lru r = refl
 
-  line-sized : Sized d → Sized (withLine d s w tag mark)
+  pub line-sized : Sized d → Sized (withLine d s w tag mark)
   unfolding withLine
   line-sized z = record { tags = rw length-set (z .tags); valid = rw length-set (z .valid); lru = z .lru }
 
@@ -253,12 +253,18 @@ module _ (d : Directory) (cd nw : Bool) where
   unfolding afterControl
   control-set = (refl, refl)
 
-  pub control-limits : WithinLimits d → WithinLimits (afterControl d cd nw)
+  pub control-lru : (r : ℕ) → lruAt (afterControl d cd nw) r ≡ lruAt d r
   unfolding afterControl
+  control-lru r = refl
+
+  pub control-sized : Sized d → Sized (afterControl d cd nw)
+  unfolding afterControl
+  control-sized z = record { tags = z .tags; valid = z .valid; lru = z .lru }
+
+  pub control-limits : WithinLimits d → WithinLimits (afterControl d cd nw)
   control-limits g =
-      fewer-limits d _ (λ r v tag rl vl h. h)
-      (record { tags = g .sized .tags; valid = g .sized .valid; lru = g .sized .lru })
-      (λ r rl. g .sets r rl .lru)
+      fewer-limits d _ (λ r v tag rl vl. control-held r v tag) (control-sized (g .sized))
+      (λ r rl. rw (control-lru r) (g .sets r rl .lru))
       g
 
   pub control-apart : Apart d → Apart (afterControl d cd nw)
@@ -295,7 +301,7 @@ module _ (d : Directory) where
   unfolding afterFlush
   flush-lru s l = getD-replicate {A = ℕ} 128 s 0 0 l
 
-  flush-sized : Sized d → Sized (afterFlush d)
+  pub flush-sized : Sized d → Sized (afterFlush d)
   unfolding afterFlush
   flush-sized z = record { tags = z .tags; valid = refl; lru = refl }
 
@@ -377,6 +383,12 @@ module _ (d : Directory) (z : Sized d) (a : ℕ) where
   pub snoop-kept : (r v t : ℕ) → v < 4 → (Same r t (setOf a) (tagOf a) → ⊥) → Held d r v t → Held (afterSnoop d a) r v t
   snoop-kept r v t vl n = by-nw (λ x. Held d r v t → Held x r v t) (λ _ h. h) (λ _. dropped-kept _ refl r v t vl n)
 
+  pub snoop-lru : (r : ℕ) → lruAt (afterSnoop d a) r ≡ lruAt d r
+  snoop-lru r = by-nw (λ x. lruAt x r ≡ lruAt d r) (λ _. refl) (λ _. dropped-lru _ r)
+
+  pub snoop-sized : Sized (afterSnoop d a)
+  snoop-sized = by-nw Sized (λ _. z) (λ _. dropped-sized _)
+
   pub snoop-control : (afterSnoop d a .cd ≡ d .cd) × (afterSnoop d a .nw ≡ d .nw)
   snoop-control = by-nw (λ x. (x .cd ≡ d .cd) × (x .nw ≡ d .nw)) (λ _. (refl, refl)) (λ _. dropped-control _)
 
@@ -389,11 +401,10 @@ module _ (d : Directory) (z : Sized d) (a : ℕ) where
 
 pub snoop-limits : (d : Directory) → WithinLimits d → (a : ℕ) → WithinLimits (afterSnoop d a)
 snoop-limits d g a =
-    by-nw d (g .sized) a WithinLimits (λ _. g)
-    (λ _.
-    fewer-limits d _ (λ r v t rl vl. dropped-held d (g .sized) a _ refl r v t vl) (dropped-sized d (g .sized) a _)
-    (λ r rl. rw (dropped-lru d (g .sized) a _ r) (g .sets r rl .lru))
-    g)
+    let z = g .sized in
+    fewer-limits d _ (λ r v t rl vl. snoop-held d z a r v t vl) (snoop-sized d z a)
+    (λ r rl. rw (snoop-lru d z a r) (g .sets r rl .lru))
+    g
 
 pub snoop-apart : (d : Directory) → Sized d → Apart d → (a : ℕ) → Apart (afterSnoop d a)
 snoop-apart d z g a = fewer-apart d (afterSnoop d a) (λ r v t rl vl. snoop-held d z a r v t vl) g

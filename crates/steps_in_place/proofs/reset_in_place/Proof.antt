@@ -11,7 +11,7 @@ flush-in-place-requires c κs = search needs
 
 returns : tie.Need-returns
 unfolding afterReset afterFlush
-returns c = c .before .flush-in-place .ensures (replicate lineCount 0) true true
+returns c = c .flush-in-place .ensures (replicate lineCount 0) true true
 
 pub reset-in-place-spec : {M : Type 1} → statement M
 reset-in-place-spec = tie.close (tie.spec flush-in-place-requires returns)

@@ -1,0 +1,3 @@
+-- The theorem is `either-flush-rule`.
+mod Accesses
+pub mod EitherRule
