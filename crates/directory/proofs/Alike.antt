@@ -1,37 +1,24 @@
--- Directories that differ in LRU numbers only, and there in no bit on which a victim can come to depend (document 02, C-14): whatever is asked of them
--- has the same answer, and each step keeps this.
+-- Laws of alike directories (document 02, C-14): whatever a call asks of them has the same answer, and each step keeps them alike.
 use Prim.Native.Nat.{ℕ, _≤_, _<_}
 use mathlib.Core.Path.{_≡_, refl, sym, _∙_, ap}
-use mathlib.Core.Bool.{Bool, true, cond}
+use mathlib.Core.Bool.{Bool, true, false, cond}
 use mathlib.Core.List.{List}
 use mathlib.Core.Logic.{⊎-elim}
 use native.Mathlib.Omega.{arith}
+use lib.ListN.{replicate}
 use borrow.Author.Tests.{le-ltb}
 use Rattle.directory.specs.declared.steps.Directory.{Directory}
 use Rattle.ways.specs.declared.ways.Found.{Found}
 use Rattle.ways.specs.declared.ways.Found.the-variants.{At, Nothing}
-use Rattle.ways.specs.Address.{setOf}
+use Rattle.ways.specs.Address.{lineCount, setOf}
+use Rattle.ways.specs.LruBits.{SameBits}
 use Rattle.ways.specs.State.{firstNumber, stateNumberIn}
-use Rattle.directory.specs.Steps.{directoryOf, tagAt, lruAt, lookupOf, victimOf, stateNumberOf, afterUse, withLine, afterFill, afterReset, afterControl, invalidated, afterSnoop}
-use Rattle.directory.specs.WellFormed.{Held, Same, Sized}
+use Rattle.directory.specs.Steps.{directoryOf, tagAt, lruAt, lookupOf, victimOf, stateNumberOf, afterUse, withLine, afterFill, afterReset, afterControl, afterFlush, invalidated, afterSnoop}
+use Rattle.directory.specs.WellFormed.{Held, Same}
+use Rattle.directory.specs.Alike.{withLru, SameLines, Alike}
 use Rattle.laws.proofs.Tests.{by-test, same-or}
-use Rattle.ways.proofs.LruBits.{SameBits, use-bits, victim-bits}
-use Rattle.directory.proofs.Laws.{reset-none, reset-limits, use-held, use-lru, use-lru-other, use-lru-below, use-sized, line-lru, line-sized, line-held, control-held, control-lru, control-sized, snoop-held, snoop-lru, snoop-sized}
-
--- a directory with other LRU numbers
-abbrev pub withLru : Directory → List ℕ → Directory
-withLru d lru = directoryOf (d .tags) (d .valid) lru (d .cd) (d .nw)
-
--- tags, valid marks, CD and NW are the same, and no LRU number is above 7
-pub record SameLines (d e : Directory) : Type 0 where
-  pub same : e ≡ withLru d (e .lru)
-  pub sized : Sized d × Sized e
-  pub lru : (s : ℕ) → s < 128 → (lruAt d s ≤ 7) × (lruAt e s ≤ 7)
-
--- and for each held line, the LRU numbers of its set have in common what a use of it sets or clears
-pub record Alike (d e : Directory) : Type 0 where
-  pub lines : SameLines d e
-  pub bits : (s w tag : ℕ) → s < 128 → w < 4 → Held d s w tag → SameBits (lruAt d s) (lruAt e s) w
+use Rattle.ways.proofs.LruBits.{use-bits, victim-bits}
+use Rattle.directory.proofs.Laws.{reset-none, reset-limits, use-held, use-lru, use-lru-other, use-lru-below, use-sized, line-lru, line-sized, line-held, control-held, control-lru, control-sized, flush-none, flush-lru, flush-sized, snoop-held, snoop-lru, snoop-sized}
 
 -- WHAT IS ASKED
 
@@ -127,6 +114,19 @@ module _ (d e : Directory) (a : Alike d e) where
             };
         bits = a .bits;
       }
+
+-- a flush beside one that clears the valid marks and nothing else
+pub flush-alike : (d e : Directory) → Alike d e → Alike (afterFlush d) (directoryOf (e .tags) (replicate lineCount false) (e .lru) (e .cd) (e .nw))
+unfolding afterFlush
+flush-alike d e a =
+    let z = a .lines in
+    none-alike (afterFlush d) _
+    (record {
+      same = ap (λ (x : Directory). directoryOf (x .tags) (replicate lineCount false) (x .lru) (x .cd) (x .nw)) (z .same);
+      sized = (flush-sized d (z .sized .0), record { tags = z .sized .1 .tags; valid = refl; lru = z .sized .1 .lru });
+      lru = λ s l. let n = flush-lru d s l in (omega arith, z .lru s l .1);
+    })
+    (flush-none d)
 
 -- a snoop of other LRU numbers leaves them
 found-lru : (d : Directory) (lru : List ℕ) (s : ℕ) (f : Found) → invalidated (withLru d lru) s f ≡ withLru (invalidated d s f) lru

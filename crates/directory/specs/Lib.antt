@@ -2,3 +2,4 @@
 pub mod Outcome
 pub mod Steps
 pub mod WellFormed
+pub mod Alike

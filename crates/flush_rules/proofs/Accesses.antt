@@ -13,8 +13,9 @@ use Rattle.ways.specs.Address.{setOf, tagOf}
 use Rattle.ways.proofs.FourWays.{victim-below}
 use Rattle.directory.specs.declared.steps.Directory.{Directory}
 use Rattle.directory.specs.Steps.{lookupOf, victimOf}
+use Rattle.directory.specs.Alike.{Alike}
 use Rattle.directory.proofs.Laws.{lookup-at}
-use Rattle.directory.proofs.Alike.{Alike, alike-lookup, alike-control, alike-victim, alike-number, use-alike, fill-alike, snoop-alike}
+use Rattle.directory.proofs.Alike.{alike-lookup, alike-control, alike-victim, alike-number, use-alike, fill-alike, snoop-alike}
 use Rattle.memory.specs.Parity.{Memory}
 use Rattle.carried.specs.Carried.{Carried, due}
 use Rattle.doubleword.specs.declared.change.Change.{Change}

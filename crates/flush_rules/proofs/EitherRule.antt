@@ -13,8 +13,9 @@ use Rattle.ways.specs.Address.{setOf}
 use Rattle.directory.specs.declared.steps.Directory.{Directory}
 use Rattle.directory.specs.Outcome.{outcome}
 use Rattle.directory.specs.Steps.{stateNumberOf, afterReset, afterControl, controlRefused, afterFlush, afterSnoop}
-use Rattle.directory.proofs.Laws.{control-accepted, control-refused, flush-none, flush-lru, flush-sized, snoop-accepted, snoop-refused}
-use Rattle.directory.proofs.Alike.{SameLines, Alike, alike-lookup, alike-control, alike-number, none-alike, reset-alike, control-alike, snoop-alike}
+use Rattle.directory.specs.Alike.{Alike}
+use Rattle.directory.proofs.Laws.{control-accepted, control-refused, snoop-accepted, snoop-refused}
+use Rattle.directory.proofs.Alike.{alike-lookup, alike-control, alike-number, reset-alike, control-alike, flush-alike, snoop-alike}
 use Rattle.memory.specs.Parity.{stored}
 use Rattle.carried.specs.Carried.{Carried}
 use Rattle.bus.specs.Groups.{groupCount}
@@ -47,20 +48,6 @@ record AfterAlike (x y : After) : Type 0 where
   directory : Directory
   same : y ≡ leavesWith directory x
   alike : Alike (x .outcome .directory) directory
-
--- FLUSHES
-
-flush-alike : (d e : Directory) → Alike d e → Alike (afterFlush d) (marksCleared e)
-unfolding afterFlush marksCleared
-flush-alike d e a =
-    let z = a .lines in
-    none-alike (afterFlush d) (marksCleared e)
-    (record {
-      same = ap marksCleared (z .same);
-      sized = (flush-sized d (z .sized .0), record { tags = z .sized .1 .tags; valid = refl; lru = z .sized .1 .lru });
-      lru = λ s l. let n = flush-lru d s l in (omega arith, z .lru s l .1);
-    })
-    (flush-none d)
 
 -- A CALL
 
@@ -166,13 +153,17 @@ module _ (s : State) (e : Directory) (a : Alike (s .directory) e) where
         alike = a;
       })
 
+  flush-call-alike : AfterAlike (step s flush) (stepBy marksCleared t flush)
+  unfolding stepBy marksCleared
+  flush-call-alike = record { directory = marksCleared e; same = refl; alike = flush-alike d e a }
+
   call-alike : (c : Call) → plants (kindOf c) (step s c .outcome .number) ≡ false → AfterAlike (step s c) (stepBy marksCleared t c)
   unfolding stepBy
   call-alike (read address width pcd answers log ws) n = read-alike address width pcd answers log ws
   call-alike (write address width value answers log) n = write-alike address width value answers log
   call-alike (external address bytes) n = external-alike address bytes
   call-alike (snoop address) n = snoop-call-alike address
-  call-alike flush n = record { directory = marksCleared e; same = refl; alike = flush-alike d e a }
+  call-alike flush n = flush-call-alike
   call-alike (control cd nw) n = control-call-alike cd nw
   call-alike (view address) n = view-alike address
   call-alike reset n = record { directory = afterReset; same = refl; alike = reset-alike }

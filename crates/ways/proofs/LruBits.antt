@@ -1,5 +1,5 @@
--- The bits of an LRU number that the use of a way sets or clears, and on which the victim of a set depends whose ways are all valid (document 02, C-14).
-use Prim.Native.Nat.{ℕ, _≤_, _<_}
+-- Laws of the bits of an LRU number that the use of a way sets or clears (document 02, C-14): the victim of a set whose ways are all valid depends on no other.
+use Prim.Native.Nat.{ℕ, _<_}
 use mathlib.Core.Path.{_≡_, refl}
 use mathlib.Core.Bool.{Bool, true, not}
 use mathlib.Core.List.{List}
@@ -8,18 +8,13 @@ use lib.ListN.{getD}
 use borrow.Author.Tests.{not-false}
 use Rattle.ways.specs.declared.ways.Found.{Found}
 use Rattle.ways.specs.declared.ways.Found.the-variants.{At, Nothing}
-use Rattle.ways.specs.Lru.{B0, B1, B2, lruAfter, lruWay}
+use Rattle.ways.specs.Lru.{lruAfter, lruWay}
+use Rattle.ways.specs.LruBits.{SameBits}
 use Rattle.ways.specs.Ways.{validIn, wayOr, victimIn}
 use Rattle.laws.proofs.Below.{four}
 use Rattle.ways.proofs.FourWays.{lowestOf, lowest-nothing}
 
--- two LRU numbers have in common what the use of a way sets or clears: B0, with B1 of ways 0 and 1, with B2 of ways 2 and 3
-pub record SameBits (n k w : ℕ) : Type 0 where
-  pub b0 : B0 n ≡ B0 k
-  pub b1 : w < 2 → B1 n ≡ B1 k
-  pub b2 : 2 ≤ w → B2 n ≡ B2 k
-
--- after a use of a way they have it in common for that way, and for every other for which they had it
+-- after a use of a way, two numbers have in common what a use of it sets or clears; and so for every other way for which they had it in common
 pub use-bits : (n k v : ℕ) (w : ℕ) → w < 4 → ((v ≡ w → ⊥) → SameBits n k v) → SameBits (lruAfter n w) (lruAfter k w) v
 unfolding lruAfter
 use-bits n k v =
@@ -29,7 +24,7 @@ use-bits n k v =
     (λ h. record { b0 = omega arith; b1 = λ l. let o = h (λ e. omega arith) .b1 l in omega arith; b2 = λ l. omega arith })
     (λ h. record { b0 = omega arith; b1 = λ l. let o = h (λ e. omega arith) .b1 l in omega arith; b2 = λ l. omega arith })
 
--- where they have it in common for each valid way of a set, the victim is the same
+-- where two numbers of a set have it in common for each valid way, the victim is the same
 module _ (valid : List Bool) (lru other : List ℕ) (s : ℕ) (bits : (w : ℕ) → w < 4 → validIn valid s w ≡ true → SameBits (getD lru s 0) (getD other s 0) w) where
   abbrev invalid : ℕ → Bool
   invalid w = not (validIn valid s w)

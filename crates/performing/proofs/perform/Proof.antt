@@ -162,12 +162,12 @@ returns-6 : tie.Need-returns-6
 unfolding callOf callDone stepBy
 returns-6 c =
     let c1 = c .before in
-    let c3 = c1 .before .before in
-    let c5 = c3 .before .before in
-    let c10 = c5 .before .before .before .before .before in
-    let a = c10 .args in
+    let c4 = c1 .before .before .before in
+    let c6 = c4 .before .before in
+    let c11 = c6 .before .before .before .before .before in
+    let a = c11 .args in
     let s = lentState (a .tags) (a .valid) (a .lru) (now (a .cd)) (now (a .nw)) (a .ram) (a .parity) (a .«data») in
-    rw (sym (c5 .scan .ensures) ∙ c3 .enum-told2 .given .1, c .number-only3 .ensures) (ap (λ (d : Directory). onDirectory s (outcome d 0 0 0)) (c1 .flush-in-place .ensures _ _ _))
+    rw (sym (c6 .scan .ensures) ∙ c4 .enum-told2 .given .1, c .number-only3 .ensures) (ap (λ (d : Directory). onDirectory s (outcome d 0 0 0)) (c1 .flush-in-place .ensures _ _ _))
 
 returns-7 : tie.Need-returns-7
 unfolding callOf callDone stepBy
