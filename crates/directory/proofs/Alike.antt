@@ -1,5 +1,5 @@
 -- Laws of alike directories (document 02, C-14): whatever a call asks of them has the same answer, and each step keeps them alike.
-use Prim.Native.Nat.{ℕ, _≤_, _<_}
+use Prim.Native.Nat.{ℕ, _<_}
 use mathlib.Core.Path.{_≡_, refl, sym, _∙_, ap}
 use mathlib.Core.Bool.{Bool, true, false, cond}
 use mathlib.Core.List.{List}
@@ -18,7 +18,7 @@ use Rattle.directory.specs.WellFormed.{Held, Same}
 use Rattle.directory.specs.Alike.{withLru, SameLines, Alike}
 use Rattle.laws.proofs.Tests.{by-test, same-or}
 use Rattle.ways.proofs.LruBits.{use-bits, victim-bits}
-use Rattle.directory.proofs.Laws.{reset-none, reset-limits, use-held, use-lru, use-lru-other, use-lru-below, use-sized, line-lru, line-sized, line-held, control-held, control-lru, control-sized, flush-none, flush-lru, flush-sized, snoop-held, snoop-lru, snoop-sized}
+use Rattle.directory.proofs.Laws.{reset-none, reset-limits, use-held, use-lru, use-lru-other, use-lru-below, use-sized, line-lru, line-sized, line-held, control-sized, flush-none, flush-lru, flush-sized, snoop-held, snoop-lru, snoop-sized}
 
 -- WHAT IS ASKED
 
@@ -44,7 +44,7 @@ module _ (d e : Directory) (a : Alike d e) where
 -- STEPS
 
 -- where no line is held
-pub none-alike : (d e : Directory) → SameLines d e → ((s w tag : ℕ) → s < 128 → w < 4 → Held d s w tag → ⊥) → Alike d e
+none-alike : (d e : Directory) → SameLines d e → ((s w tag : ℕ) → s < 128 → w < 4 → Held d s w tag → ⊥) → Alike d e
 none-alike d e z none = record { lines = z; bits = λ s w tag sl wl h. absurd (none s w tag sl wl h) }
 
 pub reset-alike : Alike afterReset afterReset

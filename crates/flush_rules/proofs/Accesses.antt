@@ -12,11 +12,10 @@ use Rattle.ways.specs.declared.ways.Found.the-variants.{At, Nothing}
 use Rattle.ways.specs.Address.{setOf, tagOf}
 use Rattle.ways.proofs.FourWays.{victim-below}
 use Rattle.directory.specs.declared.steps.Directory.{Directory}
-use Rattle.directory.specs.Steps.{lookupOf, victimOf}
+use Rattle.directory.specs.Steps.{lookupOf}
 use Rattle.directory.specs.Alike.{Alike}
 use Rattle.directory.proofs.Laws.{lookup-at}
 use Rattle.directory.proofs.Alike.{alike-lookup, alike-control, alike-victim, alike-number, use-alike, fill-alike, snoop-alike}
-use Rattle.memory.specs.Parity.{Memory}
 use Rattle.carried.specs.Carried.{Carried, due}
 use Rattle.doubleword.specs.declared.change.Change.{Change}
 use Rattle.doubleword.specs.declared.change.Change.the-variants.{Unchanged, Use, Fill}
@@ -26,7 +25,7 @@ use Rattle.reading.specs.Reading.{keptChange, readHit, readMiss, settled, readD
 use Rattle.writing.specs.Writing.{writeThrough, writeDone}
 use Rattle.refusal.specs.Call.{State, state}
 use Rattle.refusal.specs.Refusal.{statesNumberIn, statesNumberOf, carriedStatesNumberIn, carriedStatesNumber}
-use Rattle.access.specs.Access.{Progress, progress, thenRest, writeOne, next, allOf, UnderWay, underWay, snoopedBy, directoryAfter, readOne, readNext, landedAfter, readEach}
+use Rattle.access.specs.Access.{Progress, progress, thenRest, writeOne, next, allOf, UnderWay, underWay, snoopedBy, readOne, readNext, landedAfter, readEach}
 
 -- the unit with another directory
 abbrev pub withDirectory : Directory → State → State

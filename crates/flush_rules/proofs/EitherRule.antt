@@ -2,7 +2,7 @@
 -- two units differ in alike directories only.
 use Prim.Native.Nat.{ℕ}
 use mathlib.Core.Path.{_≡_, refl, sym, _∙_, ap}
-use mathlib.Core.Bool.{Bool, true, false, cond}
+use mathlib.Core.Bool.{Bool, false, cond}
 use mathlib.Core.List.{List, [], _∷_}
 use native.Mathlib.Omega.{arith}
 use lib.Dec.{eqb}
@@ -16,12 +16,11 @@ use Rattle.directory.specs.Steps.{stateNumberOf, afterReset, afterControl, cont
 use Rattle.directory.specs.Alike.{Alike}
 use Rattle.directory.proofs.Laws.{control-accepted, control-refused, snoop-accepted, snoop-refused}
 use Rattle.directory.proofs.Alike.{alike-lookup, alike-control, alike-number, reset-alike, control-alike, flush-alike, snoop-alike}
-use Rattle.memory.specs.Parity.{stored}
 use Rattle.carried.specs.Carried.{Carried}
 use Rattle.bus.specs.Groups.{groupCount}
 use Rattle.words.specs.Bytes.{valueOf}
 use Rattle.doubleword.specs.Doubleword.{doublewordsOf}
-use Rattle.refusal.specs.Call.{State, state, After, after, onDirectory, refused, nextState}
+use Rattle.refusal.specs.Call.{State, state, After, onDirectory, refused, nextState}
 use Rattle.access.specs.Access.{Progress, accepted, operandOf, underWay, readNumber, writeNumber, readAll, writeAll, readCall, writeCall}
 use Rattle.masters.specs.Masters.{externalWriteNumber, externalCall}
 use Rattle.views.specs.View.{viewNumberIn, viewIn}
@@ -30,7 +29,7 @@ use Rattle.diagnostics.proofs.Laws.{test-write-done, test-write-refused, test-r
 use Rattle.calls.specs.Calls.{Call, read, write, external, snoop, flush, control, view, reset, testWrite, testRead, stepBy, step, viewNumberOf, viewOf}
 use Rattle.calls.specs.Matches.{kindOf, plants}
 use Rattle.flush_rules.specs.FlushRules.{marksCleared, Answered, answered, answersBy, NeverPlants, EitherFlushRule}
-use Rattle.flush_rules.proofs.Accesses.{withDirectory, states-same, carried-same, ProgressAlike, each-alike, all-alike}
+use Rattle.flush_rules.proofs.Accesses.{withDirectory, states-same, carried-same, each-alike, all-alike}
 
 -- what a call leaves, with another directory
 abbrev leavesWith : Directory → After → After
