@@ -23,6 +23,7 @@ GROUPS: list[tuple[str, Callable[[], None]]] = [
     ("LRU updates, victims, four fills", vectors.lru_table),
     ("lowest invalid way", vectors.lowest_invalid_way),
     ("CD and NW", vectors.modes),
+    ("flushes", vectors.flushes),
     ("sizing tables 3-10/7-1 and 3-11/7-2", vectors.sizing_tables),
     ("flag sequences", vectors.flag_table),
     ("sizing examples", vectors.sizing_examples),
