@@ -40,6 +40,7 @@ GROUPS: list[tuple[str, Callable[[], None]]] = [
     ("random lists against the plain memory", random_lists.random_lists),
     ("random lists with test calls", random_lists.lists_with_test_calls),
     ("random lists under either flush rule", flush_rules.either_rule),
+    ("wrong flush rules", flush_rules.wrong_rules),
     ("altered carrying reads", altered.altered_models),
     ("refused calls", random_lists.refused_calls),
     ("call scripts", replays.replays),

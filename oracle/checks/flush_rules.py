@@ -7,7 +7,9 @@ Quoted sentences are C-14's unless document 01 is named.
 from collections import Counter
 from collections.abc import Callable
 from typing import Any
+from unittest.mock import patch
 
+from scripts.diagnostics import diagnostics as diagnostics_script
 from unit486_model import directory as steps
 from unit486_model.access import Result
 from unit486_model.directory import LINE_BYTES, LINES, LRU_LIMIT, SETS, WAY_BYTES, WAYS, Directory
@@ -25,13 +27,15 @@ from .unit_calls import (
     unit_of,
     valid_and_tags,
 )
-from .vectors import LRU_TABLE
+from .vectors import LRU_TABLE, flushes
 
 LISTS = 50
 # Mostly the pair that fills.
 PAIRS = (*[(False, False)] * 5, (True, False), (True, True), (False, True))
 
 Rule = Callable[[Directory], None]
+
+_flush, _fill = steps.flush, steps.fill
 
 
 def document_01(directory: Directory) -> None:
@@ -42,19 +46,55 @@ def document_01(directory: Directory) -> None:
 
 def _keeps_lines_of_set_0(directory: Directory) -> None:
     kept = directory.valid[:WAYS]
-    steps.flush(directory)
+    _flush(directory)
     directory.valid[:WAYS] = kept
 
 
 def _keeps_way_3(directory: Directory) -> None:
     kept = directory.valid[WAYS - 1 :: WAYS]
-    steps.flush(directory)
+    _flush(directory)
     directory.valid[WAYS - 1 :: WAYS] = kept
 
 
 def _leaves_numbers_above_7(directory: Directory) -> None:
-    steps.flush(directory)
+    _flush(directory)
     directory.lru[:] = [LRU_LIMIT + 1] * SETS
+
+
+def _keeps_the_first_number(directory: Directory) -> None:
+    kept = directory.lru[0]
+    _flush(directory)
+    directory.lru[0] = kept
+
+
+def _keeps_the_last_number(directory: Directory) -> None:
+    kept = directory.lru[-1]
+    _flush(directory)
+    directory.lru[-1] = kept
+
+
+def _clears_tags(directory: Directory) -> None:
+    _flush(directory)
+    directory.tags[:] = [0] * LINES
+
+
+# Those that a read or a write can tell from C-14's; the others show in test calls alone.
+SEEN_BY_ACCESSES = (_keeps_lines_of_set_0, _keeps_way_3, _leaves_numbers_above_7)
+WRONG = (
+    document_01,
+    _keeps_the_first_number,
+    _keeps_the_last_number,
+    _clears_tags,
+    *SEEN_BY_ACCESSES,
+)
+
+
+def _fill_without_use(directory: Directory, address: int) -> int:
+    set_index = steps.set_of(address)
+    kept = directory.lru[set_index]
+    way = _fill(directory, address)
+    directory.lru[set_index] = kept
+    return way
 
 
 class Differs(Mismatch):
@@ -65,7 +105,6 @@ class RuledList(RandomList):
     """A list from reset without test writes, with every pair of CD and NW. Its flushes follow a
     rule. What it gives and leaves is kept, to be compared with the same list under another."""
 
-    # Six lines of each set.
     ram_sizes = (6 * WAY_BYTES,)
     calls = 300
     shares = ((8, 3, 0.08), (40, 2, 0.05))
@@ -81,6 +120,12 @@ class RuledList(RandomList):
         # Valid marks and tags, and the sets whose LRU number the last flush left above 0.
         self.lines = valid_and_tags(self.unit.directory)
         self.left: set[int] = set()
+
+    def address(self) -> int:
+        """Mostly in the six lines of one set, so that it becomes full."""
+        if self.random.random() < 0.8:
+            return WAY_BYTES * self.random.randrange(6) + self.random.randrange(LINE_BYTES)
+        return super().address()
 
     def rare(self) -> Calls:
         return (*[self.flush] * 3, *[self.control] * 4, *super().rare())
@@ -121,7 +166,8 @@ class RuledList(RandomList):
 
 
 class PlantedList(RuledList):
-    """With test writes too, which the claim leaves out: C-14's disk "plants four lines of a set"."""
+    """With test writes too, which the claim leaves out: C-14's disk "plants four lines of a set by
+    test write"."""
 
     def rare(self) -> Calls:
         return (*[self.plant] * 4, *super().rare())
@@ -155,7 +201,8 @@ def _same_accesses(kind: type[RuledList], other: Rule) -> Counter[str]:
 
 def either_rule() -> None:
     """The claim on random lists. They flush LRU numbers above 0 and then replace lines of those
-    sets; a wrong rule, or test writes, show in what reads and writes give."""
+    sets; a wrong rule shows in what reads and writes give, and so does either rule where a valid
+    line need not have been used since the flush."""
     met = _same_accesses(RuledList, document_01)
     check("all else is the same", met["all else is the same"], LISTS)
     for kind in ("read", "write", "carrying read", "external", "view", "snoop", "control", "reset"):
@@ -163,16 +210,27 @@ def either_rule() -> None:
     for kind in ("CD = NW = 1", "LRU numbers flushed", "replaced where a flush left a number"):
         check(f"{kind} met", met[kind] > 50, True)
     check("LRU numbers differ", met["LRU numbers differ"] > 1000, True)
-    for rule in (_keeps_lines_of_set_0, _keeps_way_3, _leaves_numbers_above_7):
+    for rule in SEEN_BY_ACCESSES:
         told = tells(lambda: _same_accesses(RuledList, rule), Differs)
         check(f"{rule.__name__}: a list tells", told, True)
     told = tells(lambda: _same_accesses(PlantedList, document_01), Differs)
     check("with test writes a list tells", told, True)
+    with patch.object(steps, "fill", _fill_without_use):
+        told = tells(lambda: _same_accesses(RuledList, document_01), Differs)
+    check("with fills that are no uses a list tells", told, True)
+
+
+def wrong_rules() -> None:
+    """Each of them shows in the checks of a flush and in the script of test calls."""
+    for rule in WRONG:
+        with patch.object(steps, "flush", rule):
+            told = tells(flushes), tells(diagnostics_script)
+        check(f"{rule.__name__}: checks and script tell", told, (True, True))
 
 
 def first_victims() -> None:
-    """ "The LRU number read back and the line replaced differ from a real part's": those of document
-    01's rule, from each LRU number but 0. A real part's are LRU number 0 and its victim, way 0."""
+    """ "The LRU number read back and the line replaced differ from a real part's": document 01's
+    rule shows each LRU number. A real part's are 0 and its victim, way 0."""
     for lru, (_, victim, _, _) in LRU_TABLE.items():
         check(f"C-14's from {lru}", _first_victim(lru, steps.flush), (0, 0))
         check(f"document 01's from {lru}", _first_victim(lru, document_01), (lru, victim))

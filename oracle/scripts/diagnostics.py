@@ -343,8 +343,8 @@ def _order(script: Script) -> None:
 # --- C-14: the first victim after a flush
 
 # By LRU number: a set, and the tags of the lines whose reads bring it there from 0. A tag is its
-# line's way. Use of way 0 gives 3 + 4.B2, of way 1 gives 1 + 4.B2, of way 2 gives 4 + 2.B1, of way 3
-# gives 2.B1.
+# line's way. Use of way 0 gives 3 + 4.B2, of way 1 gives 1 + 4.B2, of way 2 gives 4 + 2.B1, and of
+# way 3 gives 2.B1.
 READS_BEFORE_FLUSH = {
     0: (64, (0, 1, 2, 3)),
     1: (0, (0, 1)),
@@ -359,8 +359,8 @@ READS_BEFORE_FLUSH = {
 
 def _diagnostic_sequence(script: Script) -> None:
     """C-14: "A diagnostic disk flushes, plants four lines of a set by test write and then misses in
-    that set", from each LRU number. "The data sheet zeroes the 128 LRU numbers on a flush", those of
-    the first and of the last set among them."""
+    that set", from each LRU number. "The data sheet zeroes the 128 LRU numbers on a flush", those
+    of the first and of the last set too."""
     script.new(ram=5 * WAY_BYTES, cd=False)
     for set_index, tags in READS_BEFORE_FLUSH.values():
         for tag in tags:
