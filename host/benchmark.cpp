@@ -154,11 +154,13 @@ void master_rows()
 
 void directory_rows()
 {
-    row("flush", done, each(each_line(), [](Side &side, auto unit, uint32_t address) {
+    const auto flush = [](Side &side, auto unit, uint32_t address) {
         side.directory.valid[address / UNIT486_LINE_BYTES] = true;
         unit.flush(side);
         return UNIT486_DONE;
-    }));
+    };
+    row("flush", done, each(each_line(), flush),
+        [](Side &side) { std::memset(side.directory.lru, 7, sizeof side.directory.lru); });
     row("reset", done, each(each_line(), [](Side &side, auto unit, uint32_t address) {
         side.directory.valid[address / UNIT486_LINE_BYTES] = true;
         unit.reset(side);

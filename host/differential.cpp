@@ -39,6 +39,7 @@ int main(int argc, char **argv)
     Series series(seed, coverage);
     series.large(200);
     series.test_limits();
+    series.first_victims();
     series.carried_limits();
     series.carrying();
     while (coverage.calls < calls) {

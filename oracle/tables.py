@@ -170,6 +170,7 @@ def _sums(directory: Directory) -> Row:
 
 
 def _flushed() -> Directory:
+    """Two sets with valid lines and LRU numbers above 0 before the flush, one of them the last."""
     directory = good_directory()
     directory.cd = directory.nw = False
     store_line(directory, 127, 3, 99)

@@ -27,8 +27,13 @@ uint32_t control(Directory &directory, bool cd, bool nw)
     return UNIT486_DONE;
 }
 
-// "A flush (FLUSH#, INVD and WBINVD alike) clears valid marks and nothing else (H)."
-void flush(Directory &directory) { std::memset(directory.valid, 0, sizeof directory.valid); }
+// "A flush (FLUSH#, INVD and WBINVD alike) clears valid marks"; document 02: "The data sheet zeroes the 128
+// LRU numbers on a flush as on reset."
+void flush(Directory &directory)
+{
+    std::memset(directory.valid, 0, sizeof directory.valid);
+    std::memset(directory.lru, 0, sizeof directory.lru);
+}
 
 uint32_t snoop(Directory &directory, uint32_t address)
 {

@@ -6,6 +6,7 @@
 #include <cstdio>
 
 #include "calls.h"
+#include "flushed.h"
 #include "planted.h"
 
 enum Condition {
@@ -48,6 +49,10 @@ enum Condition {
     external_write_dropped_planted_line,
     flush_of_planted_lines,
     refused_by_planted_tag,
+    flush_of_lru_numbers,
+    flush_of_first_and_last_lru,
+    flush_of_lru_above_7,
+    first_victim_after_flush,
     carried_none,
     carried_one_to_three,
     carried_four,
@@ -124,6 +129,10 @@ constexpr const char *condition_names[conditions] = {
     "external writes that dropped a planted line",
     "flushes and resets of planted lines",
     "calls that a tag planted twice refused (21)",
+    "flushes of an LRU number other than 0",
+    "flushes of those of the first and of the last set",
+    "flushes of an LRU number above 7",
+    "fills in a set of planted lines whose LRU number was flushed",
     "carrying reads of no write",
     "carrying reads of 1 to 3 writes",
     "carrying reads of 4 writes",
@@ -201,6 +210,7 @@ class Coverage {
 public:
     uint64_t calls = 0;
     Planted planted;
+    Flushed flushed;
 
     void note(Condition condition, uint64_t times = 1) { met[condition] += times; }
 
@@ -235,8 +245,9 @@ public:
         if (is_test(call))
             note_test(before, call);
         else
-            note_planted(before, call);
+            note_planted(before, call, side.directory);
         planted.follow(before, call, side.directory);
+        flushed.follow(before, call, side.directory);
     }
 
     // Prints the counts; whether all that can be met was met.
@@ -288,24 +299,41 @@ private:
         note(tag_planted_twice, call.mark && another_has_tag(before, call.set, call.way, call.tag));
     }
 
-    // Any other accepted call where it meets what was planted.
-    void note_planted(const unit486_directory &before, const Call &call)
+    // Any other accepted call where it meets what was planted, or flushes.
+    void note_planted(const unit486_directory &before, const Call &call, const unit486_directory &after)
     {
         const bool held = planted.holds(before, call.address);
         switch (call.kind) {
         case Kind::read:
-        case Kind::read_carrying:
-        case Kind::read_carrying_none: note(read_of_planted_line, held); break;
+        case Kind::read_carrying_none: note_first_victim(before, call, after); [[fallthrough]];
+        case Kind::read_carrying: note(read_of_planted_line, held); break;
         case Kind::write: note(write_of_planted_line, held); break;
         case Kind::view: note(view_of_planted_line, held); break;
         case Kind::snoop:
         case Kind::drop_line: note(snoop_dropped_planted_line, held && !before.nw); break;
         case Kind::external_write: note(external_write_dropped_planted_line, held && !before.nw); break;
-        case Kind::flush:
+        case Kind::flush: note_flush(before); [[fallthrough]];
         case Kind::reset:
         case Kind::reset_by_value: note(flush_of_planted_lines, planted.any()); break;
         default: break;
         }
+    }
+
+    void note_flush(const unit486_directory &before)
+    {
+        const uint8_t most = *std::max_element(before.lru, before.lru + UNIT486_SETS);
+        note(flush_of_lru_numbers, most != 0);
+        note(flush_of_first_and_last_lru, before.lru[0] != 0 && before.lru[UNIT486_SETS - 1] != 0);
+        note(flush_of_lru_above_7, most > 7);
+    }
+
+    // A line replaced in a set of four planted lines, by an LRU number that a flush zeroed.
+    void note_first_victim(const unit486_directory &before, const Call &call, const unit486_directory &after)
+    {
+        const unsigned set = baseline::set_of(call.address), first = baseline::line_index(set, 0);
+        const bool replaced =
+            !std::equal(before.tags + first, before.tags + first + UNIT486_WAYS, after.tags + first);
+        note(first_victim_after_flush, replaced && planted.fill_set(set) && flushed.at(set));
     }
 
     // The groups of cycles that records form, each ended by its flag 64.

@@ -25,6 +25,12 @@ public:
 
     bool at(size_t index) const { return lines[index]; }
 
+    bool fill_set(uint32_t set) const
+    {
+        const auto first = lines.begin() + set * UNIT486_WAYS;
+        return std::find(first, first + UNIT486_WAYS, false) == first + UNIT486_WAYS;
+    }
+
     bool any() const { return std::find(lines.begin(), lines.end(), true) != lines.end(); }
 
     // Whether a planted line of the address's set has the tag of another valid line there.

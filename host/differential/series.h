@@ -111,6 +111,17 @@ public:
             }
     }
 
+    // A diagnostic disk's flush, four lines of a set that it plants, and a miss there, from each LRU number
+    // and from some above 7. All sets have that number, so that one which a flush leaves would show.
+    void first_victims()
+    {
+        name = "first victims";
+        make_sides(10240);
+        for (const uint32_t lru : {0u, 1u, 2u, 3u, 4u, 5u, 6u, 7u, 8u, 255u})
+            for (const uint32_t set : {0u, 1u, 64u, 126u, 127u})
+                check_first_victim(lru, set);
+    }
+
     // Reads that carry writes on either side of every limit of 33, in each place of the list.
     void carried_limits()
     {
@@ -191,6 +202,7 @@ private:
         baseline::reset(side.directory);
         sides.library = sides.baseline;
         coverage.planted.forget();
+        coverage.flushed.forget();
     }
 
     // Most series cross from the last set into the first.
@@ -269,6 +281,7 @@ private:
             side.directory.lru[first / 4] = lru;
         });
         coverage.planted.forget_set(first / 4);
+        coverage.flushed.forget_set(first / 4);
     }
 
     void make_set(uint32_t at)
@@ -530,6 +543,34 @@ private:
         call.set = set, call.way = way, call.tag = tag;
         check(call);
         call.kind = Kind::test_read;
+        check(call);
+    }
+
+    void check_first_victim(uint32_t lru, uint32_t set)
+    {
+        sides.both([&](Side &side) { std::memset(side.directory.lru, lru, sizeof side.directory.lru); });
+        coverage.flushed.forget();
+        check(next_call(Kind::flush));
+        set_control(true, false);
+        for (uint32_t way = 0; way < UNIT486_WAYS; ++way)
+            check_line_of_set(Kind::test_write, set, way);
+        check_line_of_set(Kind::test_read, set, random.below(UNIT486_WAYS));
+        set_control(false, false);
+        Call miss = next_call(Kind::read);
+        miss.address = 4 * 2048 + set * 16 + random.below(16);
+        miss.width = 1, miss.pcd = false;
+        sides.both([](Side &side) { std::memset(side.answers.start(), UNIT486_KEN, UNIT486_ANSWERS); });
+        check(miss);
+        set_control(true, false);
+        for (uint32_t way = 0; way < UNIT486_WAYS; ++way)
+            check_line_of_set(Kind::test_read, set, way);
+    }
+
+    // A test call of the line that has its way for a tag.
+    void check_line_of_set(Kind kind, uint32_t set, uint32_t way)
+    {
+        Call call = next_call(kind);
+        call.set = set, call.way = way, call.tag = way, call.mark = true;
         check(call);
     }
 

@@ -157,7 +157,7 @@ static void card_writes_during_fill(Host &host)
 // where other bytes stand: reads there differ from RAM until the flush ends what was planted.
 static void cache_test(Host &host)
 {
-    constexpr uint32_t set = 127, way = 3, tag = 7, planted = (tag * UNIT486_SETS + set) * UNIT486_LINE_BYTES;
+    constexpr uint32_t set = 127, way = 2, tag = 7, planted = (tag * UNIT486_SETS + set) * UNIT486_LINE_BYTES;
     const uint8_t pattern[UNIT486_LINE_BYTES] = {0x55, 0xAA};
     expect("write to RAM, a miss: cycles", host.write(planted, 2, 0x6677).cycles, 1);
     expect_number("test write with CD = 0: number",
@@ -169,15 +169,20 @@ static void cache_test(Host &host)
     expect_number("test write: number",
         unit486_test_write(&host.directory, &host.lent, set, way, tag, true, pattern), UNIT486_DONE);
 
-    const unit486_test_line line = unit486_test_read(&host.directory, &host.lent, set, way);
+    unit486_test_line line = unit486_test_read(&host.directory, &host.lent, set, way);
     expect_number("test read: number", line.number, UNIT486_DONE);
     expect("  tag", line.tag, tag);
     expect("  valid mark", line.valid, 1);
     expect("  the bytes are those planted", std::memcmp(line.bytes, pattern, sizeof pattern) == 0, 1);
     expect("read of that line, a hit: value", host.read(planted, 2).value, 0xAA55);
+    line = unit486_test_read(&host.directory, &host.lent, set, way);
+    expect("  LRU number, B2 set by that use of way 2", line.lru, 4);
 
     unit486_flush(&host.directory);
-    expect("the same read after a flush: value, as in RAM", host.read(planted, 2).value, 0x6677);
+    line = unit486_test_read(&host.directory, &host.lent, set, way);
+    expect("test read after a flush: valid mark", line.valid, 0);
+    expect("  LRU number", line.lru, 0);
+    expect("read of that line: value, as in RAM", host.read(planted, 2).value, 0x6677);
 }
 
 int main(int argc, char **)

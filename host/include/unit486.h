@@ -1,5 +1,5 @@
 /* The 486 cache and bus unit, for a host in C (C11) or C++ (C++17). The rules are document 01's; those of
-   the test calls and of carried writes are document 02's, requests C-11 and C-12.
+   the test calls, of carried writes and of a flush are document 02's, requests C-11, C-12 and C-14.
 
    Link with target/staticlib/libhost.a, which `rt staticlib host` writes for x86-64; a host that calls
    unit486_run links target/staticlib/libprogram.a too, which `rt staticlib program` writes. The unit
@@ -79,7 +79,7 @@ extern "C" {
 #endif
 
 /* Of this header's layout and calls. */
-#define UNIT486_VERSION 7
+#define UNIT486_VERSION 8
 
 enum {
     UNIT486_SETS = 128,
@@ -251,8 +251,8 @@ uint32_t unit486_external_write_in_place(
 uint32_t unit486_snoop_in_place(
     const uint32_t *tags, bool *valid, const uint8_t *lru, bool nw, uint32_t address);
 
-/* A flush: clears the 512 valid marks and nothing else. Never refused. */
-void unit486_flush_in_place(bool *valid);
+/* A flush: clears the 512 valid marks and zeroes the 128 LRU numbers; tags, CD and NW stay. Never refused. */
+void unit486_flush_in_place(bool *valid, uint8_t *lru);
 
 /* CD and NW as given, or 9. With NW = 1 a snoop drops nothing, so that held lines may go stale: that reads
    agree with memory is not claimed then. */
@@ -370,7 +370,7 @@ static inline uint32_t unit486_snoop(unit486_directory *directory, uint32_t addr
 
 static inline void unit486_flush(unit486_directory *directory)
 {
-    unit486_flush_in_place(directory->valid);
+    unit486_flush_in_place(directory->valid, directory->lru);
 }
 
 static inline uint32_t unit486_control(unit486_directory *directory, bool cd, bool nw)

@@ -14,7 +14,7 @@ from unit486_model.directory import set_of
 
 from . import carried
 from .random_lists import LISTS, Disagreement, RandomList, run_lists
-from .unit_calls import Mismatch, check
+from .unit_calls import check, tells
 
 _due, _put, _spoiled = Reading.due, Reading.put, Reading.spoiled
 _fill, _read_doubleword = access._fill, access._read_doubleword
@@ -102,18 +102,10 @@ ALTERED: list[tuple[Any, str, Callable[..., Any], bool]] = [
 ]
 
 
-def _tells(checks: Callable[[], object], kind: type[Mismatch] = Mismatch) -> bool:
-    try:
-        checks()
-    except kind:
-        return True
-    return False
-
-
 def altered_models() -> None:
     for owner, name, altered, seen in ALTERED:
         with patch.object(owner, name, altered):
-            told = _tells(carried.readings), _tells(carried_script)
-            lists = seen and _tells(lambda: run_lists(RandomList, LISTS), Disagreement)
+            told = tells(carried.readings), tells(carried_script)
+            lists = seen and tells(lambda: run_lists(RandomList, LISTS), Disagreement)
         check(f"{altered.__name__}: readings and script tell", told, (True, True))
         check(f"{altered.__name__}: lists tell", lists, seen)

@@ -24,6 +24,7 @@ from .unit_calls import (
     read,
     read_carrying,
     snapshot,
+    tells,
     test_read,
     test_write,
     unit_of,
@@ -53,13 +54,15 @@ class Disagreement(Mismatch):
 class RandomList:
     """A list of random calls from reset, each compared with the plain memory."""
 
+    ram_sizes = RAM_SIZES
+    calls = CALLS
     # How often a read and a carrying read are drawn for each write, and the share of the rare
     # calls. In some lists reads prevail, so that sets become full and lines are replaced.
     shares = ((3, 3, 0.1), (30, 3, 0.02))
 
     def __init__(self, seed: int) -> None:
         self.random = random.Random(seed)
-        ram = bytearray(self.random.randbytes(self.random.choice(RAM_SIZES)))
+        ram = bytearray(self.random.randbytes(self.random.choice(self.ram_sizes)))
         parity = memory.parity_for(ram)
         for index in range(len(parity)):
             parity[index] |= self.random.randrange(16) << 4
@@ -108,10 +111,13 @@ class RandomList:
         accesses = (*[self.read] * reads, *[self.read_carrying] * carrying, self.write)
         calls = (*accesses, self.external, self.view)
         self.control()
-        for _ in range(CALLS):
+        for _ in range(self.calls):
             self.random.choice(self.rare() if self.random.random() < rarity else calls)()
-            self.agree("RAM", self.unit.ram, self.plain.bytes_held)
+            self.after_call()
         check("parity agrees", memory.parity_agrees(self.unit.ram, self.unit.parity), True)
+
+    def after_call(self) -> None:
+        self.agree("RAM", self.unit.ram, self.plain.bytes_held)
 
     def rare(self) -> Calls:
         return self.snoop, self.flush, self.control, self.reset
@@ -338,11 +344,8 @@ def lists_with_test_calls() -> None:
     check("21 met", met["number of read differs while suspended"] > 50, True)
     check("a new memory needed", met["RAM not the old memory's"] > 10, True)
     for altered in (NeverSuspended, NotBegunAnew):
-        try:
-            run_lists(altered, LISTS)
-        except Disagreement:
-            continue
-        raise Mismatch(f"{altered.__name__}: no list tells")
+        told = tells(lambda: run_lists(altered, LISTS), Disagreement)
+        check(f"{altered.__name__}: a list tells", told, True)
 
 
 def random_lists() -> None:

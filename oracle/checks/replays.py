@@ -45,6 +45,7 @@ CONDITIONS = (
     "fills dropped",
     "lines replaced",
     "lines snooped",
+    "LRU numbers flushed",
     "wrong parity",
     "views of held lines",
     "views of RAM",

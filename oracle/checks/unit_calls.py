@@ -39,6 +39,15 @@ def check(what: str, got: Any, expected: Any) -> None:
         raise Mismatch(f"{place}: {what}: got {got!r}, expected {expected!r}")
 
 
+def tells(checks: Callable[[], object], kind: type[Mismatch] = Mismatch) -> bool:
+    """Whether the checks end with a mismatch."""
+    try:
+        checks()
+    except kind:
+        return True
+    return False
+
+
 def run_script(main: Callable[[list[str]], int]) -> int:
     """A mismatch ends a script with one line and 1."""
     try:

@@ -6,7 +6,7 @@ from unit486_model import access, bus, events, memory
 from unit486_model import directory as steps
 from unit486_model.access import Result
 from unit486_model.bus import ANSWERS, BS8, BS16, GROUP, KEN, WIDTHS
-from unit486_model.directory import WAYS
+from unit486_model.directory import LINES, SETS, TAG_LIMIT, WAYS, Directory
 
 from .unit_calls import (
     NO_KEN,
@@ -101,12 +101,25 @@ def _mode_of_a_held_line(cd: bool, nw: bool, through: bool, drops: bool) -> None
     check("write hit in the array", unit.data[0], 250)
     check("write miss", write(unit, 64, 1, 250).cycles, 1)
     check("write miss in RAM", (unit.ram[64], held(unit, 64)), (250, None))
+    # "Use of way 0 sets B0 and B1".
+    check("LRU number", unit.directory.lru[0], 3)
     flushed = copy.deepcopy(unit)
     access.flush(flushed.directory)
-    check("flush", held(flushed, 0), None)
-    check("flush leaves the rest", flushed.directory.lru, unit.directory.lru)
+    check("flush", (held(flushed, 0), flushed.directory.lru[0]), (None, 0))
     access.snoop(unit.directory, 15)
     check("snoop drops", held(unit, 0) is None, drops)
+
+
+def flushes() -> None:
+    """C-14: "The data sheet zeroes the 128 LRU numbers on a flush as on reset". Every set at once,
+    from each LRU number and from some above 7, in each mode; tags, CD and NW stay."""
+    tags = [TAG_LIMIT - line for line in range(LINES)]
+    for cd, nw in MODES:
+        for lru in (*LRU_TABLE, 8, 255):
+            given = Directory(list(tags), [True] * LINES, [lru] * SETS, bool(cd), bool(nw))
+            check("flush", access.flush(given), Result(0))
+            flushed = Directory(tags, [False] * LINES, [0] * SETS, bool(cd), bool(nw))
+            check(f"flushed from {lru}", given, flushed)
 
 
 # --- sizing

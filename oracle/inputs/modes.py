@@ -3,6 +3,7 @@
 from collections.abc import Iterator
 
 from unit486_model.access import Result
+from unit486_model.directory import SETS
 
 from checks.unit_calls import check
 from checks.vectors import MODES
@@ -149,7 +150,7 @@ def reset_file() -> EventFile:
         check("RAM's", file.read(HELD, 4), Result(0, HELD, 1))
         check("snoop", file.snoop(HELD), DONE)
         check("write through", file.write(HELD, 1, 0x40), Result(0, 0, 1))
-    # LRU numbers are 0 again, which a flush would have left.
+    # LRU numbers are 0 again, as a flush leaves them too.
     file.control(False, False)
     for tag in range(3):
         file.read(HELD + 2048 * tag, 4)
@@ -160,7 +161,7 @@ def reset_file() -> EventFile:
 
 
 def flush_file() -> EventFile:
-    """A flush drops every line, in each mode, and keeps mode and LRU numbers."""
+    """A flush drops every line and zeroes the LRU numbers, in each mode, and keeps the mode."""
     file = EventFile("modes-flush")
     for pair in ((0, 0), (1, 0), (1, 1)):
         file.control(False, False)
@@ -169,7 +170,9 @@ def flush_file() -> EventFile:
         control(file, pair)
         for address in range(0, 65_536, 2064):
             check("hit", file.read(address, 4), DONE)
+        check("numbers of sets in use", file.unit.directory.lru[:32], [3] * 32)
         check("flush", file.flush(), DONE)
+        check("all numbers", file.unit.directory.lru, [0] * SETS)
         for address in range(0, 65_536, 4128):
             check("miss", file.read(address, 4).cycles, 4 if MODES[pair][0] else 1)
         file.flush()

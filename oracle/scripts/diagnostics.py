@@ -1,11 +1,11 @@
-"""Test writes and test reads: lines planted and read back, what other calls make of them, and the
-numbers 3, 31 and 32."""
+"""Test writes and test reads: lines planted and read back, what other calls make of them, the
+numbers 3, 31 and 32, and the first victim after a flush."""
 
 from itertools import combinations, product
 
 from unit486_model.access import Result
 from unit486_model.bus import BS8
-from unit486_model.directory import LRU_LIMIT, SETS, TAG_LIMIT, WAYS
+from unit486_model.directory import LINE_BYTES, LRU_LIMIT, SETS, TAG_LIMIT, WAY_BYTES, WAYS
 from unit486_model.events import NUMBER_LIMIT
 from unit486_model.refusal import DATA_BYTES
 
@@ -33,10 +33,10 @@ def diagnostics() -> Script:
     _tags_twice(script)
     _lru_numbers(script)
     _states_shown(script)
-    _diagnostic_sequence(script)
     _modes(script)
     _limits(script)
     _order(script)
+    _diagnostic_sequence(script)
     return script
 
 
@@ -264,28 +264,6 @@ def _states_shown(script: Script) -> None:
     check("21", script.snoop(0x90), Result(21))
 
 
-def _diagnostic_sequence(script: Script) -> None:
-    """Flush, four lines planted, a miss. Document 01: "A flush ... clears valid marks and nothing
-    else (H)", so the LRU number read back is that of before the flush, and names the victim."""
-    script.new(ram=0x2850, cd=False)
-    # The last use is that of way 1: B0 set, B1 clear, B2 as way 2 left it, set.
-    for address in (FIRST, SECOND, THIRD, SECOND):
-        script.read(address, 4)
-    check("CD", script.control(True, False), Result(0))
-    check("flush", script.flush(), Result(0))
-    ram = bytes(script.unit.ram[FIRST : FIRST + 16])
-    _shows(script, 4, 0, 0, 0, False, 5, ram)
-    planted = [_plants(script, 4, way, way) for way in range(WAYS)]
-    _shows(script, 4, 3, 0, 3, True, 5, planted[3])
-    check("CD = 0", script.control(False, False), Result(0))
-    check("a miss", script.read(0x2040, 4).cycles, 4)
-    check("B0 = 1 takes way 2 + B2", script.held(0x2040), 3)
-    check("CD again", script.control(True, False), Result(0))
-    _shows(script, 4, 3, 0, 4, True, 0, bytes(script.unit.ram[0x2040:0x2050]))
-    for way in range(3):
-        _shows(script, 4, way, 0, way, True, 0, planted[way])
-
-
 # --- numbers
 
 
@@ -360,3 +338,62 @@ def _order(script: Script) -> None:
     _turned_away(script, 0, 0, TAG_LIMIT + 1, 31)
     script.mode(True, True)
     _turned_away(script, 0, 0, TAG_LIMIT + 1, 32)
+
+
+# --- C-14: the first victim after a flush
+
+# By LRU number: a set, and the tags of the lines whose reads bring it there from 0. A tag is its
+# line's way. Use of way 0 gives 3 + 4.B2, of way 1 gives 1 + 4.B2, of way 2 gives 4 + 2.B1, and of
+# way 3 gives 2.B1.
+READS_BEFORE_FLUSH = {
+    0: (64, (0, 1, 2, 3)),
+    1: (0, (0, 1)),
+    2: (SETS - 1, (0, 1, 0, 2, 3)),
+    3: (1, (0,)),
+    4: (63, (0, 1, 2)),
+    5: (SETS - 2, (0, 1, 2, 1)),
+    6: (65, (0, 1, 0, 2)),
+    7: (4, (0, 1, 2, 0)),
+}
+
+
+def _diagnostic_sequence(script: Script) -> None:
+    """C-14: "A diagnostic disk flushes, plants four lines of a set by test write and then misses in
+    that set", from each LRU number. "The data sheet zeroes the 128 LRU numbers on a flush", those
+    of the first and of the last set too."""
+    script.new(ram=5 * WAY_BYTES, cd=False)
+    for set_index, tags in READS_BEFORE_FLUSH.values():
+        for tag in tags:
+            script.read(_address_of(tag, set_index), 4)
+    check("CD", script.control(True, False), Result(0))
+    for lru, (set_index, _) in READS_BEFORE_FLUSH.items():
+        check(f"LRU number of {set_index}", script.test_read(set_index, 0).lru, lru)
+    check("flush", script.flush(), Result(0))
+    for set_index, tags in READS_BEFORE_FLUSH.values():
+        # The tag and the bytes of the last way that was filled stay.
+        tag = max(tags)
+        _shows(script, set_index, tag, 0, tag, False, 0, _ram_line(script, tag, set_index))
+    for set_index, _ in READS_BEFORE_FLUSH.values():
+        _first_victim(script, set_index)
+
+
+def _first_victim(script: Script, set_index: int) -> None:
+    """Four lines planted in a set whose LRU number is 0, and a miss: "B0 = 0 takes way B1", and the
+    use of way 0 "sets B0 and B1"."""
+    planted = [_plants(script, set_index, way, way) for way in range(WAYS)]
+    _shows(script, set_index, 3, 0, 3, True, 0, planted[3])
+    check("CD = 0", script.control(False, False), Result(0))
+    check("a miss", script.read(_address_of(4, set_index), 4).cycles, 4)
+    check("CD = 1", script.control(True, False), Result(0))
+    _shows(script, set_index, 0, 0, 4, True, 3, _ram_line(script, 4, set_index))
+    for way in range(1, WAYS):
+        _shows(script, set_index, way, 0, way, True, 3, planted[way])
+
+
+def _address_of(tag: int, set_index: int) -> int:
+    return tag * WAY_BYTES + set_index * LINE_BYTES
+
+
+def _ram_line(script: Script, tag: int, set_index: int) -> bytes:
+    address = _address_of(tag, set_index)
+    return bytes(script.unit.ram[address : address + LINE_BYTES])

@@ -26,6 +26,7 @@ def states() -> Script:
     _order_in_a_set(script)
     _one_line_one_set(script)
     _lines_beyond_ram(script)
+    _ended_by_reset(script)
     return script
 
 
@@ -51,7 +52,8 @@ def _refused(script: Script, result: Result, number: int, before: bytes) -> None
 
 
 def _every_call(script: Script) -> None:
-    """Reads, writes, external writes and snoops, in each mode; not flushes, control or reset."""
+    """Reads, writes, external writes and snoops, in each mode; not flushes, control or reset. A
+    flush ends all three, 23 by its LRU numbers of 0."""
     for number, (cd, nw) in product(FAULTS, product((False, True), repeat=2)):
         script.new(ram=RAM_BYTES, cd=cd, nw=nw)
         script.store_line(5, 0, 0)
@@ -65,7 +67,7 @@ def _every_call(script: Script) -> None:
         check("another set", script.read(0x60, 4).number, 0)
         check("control", script.control(True, False), Result(0))
         check("flush", script.flush(), Result(0))
-        check("then", script.snoop(0x50).number, number if number == 23 else 0)
+        check("ended", script.snoop(0x50), Result(0))
         check("reset", script.reset(), Result(0))
         check("at last", script.read(0x50, 4).number, 0)
 
@@ -150,3 +152,12 @@ def _lines_beyond_ram(script: Script) -> None:
         check("gone", script.held(TAG_LIMIT * 2048), None)
         check("another set's", script.snoop(TAG_LIMIT * 2048 + 16), Result(0))
         check("RAM's line", script.directory.valid[line_index(1, 0)], False)
+
+
+def _ended_by_reset(script: Script) -> None:
+    for number, fault in FAULTS.items():
+        script.new(ram=32, cd=False)
+        fault(script, 1)
+        check("number", script.read(0x10, 4), Result(number))
+        check("reset", script.reset(), Result(0))
+        check("ended", script.read(0x10, 4).number, 0)

@@ -212,6 +212,7 @@ class Script:
 
     def _call(self, line: str) -> Result:
         before = valid_and_tags(self.directory)
+        self.met["LRU numbers flushed"] += line == "F" and any(self.directory.lru)
         result, row = self.script_unit.run_line(line)
         assert result is not None, line
         self.met += self._planted_lines.after_call(self.unit, line, result)

@@ -131,8 +131,11 @@ def control(directory: Directory, cd: bool, nw: bool) -> None:
 
 
 def flush(directory: Directory) -> None:
-    """Rule: "A flush (FLUSH#, INVD and WBINVD alike) clears valid marks and nothing else (H)"."""
+    """Rule: "A flush (FLUSH#, INVD and WBINVD alike) clears valid marks". C-14: "The data sheet
+    zeroes the 128 LRU numbers on a flush as on reset. This replaces our flush rule in the
+    directory section"; tags, CD and NW stay."""
     directory.valid[:] = [False] * LINES
+    directory.lru[:] = [0] * SETS
 
 
 def invalidate(directory: Directory, address: int) -> None:
