@@ -46,6 +46,7 @@ module _ (d e : Directory) (a : Alike d e) where
 
 -- DIRECTORIES
 
+-- a doubleword's change, and the snoops of writes that landed
 change-alike : (d e : Directory) → Alike d e → (line : ℕ) (change : Change) → BelowFour change → Alike (changed d line change) (changed e line change)
 unfolding changed
 change-alike d e a line Unchanged b = a
@@ -68,6 +69,7 @@ then-alike here p q r = record { directory = r .directory; same = ap (thenRest h
 
 -- A READ
 
+-- a read under way with another directory
 abbrev otherUnit : Directory → UnderWay → UnderWay
 otherUnit e u = underWay (withDirectory e (u .unit)) (u .writes) (u .cycle)
 
@@ -81,6 +83,7 @@ module _ (pcd : Bool) (u : UnderWay) (w : Doubleword) where
   abbrev here : Done
   here = readOne pcd u w
 
+  -- its change names a way below 4
   found-below : (mayFill : Bool) (victim : ℕ) → victim < 4 → (f : Found) → lookupOf d (w .line) ≡ f →
       BelowFour (readDone f victim mayFill (u .unit .memory) (u .writes) (u .cycle) (u .unit .array) w .change)
   unfolding readDone readHit settled
@@ -92,6 +95,7 @@ module _ (pcd : Bool) (u : UnderWay) (w : Doubleword) where
   read-below = found-below _ _ (victim-below _ _ _) (lookupOf d (w .line)) refl
 
   module _ (e : Directory) (a : Alike d e) where
+    -- either unit's doubleword finds, brings and asks for the same, the victim after the snoops of what landed
     one-same : readOne pcd (otherUnit e u) w ≡ here
     unfolding readOne
     one-same =
@@ -104,6 +108,7 @@ module _ (pcd : Bool) (u : UnderWay) (w : Doubleword) where
         let landed = snooped-alike (due (u .cycle + length (here .records)) (u .writes)) d e a in
         change-alike _ _ landed (w .line) (here .change) read-below
 
+-- all its doublewords, and what is left of the writes after them
 pub each-alike : (pcd : Bool) (ws : List Doubleword) (u : UnderWay) (e : Directory) → Alike (u .unit .directory) e → ProgressAlike (readEach pcd u ws) (readEach pcd (otherUnit e u) ws)
 unfolding readEach landedAfter
 each-alike pcd [] u e a = record { directory = snoopedBy (u .writes) e; same = refl; alike = snooped-alike (u .writes) _ e a }
@@ -119,6 +124,7 @@ module _ (operand : List ℕ) (s : State) (w : Doubleword) where
   abbrev given : Directory
   given = s .directory
 
+  -- likewise
   write-found-below : (stays : Bool) (f : Found) → lookupOf given (w .line) ≡ f → BelowFour (writeDone f stays (s .memory) (s .array) operand w .change)
   unfolding writeDone writeThrough
   write-found-below stays (At way) q =

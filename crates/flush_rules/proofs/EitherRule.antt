@@ -156,6 +156,7 @@ module _ (s : State) (e : Directory) (a : Alike (s .directory) e) where
   unfolding stepBy marksCleared
   flush-call-alike = record { directory = marksCleared e; same = refl; alike = flush-alike d e a }
 
+  -- every call but an accepted test write
   call-alike : (c : Call) → plants (kindOf c) (step s c .outcome .number) ≡ false → AfterAlike (step s c) (stepBy marksCleared t c)
   unfolding stepBy
   call-alike (read address width pcd answers log ws) n = read-alike address width pcd answers log ws
