@@ -10,6 +10,7 @@ pub use cycle::moved_lanes;
 pub use record::flags_of;
 pub use record::put_record;
 pub use sizes::ANSWERS;
+pub use sizes::GROUPS;
 pub use sizes::GROUP_SIZE;
 pub use sizes::HIGHEST_ANSWER;
 pub use sizes::LOG_WORDS;

@@ -5,8 +5,8 @@ ghost use Rattle.bus.specs.Groups.{badWidth};
 // The answers that serve a doubleword.
 pub const GROUP_SIZE: usize = 16;
 
-// The groups of answers: of the lower doubleword and of the upper one.
-const GROUPS: usize = 2;
+// The groups of answers: one for each doubleword that an access can touch.
+pub const GROUPS: usize = 3;
 
 // The board's answers for an access.
 pub const ANSWERS: usize = GROUP_SIZE * GROUPS;
@@ -21,5 +21,5 @@ pub const LOG_WORDS: usize = 3 * ANSWERS;
 pub fn bad_width(width: u32) -> bool
     ensures { λ r. ⌜ r ≡ badWidth width ⌝ }
 {
-    (width != 1) & (width != 2) & (width != 4)
+    (width != 1) & (width != 2) & (width != 4) & (width != 8)
 }
