@@ -89,10 +89,10 @@ module _ (d : Directory) (m : Memory) (array : List ℕ) (address width : ℕ) (
         arrayLength = l .1;
         served = r .served;
         records = r .records;
-        fits = omega (arith, r .four);
+        fits = r .fits;
         last = omega arith;
         made = omega arith;
-        operands = omega (arith, r .four);
+        operands = r .within;
       }
 
   module _ (pcd : Bool) where

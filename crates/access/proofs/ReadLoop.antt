@@ -11,7 +11,7 @@ use Rattle.directory.specs.declared.steps.Directory.{Directory}
 use Rattle.words.specs.Bytes.{valueOf}
 use Rattle.words.proofs.Numbers.{value-append}
 use Rattle.memory.specs.Parity.{Memory}
-use Rattle.bus.specs.Groups.{groupCount}
+use Rattle.bus.specs.Groups.{groupCount, widest}
 use Rattle.bus.specs.Record.{logged}
 use Rattle.doubleword.specs.declared.change.Change.{Change}
 use Rattle.doubleword.specs.declared.cursor.AccessCursor.{AccessCursor}
@@ -83,19 +83,19 @@ module _ {rest p : Progress} {log₀ : List ℕ} {place cycles : ℕ} {log : Lis
       ∙ sym (ap (λ (q : Progress). value + valueOf (q .bytes) * 256 ^ place) e)
       ∙ g .sums
 
--- a number of at most four bytes fits 32 bits
-four-bytes : (place n : ℕ) → place ≤ 4 → n < 256 ^ place → n < 4294967296
-four-bytes place n h l = lt-of-lt-of-le l (pow-le-pow-right {n = 256} (omega arith) h)
+-- a number of fewer bytes fits the widest value
+widest-fits : (place n : ℕ) → place ≤ widest → n < 256 ^ place → n < 256 ^ widest
+widest-fits place n h l = lt-of-lt-of-le l (pow-le-pow-right {n = 256} (omega arith) h)
 
 -- so does the number of the bytes read so far
-pub number-fits : (cursor : AccessCursor) (value part : ℕ) → 0 < cursor .left → cursor .place + cursor .left ≤ 4 → value < 256 ^ cursor .place → part < 256 ^ countOf cursor →
-    (cursor .place ≤ 3) × (value + part * 256 ^ cursor .place < 4294967296)
+pub number-fits : (cursor : AccessCursor) (value part : ℕ) → 0 < cursor .left → cursor .place + cursor .left ≤ widest → value < 256 ^ cursor .place → part < 256 ^ countOf cursor →
+    (cursor .place < widest) × (value + part * 256 ^ cursor .place < 256 ^ widest)
 number-fits cursor value part some operands h k = (
   omega arith,
-  four-bytes (cursor .place + countOf cursor) _ (room (cursor .place) (cursor .left) _ operands) (part-below value part (cursor .place) (countOf cursor) h k),
+  widest-fits (cursor .place + countOf cursor) _ (room (cursor .place) (cursor .left) _ operands) (part-below value part (cursor .place) (countOf cursor) h k),
 )
   where
-    room : (place left r : ℕ) → place + left ≤ 4 → place + min left r ≤ 4
+    room : (place left r : ℕ) → place + left ≤ widest → place + min left r ≤ widest
     room place left r h = omega arith
 
 -- the loop of a read that carries nothing, with the lengths of its buffers
@@ -120,7 +120,7 @@ module _ {pcd : Bool} {xs : List ℕ} {p : Progress} {log₀ array₀ : List ℕ
 
   module _ {change : Change} {part n : ℕ} {array′ log′ : List ℕ} (k : Reads done (countOf cursor) (cursor .cycles) log change part n array′ log′) where
     -- the number of the bytes read so far fits
-    pub part-fits : (cursor .place ≤ 3) × (value + part * 256 ^ cursor .place < 4294967296)
+    pub part-fits : (cursor .place < widest) × (value + part * 256 ^ cursor .place < 256 ^ widest)
     part-fits = number-fits cursor value part some (g .needs .operands) (g .reading .below) (k .fits)
 
     -- the state after the doubleword

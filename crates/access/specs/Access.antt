@@ -11,7 +11,7 @@ use Rattle.directory.specs.Steps.{lookupOf, victimOf, afterSnoop}
 use Rattle.words.specs.Bytes.{valueOf, bytesOf}
 use Rattle.carried.specs.Carried.{Carried, due, later, landed}
 use Rattle.bus.specs.Record.{Record, logged}
-use Rattle.bus.specs.Groups.{groupCount}
+use Rattle.bus.specs.Groups.{groupCount, widest}
 use Rattle.doubleword.specs.Doubleword.{Doubleword, doublewordsOf, changed, Done}
 use Rattle.reading.specs.Reading.{readMiss, readDone}
 use Rattle.writing.specs.Writing.{writeDone}
@@ -117,9 +117,9 @@ writeNumber s address width value answers log =
 unfoldable pub readAll : State → ℕ → ℕ → Bool → List ℕ → List Carried → Progress
 readAll s address width pcd answers writes = readEach pcd (underWay s writes 0) (doublewordsOf groupCount answers address width 0)
 
--- "little-endian": the four bytes of a value, of which a write moves as many as its width.
+-- "little-endian": the bytes of a value, of which a write moves as many as its width.
 abbrev pub operandOf : ℕ → List ℕ
-operandOf value = bytesOf 4 value
+operandOf value = bytesOf widest value
 
 -- All doublewords of an accepted write.
 unfoldable pub writeAll : State → ℕ → ℕ → ℕ → List ℕ → Progress

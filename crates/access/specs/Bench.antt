@@ -1,5 +1,5 @@
 -- Document 01, 'Bench table († marked)': the † rows, of the rules as a group. `proofs/Bench.antt` proves them.
-use Prim.Native.Nat.{ℕ, _*_}
+use Prim.Native.Nat.{ℕ, _*_, _-_}
 use mathlib.Core.Path.{_≡_}
 use mathlib.Core.Bool.{false}
 use mathlib.Core.List.{List, [], _∷_}
@@ -18,7 +18,7 @@ use Rattle.access.specs.Access.{readCall, writeCall}
 abbrev pub enabled : ℕ → ℕ → State
 enabled ram parity = state (afterControl afterReset false false) (memory (replicate ram 0) (replicate parity 0)) (replicate dataSize 0)
 
--- The same answer throughout, and a log of 96 zero words.
+-- The same answer throughout, and a log of zero words that is just long enough.
 abbrev pub always : ℕ → List ℕ
 always answer = replicate answerCount answer
 
@@ -75,7 +75,7 @@ pub record BenchTable : Type 0 where
   -- "A sixth at 2800: way 2."
   pub sixth-way : wayAfter 6 0x2800 ≡ At 2
   -- "KEN# first only: nothing held."
-  pub ken-first-only : benchRead 0 4 (1 ∷ replicate 31 0) .outcome .directory ≡ enabled 32 8 .directory
+  pub ken-first-only : benchRead 0 4 (1 ∷ replicate (answerCount - 1) 0) .outcome .directory ≡ enabled 32 8 .directory
   -- "Width 3: 4."
   pub width-3-read : benchRead 0 3 (always 1) .outcome .number ≡ 4
   pub width-3-written : benchWrite 0 3 1 (always 1) .outcome .number ≡ 4

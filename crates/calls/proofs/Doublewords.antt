@@ -80,15 +80,15 @@ doublewords-proper (suc g) xs a (suc n) place size l b i z = (
     aligned = omega arith;
     within = record { some = omega arith; lanes = omega arith; line = omega arith };
     inside = omega arith;
-    enough = rw (length-take 16 xs) (omega arith);
+    enough = rw (length-take groupSize xs) (omega arith);
   },
-  doublewords-proper g (drop 16 xs) (a + min (suc n) (4 - a % 4)) (suc n - min (suc n) (4 - a % 4)) (place + min (suc n) (4 - a % 4)) size (rw (length-drop 16 xs) (omega arith)) (omega arith) (omega arith) z,
+  doublewords-proper g (drop groupSize xs) (a + min (suc n) (4 - a % 4)) (suc n - min (suc n) (4 - a % 4)) (place + min (suc n) (4 - a % 4)) size (rw (length-drop groupSize xs) (omega arith)) (omega arith) (omega arith) z,
 )
 
 -- those of an accepted access
 pub access-proper : (size a w : ℕ) (xs : List ℕ) (log : ℕ) → GoodArguments size a w (length xs) log → size % 16 ≡ 0 → EachProper size (doublewordsOf groupCount xs a w 0)
 access-proper size a w xs log k whole =
-    doublewords-proper groupCount xs a w 0 size (k .served) (omega (arith, k .four)) (k .inside) whole
+    doublewords-proper groupCount xs a w 0 size (k .served) (k .fits) (k .inside) whole
 
 -- bytes by a rule, parted, and by two rules that agree on them
 bytes-by-split : (byte : ℕ → ℕ) (a m n : ℕ) → bytesBy byte a (m + n) ≡ bytesBy byte a m ++ bytesBy byte (a + m) n
@@ -128,7 +128,7 @@ doublewords-by (suc g) byte xs a (suc n) place b =
     let k = min (suc n) (4 - a % 4) in
     let e : a / 16 * 16 + a % 16 ≡ a = omega arith in
     let f : k + (suc n - k) ≡ suc n = omega arith in
-    rw (e, doublewords-by g byte (drop 16 xs) (a + k) (suc n - k) (place + k) (omega arith)) (rw f at (sym (bytes-by-split byte a k (suc n - k))))
+    rw (e, doublewords-by g byte (drop groupSize xs) (a + k) (suc n - k) (place + k) (omega arith)) (rw f at (sym (bytes-by-split byte a k (suc n - k))))
 
 -- they come in ascending order
 abbrev pub Above : ℕ → List Doubleword → Type 0
@@ -149,7 +149,7 @@ doublewords-above (suc g) xs a zero place d h = tt
 doublewords-above (suc g) xs a (suc n) place d h =
     let k = min (suc n) (4 - a % 4) in
     let l : d < a / 4 * 4 = h (omega arith) in
-    (rw (in-doubleword a) l, doublewords-above g (drop 16 xs) (a + k) (suc n - k) (place + k) d (λ i. omega arith))
+    (rw (in-doubleword a) l, doublewords-above g (drop groupSize xs) (a + k) (suc n - k) (place + k) d (λ i. omega arith))
 
 pub doublewords-ascending : (g : ℕ) (xs : List ℕ) (a n place : ℕ) → Ascending (doublewordsOf g xs a n place)
 unfolding doublewordsOf
@@ -157,8 +157,8 @@ doublewords-ascending zero xs a n place = tt
 doublewords-ascending (suc g) xs a zero place = tt
 doublewords-ascending (suc g) xs a (suc n) place =
     let k = min (suc n) (4 - a % 4) in (
-      rw (in-doubleword a) (doublewords-above g (drop 16 xs) (a + k) (suc n - k) (place + k) (a / 4 * 4) (λ i. omega arith)),
-      doublewords-ascending g (drop 16 xs) (a + k) (suc n - k) (place + k),
+      rw (in-doubleword a) (doublewords-above g (drop groupSize xs) (a + k) (suc n - k) (place + k) (a / 4 * 4) (λ i. omega arith)),
+      doublewords-ascending g (drop groupSize xs) (a + k) (suc n - k) (place + k),
     )
 
 -- two rules that agree above a doubleword agree on doublewords above it
@@ -178,8 +178,8 @@ doublewords-written (suc g) operand m xs a (suc n) place b =
     let f : k + (suc n - k) ≡ suc n = omega arith in
     let x = bytesAt operand place k in
     let y = bytesAt operand (place + k) (suc n - k) in
-    ap (λ (i : ℕ). allWritten operand (sets m i x) (doublewordsOf g (drop 16 xs) (a + k) (suc n - k) (place + k))) e
-    ∙ doublewords-written g operand (sets m a x) (drop 16 xs) (a + k) (suc n - k) (place + k) (omega arith)
+    ap (λ (i : ℕ). allWritten operand (sets m i x) (doublewordsOf g (drop groupSize xs) (a + k) (suc n - k) (place + k))) e
+    ∙ doublewords-written g operand (sets m a x) (drop groupSize xs) (a + k) (suc n - k) (place + k) (omega arith)
     ∙ ap (λ (i : ℕ). sets (sets m a x) (a + i) y) (sym (bytes-length operand place k))
     ∙ sym (sets-append m a x y)
     ∙ ap (sets m a) (rw f at (sym (bytes-split operand place k (suc n - k))))

@@ -16,7 +16,7 @@ use Rattle.carried.specs.Carried.{Carried}
 use Rattle.refusal.specs.Call.{State}
 use Rattle.access.specs.Access.{readNumber, writeNumber}
 use Rattle.masters.specs.Masters.{externalWriteNumber}
-use Rattle.bus.specs.Groups.{badWidth}
+use Rattle.bus.specs.Groups.{badWidth, highestAnswer, logSize}
 use Rattle.refusal.specs.Refusal.{when, orElse, anyAbove, ramNumber, memoryNumber, arrayNumber, lentNumber, badAnswers, argumentNumber, valueNumber, externalNumber, viewAddressNumber, viewInputNumber, inOrder, anyRefused, carriedNumber, statesNumberIn, statesNumberOf, carriedStatesNumberIn, carriedStatesNumber}
 use Rattle.refusal.proofs.Accepted.{zero-or, first-or, GoodMemory}
 use Rattle.views.specs.View.{viewNumberIn}
@@ -100,11 +100,6 @@ unfolding someAbove anyAbove
 above-same limit [] = refl
 above-same limit (x ∷ xs) = rw (above-same limit xs)
 
-neither-same : (a b c : Bool) → not (a || b || c) ≡ (not a && not b && not c)
-neither-same true b c = refl
-neither-same false true c = refl
-neither-same false false c = refl
-
 -- the number of the first of four tests that holds, or a later one, is the first number that is met
 first-met : (a b c d : Bool) (later : ℕ) →
     cond a 4 (cond b 5 (cond c 6 (cond d 7 later))) ≡ orElse (orElse (when a 4) (orElse (when b 5) (orElse (when c 6) (when d 7)))) later
@@ -143,14 +138,14 @@ module _ (m : List ℕ) where
       plainNumber m (read a w pcd xs log ws) ≡ orElse (argumentNumber (length m) a w xs (length log)) (carriedNumber (length m) ws)
   unfolding plainNumber argumentNumber carriedNumber
   plain-read a w pcd xs log ws =
-      rw (above-same 7 xs, neither-same (eqb w 1) (eqb w 2) (eqb w 4), order-same ws, refused-same (length m) ws)
-      (first-met (badWidth w) (ltb (length m) (a + w)) (badAnswers xs) (ltb (length log) 96) (when (ltb 4 (length ws) || not (inOrder ws) || anyRefused (length m) ws) 33))
+      rw (above-same highestAnswer xs, order-same ws, refused-same (length m) ws)
+      (first-met (badWidth w) (ltb (length m) (a + w)) (badAnswers xs) (ltb (length log) logSize) (when (ltb 4 (length ws) || not (inOrder ws) || anyRefused (length m) ws) 33))
 
   pub plain-write : (a w v : ℕ) (xs log : List ℕ) → plainNumber m (write a w v xs log) ≡ orElse (argumentNumber (length m) a w xs (length log)) (valueNumber w v)
   unfolding plainNumber argumentNumber valueNumber
   plain-write a w v xs log =
-      rw (above-same 7 xs, neither-same (eqb w 1) (eqb w 2) (eqb w 4))
-      (first-met (badWidth w) (ltb (length m) (a + w)) (badAnswers xs) (ltb (length log) 96) (when (not (ltb v (256 ^ w))) 8))
+      rw (above-same highestAnswer xs)
+      (first-met (badWidth w) (ltb (length m) (a + w)) (badAnswers xs) (ltb (length log) logSize) (when (not (ltb v (256 ^ w))) 8))
 
   pub plain-external : (a : ℕ) (x : List ℕ) → plainNumber m (external a x) ≡ externalNumber (length m) a (length x)
   unfolding plainNumber externalNumber
@@ -179,7 +174,7 @@ module _ (ns : List ℕ) (none : oneOf 0 ns ≡ true) where
   argument-arises ram a w xs log h4 h5 h6 h7 =
       or-arises (when (badWidth w) 4) _ (when-arises (badWidth w) 4 h4)
       (or-arises (when (ltb ram (a + w)) 5) _ (when-arises (ltb ram (a + w)) 5 h5)
-      (or-arises (when (badAnswers xs) 6) _ (when-arises (badAnswers xs) 6 h6) (when-arises (ltb log 96) 7 h7)))
+      (or-arises (when (badAnswers xs) 6) _ (when-arises (badAnswers xs) 6 h6) (when-arises (ltb log logSize) 7 h7)))
 
 pub plain-arises : (m : List ℕ) (c : Call) → Arises (kindOf c) (plainNumber m c)
 unfolding plainNumber valueNumber carriedNumber

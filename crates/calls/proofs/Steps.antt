@@ -17,7 +17,7 @@ use Rattle.directory.proofs.Laws.{lookup-at, reset-none, reset-apart, flush-non
 use Rattle.words.specs.Bytes.{bytesAt, valueOf}
 use Rattle.carried.specs.Carried.{Carried}
 use Rattle.carried.proofs.Due.{later-zero}
-use Rattle.bus.specs.Groups.{groupCount}
+use Rattle.bus.specs.Groups.{groupCount, answerCount}
 use Rattle.bus.specs.Record.{Record}
 use Rattle.doubleword.specs.Doubleword.{doublewordsOf}
 use Rattle.directory.specs.Outcome.{outcome}
@@ -155,12 +155,12 @@ module _ (s : State) (m : List ℕ) (c : Coherent s m) where
         results =
             record {
               numbers = refl;
-              values = ap valueOf (r .gives ∙ doublewords-by groupCount _ xs a w 0 (omega (arith, k .four)) ∙ ap (λ (x : List Record). bytesRead m ws x a w) (sym (records-left log rs (omega (arith, k .records)))));
+              values = ap valueOf (r .gives ∙ doublewords-by groupCount _ xs a w 0 (k .fits) ∙ ap (λ (x : List Record). bytesRead m ws x a w) (sym (records-left log rs (omega (arith, k .records)))));
               views = refl;
             };
         no-error =
             record {
-              there = records-there log rs 32 most (k .records);
+              there = records-there log rs answerCount most (k .records);
               clear = logged-no-error log rs (r .no-error);
             };
       }))
@@ -174,15 +174,14 @@ module _ (s : State) (m : List ℕ) (c : Coherent s m) where
       (λ z.
       let q = or-zero (argumentNumber (length m) a w xs (length log)) (valueNumber w v) (sym (write-number s m c a w v xs log) ∙ z) in
       let k = arguments-accepted (length m) a w xs (length log) (q .0) in
-      let b : w ≤ 4 * groupCount - a % 4 = omega (arith, k .four) in
       let r = write-all (operandOf v) (doublewordsOf groupCount xs a w 0) s m c (access-proper (length m) a w xs (length log) k whole) in
       rw (write-done s a w v xs log z)
       (record {
-        beside = rw (doublewords-written groupCount (operandOf v) m xs a w 0 b, operand-bytes v w (k .four)) at (r .beside);
+        beside = rw (doublewords-written groupCount (operandOf v) m xs a w 0 (k .fits), operand-bytes v w (k .within)) at (r .beside);
         results = record { numbers = refl; values = refl; views = refl };
         no-error =
             record {
-              there = records-there log (writeAll s a w v xs .records) 32 (writes-most (operandOf v) groupCount xs a w 0 s) (k .records);
+              there = records-there log (writeAll s a w v xs .records) answerCount (writes-most (operandOf v) groupCount xs a w 0 s) (k .records);
               clear = logged-no-error log (writeAll s a w v xs .records) (r .no-error);
             };
       }))

@@ -7,6 +7,7 @@ use lib.ListN.{length, getD}
 use lib.Seq.{sets}
 use Rattle.words.specs.Bytes.{bytesAt, valueOf, bytesOf}
 use Rattle.carried.specs.Carried.{Carried}
+use Rattle.bus.specs.Groups.{badWidth, answerCount, highestAnswer, logSize}
 use Rattle.bus.specs.Record.{Record}
 use Rattle.refusal.specs.Call.{State}
 use Rattle.calls.specs.Calls.{Call, read, write, external, snoop, flush, control, view, reset, testWrite, testRead, step, recordsLeft}
@@ -28,13 +29,13 @@ unfoldable pub someAbove : ℕ → List ℕ → Bool
 someAbove limit [] = false
 someAbove limit (x ∷ xs) = ltb limit x || someAbove limit xs
 
--- "4. Width not 1, 2, 4. 5. Address + width beyond RAM", "6. Not 32 answers, or one above 7. 7. Log below 96 words."
+-- "4. Width not 1, 2, 4. 5. Address + width beyond RAM", "6. Not 32 answers, or one above 7. 7. Log below 96 words.", with the sizes of C-15.
 abbrev pub accessTests : ℕ → ℕ → ℕ → List ℕ → ℕ → List (Bool × ℕ)
 accessTests ram address width answers log =
-    (not (eqb width 1 || eqb width 2 || eqb width 4), 4)
+    (badWidth width, 4)
     ∷ (ltb ram (address + width), 5)
-    ∷ (not (eqb (length answers) 32) || someAbove 7 answers, 6)
-    ∷ (ltb log 96, 7)
+    ∷ (not (eqb (length answers) answerCount) || someAbove highestAnswer answers, 6)
+    ∷ (ltb log logSize, 7)
     ∷ []
 
 -- "8. Value too large for its width."
@@ -66,7 +67,7 @@ abbrev pub carriedTest : ℕ → List Carried → Bool × ℕ
 carriedTest ram writes = (ltb 4 (length writes) || outOfOrder writes || someRefused ram writes, 33)
 
 -- The number of a call that meets 4 to 10, from its own arguments; "For the plain memory 33 counts as 4 to 10 do"; "Any other call answers 0." RAM's length
--- is the plain memory's own, and no function of the unit is asked.
+-- is the plain memory's own, and no function of the unit is asked: it shares the sizes of an access alone.
 unfoldable pub plainNumber : List ℕ → Call → ℕ
 plainNumber m (read address width pcd answers log writes) =
     firstMet (accessTests (length m) address width answers (length log) ++ (carriedTest (length m) writes ∷ []))

@@ -18,7 +18,7 @@ use Rattle.carried.specs.declared.CarriedWrites.{CarriedWrites}
 use Rattle.carried.specs.Carried.{Carried, due, later, landed}
 use Rattle.carried.specs.CarriedCode.{carriedOf, leftFrom, CarriedNeeds}
 use Rattle.carried.proofs.Due.{due-zero, due-none}
-use Rattle.bus.specs.Groups.{groupCount}
+use Rattle.bus.specs.Groups.{groupCount, widest}
 use Rattle.bus.specs.Record.{logged}
 use Rattle.doubleword.specs.declared.change.Change.{Change}
 use Rattle.doubleword.specs.declared.cursor.AccessCursor.{AccessCursor}
@@ -162,7 +162,7 @@ module _ {pcd : Bool} {xs : List ℕ} {carried : CarriedWrites} {p : Progress} {
 
     module _ {r : CarriedRead} {m′ : Memory} {log′ : List ℕ} (k : CarriedNext (found pcd xs carried cursor d m array log from) (begun pcd xs carried cursor d m array log from) carried from m cursor log r m′ log′) where
       -- the number of the bytes read so far fits
-      pub part-fits : (cursor .place ≤ 3) × (value + r .value * 256 ^ cursor .place < 4294967296)
+      pub part-fits : (cursor .place < widest) × (value + r .value * 256 ^ cursor .place < 256 ^ widest)
       part-fits = number-fits cursor value (r .value) some (g .needs .operands) (g .reading .below) (k .fits)
 
       -- the next turn

@@ -91,7 +91,7 @@ fn read_accepted<'a>(
     ensures { λ r. ⌜ leaves r (lentState (tags .exit) (valid .exit) (lru .exit) cd nw (ram .exit) (parity .exit) («data» .exit)) (now (log .exit))
         ≡ readCall (lentState (tags .entry) (valid .entry) (lru .entry) cd nw (ram .entry) (parity .entry) («data» .entry)) address width pcd (now (answers .entry)) (now (log .entry)) (carriedOf carried) ⌝ }
 {
-    let mut value: u32 = 0;
+    let mut value: u64 = 0;
     let mut landed: usize = 0;
     let mut cursor = AccessCursor::begin(address, width);
     while 0 < cursor.left {
@@ -118,8 +118,8 @@ fn read_accepted<'a>(
     snoop_in_place(tags, valid, nw, carried, landed, count);
     CallResult {
         number: 0,
-        value,
         cycles: cursor.cycles as u32,
+        value,
     }
 }
 

@@ -29,7 +29,7 @@ pub struct Directory {
 pub struct Outcome {
     pub directory: Directory,
     pub number: u32,
-    pub value: u32,
+    pub value: u64,
     pub cycles: u32,
 }
 

@@ -24,17 +24,17 @@ some-here left room c e h = omega arith
 boundary : (a c : ℕ) → c ≡ 4 - a % 4 → (a + c) % 4 ≡ 0
 boundary a c e = omega arith
 
-fewer : (left b g c : ℕ) → b < 4 → c ≡ 4 - b → left ≤ 4 * (2 - g) - b → g < 2 → left - c ≤ 4 * (2 - (g + 1))
+fewer : (left b g c : ℕ) → b < 4 → c ≡ 4 - b → left ≤ 4 * (groupCount - g) - b → g < groupCount → left - c ≤ 4 * (groupCount - (g + 1))
 fewer left b g c bl e l h = omega arith
 
-fits-next : (left a g c : ℕ) → c ≡ min left (4 - a % 4) → left ≤ 4 * (2 - g) - a % 4 → g < 2 → left - c ≤ 4 * (2 - (g + 1)) - (a + c) % 4
+fits-next : (left a g c : ℕ) → c ≡ min left (4 - a % 4) → left ≤ 4 * (groupCount - g) - a % 4 → g < groupCount → left - c ≤ 4 * (groupCount - (g + 1)) - (a + c) % 4
 fits-next left a g c e l h =
     elim (decLe left (4 - a % 4)) [
       | yes p ↦ none-fits (left - c) _ (all-here left (4 - a % 4) c e p)
       | no p ↦
           let k = some-here left (4 - a % 4) c e (over left (4 - a % 4) p) in
           let f = boundary a c k in
-          ends (left - c) (4 * (2 - (g + 1))) ((a + c) % 4) f (fewer left (a % 4) g c (omega arith) k l h)
+          ends (left - c) (4 * (groupCount - (g + 1))) ((a + c) % 4) f (fewer left (a % 4) g c (omega arith) k l h)
     ]
   where
     over : (x y : ℕ) → (x ≤ y → ⊥) → y < x
@@ -86,12 +86,12 @@ module _ (cursor : AccessCursor) (ram parity array answers log : ℕ) (z : Acces
       }
 
 -- the group of answers that the code takes is the rules'
-pub group-is : (xs : List ℕ) (from to : ℕ) → to ≡ from + 16 → take (to - from) (drop from xs) ≡ take groupSize (drop from xs)
-group-is xs from to e = let k : to - from ≡ 16 = omega arith in ap (λ (n : ℕ). take n (drop from xs)) k
+pub group-is : (xs : List ℕ) (from to : ℕ) → to ≡ from + groupSize → take (to - from) (drop from xs) ≡ take groupSize (drop from xs)
+group-is xs from to e = let k : to - from ≡ groupSize = omega arith in ap (λ (n : ℕ). take n (drop from xs)) k
 
-pub group-length : (xs : List ℕ) (from to : ℕ) → to ≡ from + 16 → from + 16 ≤ length xs → length (take (to - from) (drop from xs)) ≡ groupSize
+pub group-length : (xs : List ℕ) (from to : ℕ) → to ≡ from + groupSize → from + groupSize ≤ length xs → length (take (to - from) (drop from xs)) ≡ groupSize
 group-length xs from to e l =
-    let k : to - from ≡ 16 = omega arith in
+    let k : to - from ≡ groupSize = omega arith in
     length-take (to - from) (drop from xs) ∙ rw (length-drop from xs) (omega arith)
 
 -- the cursor after a doubleword

@@ -4,7 +4,7 @@ use mathlib.Core.Path.{_≡_}
 use mathlib.Core.List.{List}
 use lib.ListN.{take, drop}
 use Rattle.ways.specs.Address.{dataSize}
-use Rattle.bus.specs.Groups.{groupSize, groupCount, answerCount, logSize}
+use Rattle.bus.specs.Groups.{widest, groupSize, groupCount, answerCount, logSize}
 use Rattle.doubleword.specs.declared.change.Wanted.{Wanted}
 use Rattle.doubleword.specs.declared.cursor.AccessCursor.{AccessCursor}
 use Rattle.doubleword.specs.Doubleword.{Doubleword}
@@ -60,7 +60,7 @@ pub record AccessNeeds (cursor : AccessCursor) (ram parity array answers log : �
   pub fits : cursor .left ≤ 4 * (groupCount - cursor .group) - cursor .address % 4
   pub last : cursor .group ≤ groupCount
   pub made : cursor .cycles ≤ cursor .group * groupSize
-  pub operands : cursor .place + cursor .left ≤ 4
+  pub operands : cursor .place + cursor .left ≤ widest
 
 -- What keeps the numbers of the next cursor in range.
 pub record NextNeeds (cursor : AccessCursor) (count cycles : ℕ) : Type 0 where

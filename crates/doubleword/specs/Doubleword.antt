@@ -19,7 +19,7 @@ pub record Doubleword : Type 0 where
   pub place : ℕ
   pub answers : List ℕ
 
--- "An access of 1, 2 or 4 bytes, little-endian, touches one or two aligned doublewords, the lower one completed first (H)."
+-- "An access .., little-endian, touches one or two aligned doublewords, the lower one completed first (H)."; C-15: "up to three doublewords".
 -- The doublewords that so many bytes from an address touch, at most g of them.
 unfoldable pub doublewordsOf : ℕ → List ℕ → ℕ → ℕ → ℕ → List Doubleword
 doublewordsOf zero xs address n place = []

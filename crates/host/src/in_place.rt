@@ -100,7 +100,7 @@ pub extern "C" fn unit486_write_in_place<'a>(
     data: &mut [u8],
     address: u32,
     width: u32,
-    value: u32,
+    value: u64,
     answers: &[u8],
     log: &mut [u32],
 ) -> CallResult

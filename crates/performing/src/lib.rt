@@ -115,7 +115,7 @@ fn perform_write<'a>(
     data: &mut [u8],
     address: u32,
     width: u32,
-    value: u32,
+    value: u64,
 ) -> CallResult
     ensures { λ r. ⌜ Leaves (step (lentState (tags .entry) (valid .entry) (lru .entry) (now (cd .entry)) (now (nw .entry)) (ram .entry) (parity .entry) («data» .entry)) (write address width value (boardAnswers address width) zeroLog))
         r (lentState (tags .entry) (valid .entry) (lru .exit) (now (cd .entry)) (now (nw .entry)) (ram .exit) (parity .exit) («data» .exit)) ⌝ }

@@ -32,7 +32,7 @@ fn read_all(
     ensures { λ r. ⌜ after r (lentMemory (ram .entry) (parity .entry)) (now («data» .exit)) (now (log .exit))
         ≡ readCall (state given (lentMemory (ram .entry) (parity .entry)) (now («data» .entry))) address width pcd (now (answers .entry)) (now (log .entry)) [] ⌝ }
 {
-    let mut value: u32 = 0;
+    let mut value: u64 = 0;
     let mut cursor = AccessCursor::begin(address, width);
     while 0 < cursor.left {
         let next = read_next(

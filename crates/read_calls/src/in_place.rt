@@ -37,7 +37,7 @@ fn read_accepted<'a>(
     ensures { λ r. ⌜ ((nw : Bool) → leaves r (lentState (tags .exit) (valid .exit) (lru .exit) cd nw (ram .entry) (parity .entry) («data» .exit)) (now (log .exit))
         ≡ readCall (lentState (tags .entry) (valid .entry) (lru .entry) cd nw (ram .entry) (parity .entry) («data» .entry)) address width pcd (now (answers .entry)) (now (log .entry)) []) ⌝ }
 {
-    let mut value: u32 = 0;
+    let mut value: u64 = 0;
     let mut cursor = AccessCursor::begin(address, width);
     while 0 < cursor.left {
         let next = read_next(
@@ -59,8 +59,8 @@ fn read_accepted<'a>(
     }
     CallResult {
         number: 0,
-        value,
         cycles: cursor.cycles as u32,
+        value,
     }
 }
 

@@ -17,6 +17,7 @@ use Rattle.words.proofs.Numbers.{byte-powers, bytes-small, value-below}
 use Rattle.words.proofs.Places.{bytes-length}
 use Rattle.memory.specs.Parity.{Memory}
 use Rattle.bus.specs.Bus.{run, ken, burst, lastAnswer}
+use Rattle.bus.specs.Groups.{widest}
 use Rattle.bus.specs.Record.{readRecord, plainKind, fillKind, wordsOf}
 use Rattle.parts.specs.Made.{CyclesMade}
 use Rattle.bus.proofs.Runs.{last-answer}
@@ -163,10 +164,10 @@ module _ (cursor : AccessCursor) (xs : List ℕ) (w : Wanted) (given : List ℕ)
       }
 
 -- a part above some bytes
-pub part-above : (value place part r : ℕ) → value + part * 256 ^ place < 4294967296 → r ≡ value + part * 2 ^ (8 * place) % 2 ^ 32 → r ≡ value + part * 256 ^ place
+pub part-above : (value place part r : ℕ) → value + part * 256 ^ place < 256 ^ widest → r ≡ value + part * 2 ^ (8 * place) % 2 ^ 64 → r ≡ value + part * 256 ^ place
 part-above value place part r h e =
-    let q : part * 2 ^ (8 * place) % 2 ^ 32 ≡ part * 256 ^ place = ap (λ (x : ℕ). part * x % 2 ^ 32) (sym (byte-powers place)) ∙ small (part * 256 ^ place) value h in
+    let q : part * 2 ^ (8 * place) % 2 ^ 64 ≡ part * 256 ^ place = ap (λ (x : ℕ). part * x % 2 ^ 64) (sym (byte-powers place)) ∙ small (part * 256 ^ place) value h in
     e ∙ ap (λ (x : ℕ). value + x) q
   where
-    small : (x value : ℕ) → value + x < 4294967296 → x % 4294967296 ≡ x
+    small : (x value : ℕ) → value + x < 2 ^ 64 → x % 2 ^ 64 ≡ x
     small x value h = omega arith

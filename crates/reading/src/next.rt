@@ -5,6 +5,7 @@ ghost use lib.ListN.{length};
 ghost use Rattle.ways.specs.Address.{setOf};
 ghost use Rattle.ways.specs.Ways.{lookupIn, victimIn};
 ghost use Rattle.memory.specs.Parity.{lentMemory};
+ghost use Rattle.bus.specs.Groups.{widest};
 ghost use Rattle.doubleword.specs.Cursor.{AccessNeeds, lineAddress, nextDoubleword};
 ghost use Rattle.reading.specs.ReadingCode.{ReadNext, readAlone};
 use crate::reading::read_doubleword;
@@ -67,9 +68,9 @@ pub fn read_next<'a>(
 }
 
 // The number of some bytes and of a part above them, from a place on.
-pub fn with_part(value: u32, place: usize, part: u32) -> u32
-    requires { ⌜ (place ≤ 3) × (value + part * 256 ^ place < 4294967296) ⌝ }
+pub fn with_part(value: u64, place: usize, part: u32) -> u64
+    requires { ⌜ (place < widest) × (value + part * 256 ^ place < 256 ^ widest) ⌝ }
     ensures { λ r. ⌜ r ≡ value + part * 256 ^ place ⌝ }
 {
-    value + (part << (8 * place))
+    value + ((part as u64) << (8 * place))
 }

@@ -8,7 +8,7 @@ use lib.Dec.{eqb, ltb}
 use lib.ListN.{length}
 use borrow.Author.Tests.{eq-eqb, ne-eqb, eqb-true, eqb-false, ltb-true, ltb-false, not-false}
 use Rattle.laws.proofs.Tests.{neither, cond-true, cond-false, same-or, by-test}
-use Rattle.bus.specs.Groups.{badWidth, groupSize, groupCount}
+use Rattle.bus.specs.Groups.{widest, badWidth, groupCount, answerCount, highestAnswer, logSize}
 use Rattle.refusal.specs.Refusal.{when, orElse, anyAbove, badRam, memoryNumber, lentNumber, badAnswers, argumentNumber, ramNumber, arrayNumber, viewInputNumber, externalNumber}
 
 -- neither of two numbers is met
@@ -56,10 +56,10 @@ module _ (ram parity array address width : ℕ) (answers : List ℕ) (log later 
   lent = lentNumber ram parity array
 
   abbrev first : ℕ
-  first = orElse (when (badWidth width) 4) (orElse (when (ltb ram (address + width)) 5) (when (not (eqb (length answers) 32)) 6))
+  first = orElse (when (badWidth width) 4) (orElse (when (ltb ram (address + width)) 5) (when (not (eqb (length answers) answerCount)) 6))
 
   abbrev second : ℕ
-  second = orElse (when (anyAbove 7 answers) 6) (when (ltb log 96) 7)
+  second = orElse (when (anyAbove highestAnswer answers) 6) (when (ltb log logSize) 7)
 
   abbrev whole : ℕ
   whole = orElse lent (orElse (argumentNumber ram address width answers log) later)
@@ -70,7 +70,7 @@ module _ (ram parity array address width : ℕ) (answers : List ℕ) (log later 
       or-grouped lent first (orElse second later)
       ∙ ap (orElse lent) (sym (or-grouped first second later))
       ∙ ap (λ (x : ℕ). orElse lent (orElse x later))
-      (sym (in-two (badWidth width) (ltb ram (address + width)) (not (eqb (length answers) 32)) (anyAbove 7 answers) (when (ltb log 96) 7)))
+      (sym (in-two (badWidth width) (ltb ram (address + width)) (not (eqb (length answers) answerCount)) (anyAbove highestAnswer answers) (when (ltb log logSize) 7)))
 
   module _ (n : ℕ) (e : n ≡ orElse lent first) where
     pub asked-first : (n ≡ 0 → ⊥) → n ≡ whole
@@ -140,21 +140,23 @@ view-accepted ram array address e =
 -- 4 to 7
 pub record GoodArguments (ram address width answers log : ℕ) : Type 0 where
   pub some : 0 < width
-  pub four : width ≤ 4
+  pub within : width ≤ widest
+  pub fits : width ≤ 4 * groupCount - address % 4
   pub inside : address + width ≤ ram
-  pub served : answers ≡ groupSize * groupCount
-  pub records : 3 * (groupSize * groupCount) ≤ log
+  pub served : answers ≡ answerCount
+  pub records : logSize ≤ log
 
-width-good : (width : ℕ) → badWidth width ≡ false → (0 < width) × (width ≤ 4)
-width-good width e =
-    by-test (λ b. (not b && not (eqb width 2) && not (eqb width 4)) ≡ false → (0 < width) × (width ≤ 4)) (eqb width 1)
-    (λ h _. let z = eqb-true width 1 h in (omega arith, omega arith))
-    (λ _ f.
-    by-test (λ b. (true && not b && not (eqb width 4)) ≡ false → (0 < width) × (width ≤ 4)) (eqb width 2)
-    (λ h _. let z = eqb-true width 2 h in (omega arith, omega arith))
-    (λ _ g. let z = eqb-true width 4 (not-false _ g) in (omega arith, omega arith))
-    f)
-    e
+-- what holds of one number, or of the others that are left
+one-or : (Good : Type 0) (n k : ℕ) (others : Bool) → (n ≡ k → Good) → (others ≡ false → Good) → (not (eqb n k) && others) ≡ false → Good
+one-or Good n k others here left e = same-or Good n k here (λ d. left (sym (ap (λ (b : Bool). not b && others) (ne-eqb n k d)) ∙ e))
+
+width-good : (width : ℕ) → badWidth width ≡ false → (0 < width) × (width ≤ widest)
+width-good width =
+    let Good = (0 < width) × (width ≤ widest) in
+    one-or Good width 1 _ (λ z. (omega arith, omega arith))
+    (one-or Good width 2 _ (λ z. (omega arith, omega arith))
+    (one-or Good width 4 _ (λ z. (omega arith, omega arith))
+    (λ e. let z = eqb-true width widest (not-false _ e) in (omega arith, omega arith))))
 
 pub arguments-accepted : (ram address width : ℕ) (answers : List ℕ) (log : ℕ) → argumentNumber ram address width answers log ≡ 0 →
     GoodArguments ram address width (length answers) log
@@ -164,13 +166,14 @@ arguments-accepted ram address width answers log e =
     let q = or-zero (when (ltb ram (address + width)) 5) _ (p .1) in
     let r = or-zero (when (badAnswers answers) 6) _ (q .1) in
     let w = width-good width (when-zero (badWidth width) 4 (omega arith) (p .0)) in
-    let a = neither (not (eqb (length answers) (groupSize * groupCount))) _ (when-zero (badAnswers answers) 6 (omega arith) (r .0)) in
+    let a = neither (not (eqb (length answers) answerCount)) _ (when-zero (badAnswers answers) 6 (omega arith) (r .0)) in
     record {
       some = w .0;
-      four = w .1;
+      within = w .1;
+      fits = omega arith;
       inside = ltb-false ram (address + width) (when-zero (ltb ram (address + width)) 5 (omega arith) (q .0));
-      served = eqb-true (length answers) (groupSize * groupCount) (not-false _ (a .0));
-      records = ltb-false log (3 * (groupSize * groupCount)) (when-zero (ltb log (3 * (groupSize * groupCount))) 7 (omega arith) (r .1));
+      served = eqb-true (length answers) answerCount (not-false _ (a .0));
+      records = ltb-false log logSize (when-zero (ltb log logSize) 7 (omega arith) (r .1));
     }
 
 -- 10

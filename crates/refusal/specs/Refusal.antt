@@ -49,11 +49,12 @@ unfoldable pub anyAbove : ℕ → List ℕ → Bool
 anyAbove limit [] = false
 anyAbove limit (x ∷ xs) = ltb limit x || anyAbove limit xs
 
--- "6. Not 32 answers, or one above 7."
+-- "6. Not 32 answers, or one above 7.", 48 by C-15.
 abbrev pub badAnswers : List ℕ → Bool
 badAnswers answers = not (eqb (length answers) answerCount) || anyAbove highestAnswer answers
 
--- 4 to 7, of a read's or a write's own arguments: "4. Width not 1, 2, 4." (`badWidth`); "5. Address + width beyond RAM"; "7. Log below 96 words."
+-- 4 to 7, of a read's or a write's own arguments: "4. Width not 1, 2, 4." (`badWidth`); "5. Address + width beyond RAM"; "7. Log below 96
+-- words." C-15: "Numbers 4, 6, 7 and 8 read with these sizes, for all widths".
 unfoldable pub argumentNumber : ℕ → ℕ → ℕ → List ℕ → ℕ → ℕ
 argumentNumber ram address width answers log =
     orElse (when (badWidth width) 4)

@@ -90,7 +90,7 @@ pub fn write_number<'a>(
     data: &[u8],
     address: u32,
     width: u32,
-    value: u32,
+    value: u64,
     answers: &[u8],
     log: &[u32],
 ) -> u32

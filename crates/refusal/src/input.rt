@@ -50,7 +50,7 @@ fn any_above(limit: u8, answers: &[u8]) -> bool
     above
 }
 
-// Numbers 1 to 5 of a read or a write, then 6 where there are not 32 answers. What the answers are is asked by answers_number, in the
+// Numbers 1 to 5 of a read or a write, then 6 where there are not ANSWERS of them. What the answers are is asked by answers_number, in the
 // caller, where their count is known then.
 pub fn input_number(
     ram: &[u8],
@@ -99,20 +99,17 @@ pub fn answers_number(answers: &[u8], log: &[u32]) -> u32
 }
 
 // Whether a value has more bytes than its width.
-fn too_large(width: u32, value: u32) -> bool
+fn too_large(width: u32, value: u64) -> bool
     ensures { λ r. ⌜ r ≡ not (ltb value (256 ^ width)) ⌝ }
 {
-    match width {
-        0 => 0 < value,
-        1 => 255 < value,
-        2 => 65535 < value,
-        3 => 16777215 < value,
-        _ => false,
+    if 7 < width {
+        return false;
     }
+    value >> (8 * width) != 0
 }
 
 // Number 8.
-pub fn value_number(width: u32, value: u32) -> u32
+pub fn value_number(width: u32, value: u64) -> u32
     ensures { λ r. ⌜ r ≡ valueNumber width value ⌝ }
 {
     if too_large(width, value) {

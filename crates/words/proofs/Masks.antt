@@ -78,13 +78,14 @@ past-five m k h a b c d e = omega arith
 
 -- bytes of a number moved into lanes and masked
 pub placed-masked : (value place lane count : ℕ) → lane + count ≤ 4 →
-    lanesWord (value / 2 ^ (8 * place) * 2 ^ (8 * lane) % 2 ^ 32) lane count ≡ lanesValue value place count * 256 ^ lane
+    lanesWord (value / 2 ^ (8 * place) * 2 ^ (8 * lane) % 2 ^ 64 % 2 ^ 32) lane count ≡ lanesValue value place count * 256 ^ lane
 unfolding lanesWord lanesValue
 placed-masked value place lane count h =
     let j = 8 * (4 - lane) in
     let v = value / 2 ^ (8 * place) in
+    let l = mod-mod-pow (v * 2 ^ (8 * lane)) 32 32 in
     let e : 32 ≡ j + 8 * lane = omega arith in
     let f : j ≡ (j - 8 * count) + 8 * count = omega arith in
     let a : v * 2 ^ (8 * lane) % 2 ^ 32 / 2 ^ (8 * lane) ≡ v % 2 ^ j = ap (λ (n : ℕ). v * 2 ^ (8 * lane) % 2 ^ n / 2 ^ (8 * lane)) e ∙ field (v * 2 ^ (8 * lane)) j (8 * lane) ∙ rw (shl-shr v (8 * lane)) in
     let b : v % 2 ^ j % 2 ^ (8 * count) ≡ v % 2 ^ (8 * count) = ap (λ (n : ℕ). v % 2 ^ n % 2 ^ (8 * count)) f ∙ mod-mod-pow v (j - 8 * count) (8 * count) in
-    rw (byte-powers lane, byte-powers count, byte-powers place, a, b)
+    rw (byte-powers lane, byte-powers count, byte-powers place, l, a, b)

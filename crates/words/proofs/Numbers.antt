@@ -94,13 +94,9 @@ byte-of (suc m) v (suc i) h =
     rw e (byte-of m (v / 256) i (omega arith))
 
 -- so many bytes of a number, from a place on
-of-part : (m v p n : ℕ) → p + n ≤ m → bytesAt (bytesOf m v) p n ≡ bytesOf n (v / 256 ^ p)
+pub bytes-of-part : (m v p n : ℕ) → p + n ≤ m → bytesAt (bytesOf m v) p n ≡ bytesOf n (v / 256 ^ p)
 unfolding bytesAt bytesOf
-of-part m v p zero h = refl
-of-part m v p (suc n) h =
+bytes-of-part m v p zero h = refl
+bytes-of-part m v p (suc n) h =
     let e : v / 256 ^ p / 256 ≡ v / 256 ^ suc p = div-div-eq-div-mul v (256 ^ p) 256 ∙ rw (pow-suc 256 p) in
-    rw (byte-of m v p (omega arith), e, of-part m v (suc p) n (omega arith))
-
--- of a doubleword
-pub bytes-of-part : (v p n : ℕ) → p + n ≤ 4 → bytesAt (bytesOf 4 v) p n ≡ bytesOf n (v / 256 ^ p)
-bytes-of-part v p n h = of-part 4 v p n h
+    rw (byte-of m v p (omega arith), e, bytes-of-part m v (suc p) n (omega arith))

@@ -54,9 +54,10 @@ pub fn lanes_word(word: u32, mask: u32) -> u32
 }
 
 // So many bytes of a number, from a place on, in the lanes of a doubleword from a lane on, the other lanes 0.
-pub fn placed_lanes(value: u32, place: usize, lane: usize, count: usize) -> u32
-    requires { ⌜ (0 < count) × (place + count ≤ 4) × (lane + count ≤ 4) ⌝ }
+pub fn placed_lanes(value: u64, place: usize, lane: usize, count: usize) -> u32
+    requires { ⌜ (0 < count) × (place + count ≤ 8) × (lane + count ≤ 4) ⌝ }
     ensures { λ r. ⌜ r ≡ lanesValue value place count * 256 ^ lane ⌝ }
 {
-    lanes_word(value >> (8 * place) << (8 * lane), lanes_mask(lane, count))
+    let word = (value >> (8 * place) << (8 * lane)) % 4294967296;
+    lanes_word(word as u32, lanes_mask(lane, count))
 }

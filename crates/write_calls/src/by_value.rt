@@ -21,7 +21,7 @@ fn write_all(
     data: &mut [u8],
     address: u32,
     width: u32,
-    value: u32,
+    value: u64,
     answers: &[u8],
     log: &mut [u32],
 ) -> Outcome
@@ -66,7 +66,7 @@ pub fn write(
     data: &mut [u8],
     address: u32,
     width: u32,
-    value: u32,
+    value: u64,
     answers: &[u8],
     log: &mut [u32],
 ) -> Outcome

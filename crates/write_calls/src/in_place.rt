@@ -25,7 +25,7 @@ fn write_accepted<'a>(
     data: &mut [u8],
     address: u32,
     width: u32,
-    value: u32,
+    value: u64,
     answers: &[u8],
     log: &mut [u32],
 ) -> CallResult
@@ -55,8 +55,8 @@ fn write_accepted<'a>(
     }
     CallResult {
         number: 0,
-        value: 0,
         cycles: cursor.cycles as u32,
+        value: 0,
     }
 }
 
@@ -71,7 +71,7 @@ pub fn write_in_place<'a>(
     data: &mut [u8],
     address: u32,
     width: u32,
-    value: u32,
+    value: u64,
     answers: &[u8],
     log: &mut [u32],
 ) -> CallResult

@@ -15,6 +15,7 @@ use Rattle.words.proofs.Numbers.{bytes-of-lower, bytes-of-part}
 use Rattle.words.proofs.Parts.{powers-some}
 use Rattle.words.proofs.Places.{bytes-length}
 use Rattle.memory.specs.Parity.{Memory, stored}
+use Rattle.bus.specs.Groups.{widest}
 use Rattle.bus.specs.Record.{writeRecord, wordsOf}
 use Rattle.parts.specs.Made.{CyclesMade}
 use Rattle.cycles.proofs.Brought.{OneDoubleword}
@@ -111,15 +112,15 @@ unfolding lanesWord
 placed-fits value place lane count = rw (placed-value value place lane count)
 
 -- the bytes of a part of a value are those of the operand
-pub part-bytes : (value place count : ℕ) → place + count ≤ 4 → bytesAt (bytesOf 4 value) place count ≡ bytesOf count (lanesValue value place count)
+pub part-bytes : (value place count : ℕ) → place + count ≤ widest → bytesAt (bytesOf widest value) place count ≡ bytesOf count (lanesValue value place count)
 unfolding lanesValue
-part-bytes value place count h = bytes-of-part value place count h ∙ sym (bytes-of-lower count (value / 256 ^ place))
+part-bytes value place count h = bytes-of-part widest value place count h ∙ sym (bytes-of-lower count (value / 256 ^ place))
 
 -- the bytes of the next doubleword lie in the operand
-pub place-within : (cursor : AccessCursor) (w : Wanted) {ram parity array answers log : ℕ} → 0 < cursor .left → w ≡ wantedOf cursor → AccessNeeds cursor ram parity array answers log → (0 < w .count) × (w .place + w .count ≤ 4)
+pub place-within : (cursor : AccessCursor) (w : Wanted) {ram parity array answers log : ℕ} → 0 < cursor .left → w ≡ wantedOf cursor → AccessNeeds cursor ram parity array answers log → (0 < w .count) × (w .place + w .count ≤ widest)
 place-within cursor w some ew z = rw ew (omega arith, room (cursor .place) (cursor .left) _ (z .operands))
   where
-    room : (place left r : ℕ) → place + left ≤ 4 → place + min left r ≤ 4
+    room : (place left r : ℕ) → place + left ≤ widest → place + min left r ≤ widest
     room place left r h = omega arith
 
 -- the next doubleword of the code, from what its parts leave

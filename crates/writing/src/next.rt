@@ -4,6 +4,7 @@ ghost use lib.ListN.{length};
 ghost use Rattle.ways.specs.Ways.{lookupIn};
 ghost use Rattle.words.specs.Bytes.{bytesOf};
 ghost use Rattle.memory.specs.Parity.{lentMemory};
+ghost use Rattle.bus.specs.Groups.{widest};
 ghost use Rattle.doubleword.specs.Cursor.{AccessNeeds, lineAddress, nextDoubleword};
 ghost use Rattle.writing.specs.Writing.{writeDone};
 ghost use Rattle.writing.specs.WritingCode.{WriteNext};
@@ -32,12 +33,12 @@ pub fn write_next<'a>(
     data: &mut [u8],
     answers: &[u8],
     log: &mut [u32],
-    value: u32,
+    value: u64,
     cursor: AccessCursor,
 ) -> NextWritten
     requires { ⌜ (0 < cursor .left) × AccessNeeds cursor (length (now ram)) (length (now parity)) (length (now «data»)) (length (now answers)) (length (now log)) ⌝ }
     ensures { λ r. ⌜ WriteNext (writeDone (lookupIn (now (tags .entry)) (now (valid .entry)) (lineAddress cursor)) stays
-        (lentMemory (ram .entry) (parity .entry)) (now («data» .entry)) (bytesOf 4 value) (nextDoubleword cursor (now (answers .entry))))
+        (lentMemory (ram .entry) (parity .entry)) (now («data» .entry)) (bytesOf widest value) (nextDoubleword cursor (now (answers .entry))))
         cursor (now (log .entry)) r (lentMemory (ram .exit) (parity .exit)) (now («data» .exit)) (now (log .exit)) ⌝ }
 {
     let w = cursor.wanted();

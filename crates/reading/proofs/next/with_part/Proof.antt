@@ -8,9 +8,6 @@ use Rattle.reading.proofs.next.with_part.Tie as tie
 mul-result : tie.Need-mul-result
 mul-result c = search needs
 
-cast-result : tie.Need-cast-result
-cast-result c = search needs
-
 shl-result : tie.Need-shl-result
 shl-result c = search needs
 
@@ -21,4 +18,4 @@ returns : tie.Need-returns
 returns c = part-above (c .args .value) (c .args .place) (c .args .part) _ (c .pre .1) refl
 
 pub with-part-spec : {M : Type 1} → statement M
-with-part-spec = tie.close (tie.spec mul-result cast-result shl-result add-result returns)
+with-part-spec = tie.close (tie.spec mul-result shl-result add-result returns)

@@ -4,23 +4,20 @@ use borrow.Author.Needs.{needs}
 use Rattle.words.proofs.lanes.placed_lanes.Statement.{statement}
 use Rattle.words.proofs.lanes.placed_lanes.Tie as tie
 
-mul-lanes-word : tie.Need-mul-lanes-word
-mul-lanes-word c = search needs
+mul-word : tie.Need-mul-word
+mul-word c = search needs
+
+shr-word : tie.Need-shr-word
+shr-word c = search needs
+
+mul-word-2 : tie.Need-mul-word-2
+mul-word-2 c = search needs
+
+shl-word : tie.Need-shl-word
+shl-word c = search needs
 
 cast-lanes-word : tie.Need-cast-lanes-word
 cast-lanes-word c = search needs
-
-shr-lanes-word : tie.Need-shr-lanes-word
-shr-lanes-word c = search needs
-
-mul-lanes-word-2 : tie.Need-mul-lanes-word-2
-mul-lanes-word-2 c = search needs
-
-cast-lanes-word-2 : tie.Need-cast-lanes-word-2
-cast-lanes-word-2 c = search needs
-
-shl-lanes-word : tie.Need-shl-lanes-word
-shl-lanes-word c = search needs
 
 lanes-mask-requires : tie.Need-lanes-mask-requires
 lanes-mask-requires c κs = search needs
@@ -39,12 +36,11 @@ pub placed-lanes-spec : {M : Type 1} → statement M
 placed-lanes-spec =
     tie.close
     (tie.spec
-    mul-lanes-word
+    mul-word
+    shr-word
+    mul-word-2
+    shl-word
     cast-lanes-word
-    shr-lanes-word
-    mul-lanes-word-2
-    cast-lanes-word-2
-    shl-lanes-word
     lanes-mask-requires
     lanes-word-requires
     returns)

@@ -4,6 +4,7 @@ use Rattle.doubleword.proofs.Cursors.{cursor-doubleword}
 use Rattle.doubleword.specs.DoublewordCode.{doublewordOf}
 use Rattle.doubleword.specs.declared.change.Wanted.{Wanted}
 use Rattle.memory.specs.Parity.{memory}
+use Rattle.bus.specs.Groups.{widest}
 use Rattle.words.specs.Bytes.{bytesOf}
 use Rattle.ways.specs.Ways.{lookupIn}
 use denote.Ref.{now}
@@ -61,7 +62,7 @@ returns c =
     let h = place-within _ _ (start .pre .0) (at-wanted .wanted .ensures) (start .pre .1) in
     write-next-left _ _ _ _ (at-wanted .wanted .ensures) (at-group-of .group-of .ensures .0) _
     (λ (w : Wanted) (xs : List ℕ). writeDone (lookupIn (now (a .tags)) (now (a .valid)) (w .line)) (a .stays) (memory (now (a .ram)) (now (a .parity)))
-    (now (a .«data»)) (bytesOf 4 (a .value)) (doublewordOf w xs))
+    (now (a .«data»)) (bytesOf widest (a .value)) (doublewordOf w xs))
     _ _ _ _ (at-write .write-doubleword .ensures _ (rw (at-placed .placed-lanes .ensures, placed-value (a .value) _ _ _) (part-bytes (a .value) _ _ (h .1))))
 
 pub write-next-spec : {M : Type 1} → statement M
