@@ -1,7 +1,7 @@
 -- What the accepted case of a call knows: number 0 turned into facts.
-use Prim.Native.Nat.{ℕ, _+_, _*_, _/_, _%_, _≤_, _<_}
+use Prim.Native.Nat.{ℕ, _+_, _*_, _-_, _/_, _%_, _≤_, _<_}
 use mathlib.Core.Path.{_≡_, refl, sym, _∙_, ap}
-use mathlib.Core.Bool.{Bool, true, false, not, _&&_, _||_}
+use mathlib.Core.Bool.{Bool, true, false, not, _&&_, _||_, and-true}
 use mathlib.Core.List.{List}
 use native.Mathlib.Omega.{arith}
 use lib.Dec.{eqb, ltb}
@@ -146,17 +146,18 @@ pub record GoodArguments (ram address width answers log : ℕ) : Type 0 where
   pub served : answers ≡ answerCount
   pub records : logSize ≤ log
 
--- what holds of one number, or of the others that are left
-one-or : (Good : Type 0) (n k : ℕ) (others : Bool) → (n ≡ k → Good) → (others ≡ false → Good) → (not (eqb n k) && others) ≡ false → Good
-one-or Good n k others here left e = same-or Good n k here (λ d. left (sym (ap (λ (b : Bool). not b && others) (ne-eqb n k d)) ∙ e))
+-- a number is this one, or one of the others
+one-or : (Good : Type 0) (n k : ℕ) (others : Bool) → (n ≡ k → Good) → (others ≡ false → Good) → (others && not (eqb n k)) ≡ false → Good
+one-or Good n k others here left e =
+    same-or Good n k here (λ d. left (sym (and-true others) ∙ sym (ap (λ (b : Bool). others && not b) (ne-eqb n k d)) ∙ e))
 
 width-good : (width : ℕ) → badWidth width ≡ false → (0 < width) × (width ≤ widest)
 width-good width =
     let Good = (0 < width) × (width ≤ widest) in
-    one-or Good width 1 _ (λ z. (omega arith, omega arith))
-    (one-or Good width 2 _ (λ z. (omega arith, omega arith))
+    one-or Good width widest _ (λ z. (omega arith, omega arith))
     (one-or Good width 4 _ (λ z. (omega arith, omega arith))
-    (λ e. let z = eqb-true width widest (not-false _ e) in (omega arith, omega arith))))
+    (one-or Good width 2 _ (λ z. (omega arith, omega arith))
+    (λ e. let z = eqb-true width 1 (not-false _ e) in (omega arith, omega arith))))
 
 pub arguments-accepted : (ram address width : ℕ) (answers : List ℕ) (log : ℕ) → argumentNumber ram address width answers log ≡ 0 →
     GoodArguments ram address width (length answers) log

@@ -1,16 +1,18 @@
 -- Laws of the numbers that turn a call away.
-use Prim.Native.Nat.{ℕ, _+_, _^_, _<_, _≤_}
+use Prim.Native.Nat.{ℕ, _+_, _*_, _/_, _^_, _<_, _≤_}
 use mathlib.Core.Path.{_≡_}
 use mathlib.Core.Bool.{Bool, true, not, _||_, or-assoc, or-false}
 use mathlib.Core.List.{List}
-use native.Mathlib.Nat.{pow-le-pow-right}
+use native.Mathlib.Nat.{pow-le-pow-right, div-eq-of-lt, div-eq-sub-div}
 use native.Mathlib.Numerals.{add-one}
 use native.Mathlib.Omega.{arith}
-use lib.Dec.{ltb}
+use lib.Dec.{eqb, ltb}
 use lib.ListN.{length, getD, drop, drop-of-length-le}
 use lib.Seq.{drop-cons}
-use borrow.Author.Tests.{ltb-true, ltb-false, lt-ltb, le-ltb}
+use borrow.Author.Tests.{ltb-true, ltb-false, lt-ltb, eq-eqb, ne-eqb}
 use Rattle.laws.proofs.Tests.{by-test}
+use Rattle.words.proofs.Numbers.{byte-powers}
+use Rattle.words.proofs.Parts.{powers-some}
 use Rattle.refusal.specs.Refusal.{anyAbove}
 
 -- the k-th answer is looked at, the others are left
@@ -23,13 +25,15 @@ pub above-end : (limit : ℕ) (l : List ℕ) (k : ℕ) (above : Bool) → length
 unfolding anyAbove
 above-end limit l k above h = rw (drop-of-length-le l h) (or-false above)
 
--- a value above the last that fits
-pub over : (last value : ℕ) → ltb last value ≡ not (ltb value (last + 1))
-over last value =
-    by-test (λ t. ltb last value ≡ not t) (ltb value (last + 1))
-    (λ e. le-ltb last value (omega (arith, ltb-true value (last + 1) e)))
-    (λ e. lt-ltb last value (omega (arith, ltb-false value (last + 1) e)))
+-- a value fits where nothing is left of it above its width
+pub nothing-above : (width value : ℕ) → eqb (value / 2 ^ (8 * width)) 0 ≡ ltb value (256 ^ width)
+nothing-above width value =
+    let p = 256 ^ width in
+    rw (← byte-powers width)
+    (by-test (λ t. eqb (value / p) 0 ≡ t) (ltb value p)
+    (λ e. eq-eqb (value / p) 0 (div-eq-of-lt (ltb-true value p e)))
+    (λ e. ne-eqb (value / p) 0 (λ z. let d = div-eq-sub-div (powers-some width) (ltb-false value p e) in omega arith)))
 
--- a value of 32 bits fits into four bytes and more
-pub fits : (width value : ℕ) → 4 ≤ width → value < 4294967296 → ltb value (256 ^ width) ≡ true
+-- a value of 64 bits fits into eight bytes and more
+pub fits : (width value : ℕ) → 8 ≤ width → value < 2 ^ 64 → ltb value (256 ^ width) ≡ true
 fits width value h v = lt-ltb value (256 ^ width) (omega (arith, pow-le-pow-right {n = 256} (omega arith) h))
