@@ -92,7 +92,7 @@ module _ (d : Directory) (m : Memory) (array : List ℕ) (address width : ℕ) (
         fits = r .fits;
         last = omega arith;
         made = omega arith;
-        operands = r .within;
+        operands = omega (arith, r .within);
       }
 
   module _ (pcd : Bool) where

@@ -14,4 +14,4 @@ use Rattle.access.specs.Access.{operandOf}
 
 -- the first bytes of an operand are the bytes of its value
 pub operand-bytes : (v n : ℕ) → n ≤ widest → bytesAt (operandOf v) 0 n ≡ bytesOf n v
-operand-bytes v n h = bytes-of-part widest v 0 n h ∙ ap (bytesOf n) (div-one v)
+operand-bytes v n h = bytes-of-part widest v 0 n (omega (arith, h)) ∙ ap (bytesOf n) (div-one v)

@@ -74,7 +74,7 @@ fn read_all(
     ensures { λ r. ⌜ after r (lentMemory (ram .exit) (parity .exit)) (now («data» .exit)) (now (log .exit))
         ≡ readCall (state given (lentMemory (ram .entry) (parity .entry)) (now («data» .entry))) address width pcd (now (answers .entry)) (now (log .entry)) (carriedOf carried) ⌝ }
 {
-    let mut value: u32 = 0;
+    let mut value: u64 = 0;
     let mut landed: usize = 0;
     let mut cursor = AccessCursor::begin(address, width);
     while 0 < cursor.left {
