@@ -1,27 +1,66 @@
--- The board's answers, as a loop fills the upper half: what is left to store, element by element, from `k` to 32.
-use Prim.Native.Nat.{ℕ, suc, _+_, _-_, _<_, _≤_}
-use mathlib.Core.Path.{_≡_, refl}
-use mathlib.Core.List.{List, _++_}
+-- The board's answers as loops fill them: what is left to store, put in, gives what all of it gives.
+use Prim.Native.Nat.{ℕ, suc, _+_, _*_, _-_, _%_, _<_, _≤_}
+use mathlib.Core.Path.{_≡_, refl, sym}
+use mathlib.Core.Bool.{Bool, true, false, cond}
+use mathlib.Core.List.{List}
+use native.Mathlib.Nat.{add-zero}
 use native.Mathlib.Numerals.{add-one}
 use native.Mathlib.Omega.{arith}
+use lib.Dec.{ltb}
 use lib.ListN.{set, replicate}
 use lib.Seq.{sets}
+use Rattle.laws.proofs.Lists.{sets-append}
+use Rattle.bus.specs.Groups.{badWidth, groupCount, groupSize}
+use Rattle.board.specs.Board.{answerAt, groupAddress, groupsFrom, boardAnswers}
 
-unfoldable pub storedFrom : ℕ → ℕ → List ℕ → List ℕ
-storedFrom k value l = sets l k (replicate (32 - k) value)
+-- a group with an answer stored from its k-th place on
+unfoldable pub storedFrom : ℕ → ℕ → ℕ → List ℕ → List ℕ
+storedFrom first k answer l = sets l (first + k) (replicate (groupSize - k) answer)
 
-pub stored-all : (lower upper : ℕ) → storedFrom 16 upper (replicate 32 lower) ≡ replicate 16 lower ++ replicate 16 upper
+pub stored-all : (first answer : ℕ) (l : List ℕ) → storedFrom first 0 answer l ≡ sets l first (replicate groupSize answer)
 unfolding storedFrom
-stored-all lower upper = refl
+stored-all first answer l = rw (add-zero first)
 
-pub stored-one : (k value : ℕ) (l : List ℕ) → k < 32 → storedFrom (k + 1) value (set l k value) ≡ storedFrom k value l
+pub stored-one : (first k answer : ℕ) (l : List ℕ) → k < groupSize → storedFrom first (k + 1) answer (set l (first + k) answer) ≡ storedFrom first k answer l
 unfolding storedFrom
-stored-one k value l h =
-    let e : 32 - k ≡ suc (32 - suc k) = omega arith in
-    rw (add-one k, e)
+stored-one first k answer l h =
+    let e : groupSize - k ≡ suc (groupSize - (k + 1)) = omega arith in
+    let f : first + (k + 1) ≡ suc (first + k) = omega arith in
+    rw (e, f)
 
-pub stored-none : (k value : ℕ) (l : List ℕ) → 32 ≤ k → storedFrom k value l ≡ l
+pub stored-none : (first k answer : ℕ) (l : List ℕ) → groupSize ≤ k → storedFrom first k answer l ≡ l
 unfolding storedFrom
-stored-none k value l h =
-    let e : 32 - k ≡ 0 = omega arith in
+stored-none first k answer l h =
+    let e : groupSize - k ≡ 0 = omega arith in
+    rw e
+
+-- the groups from one on stored
+unfoldable pub filledFrom : ℕ → ℕ → ℕ → List ℕ → List ℕ
+filledFrom address width group l = sets l (groupSize * group) (groupsFrom address width group (groupCount - group))
+
+-- the lowest doubleword is always there
+either : (b : Bool) (x y z : ℕ) → x ≡ z → y ≡ z → cond b x y ≡ z
+either true x y z e f = e
+either false x y z e f = f
+
+lowest : (address width : ℕ) → groupAddress address width 0 ≡ address
+unfolding groupAddress
+lowest address width = either (badWidth width) _ _ address refl (either (ltb 0 (address % 4 + width)) _ _ address (add-zero address) refl)
+
+pub filled-lowest : (address width answer : ℕ) → answer ≡ answerAt address → filledFrom address width 1 (replicate (groupSize * groupCount) answer) ≡ boardAnswers address width
+unfolding filledFrom boardAnswers groupsFrom
+filled-lowest address width answer e = rw (lowest address width, e)
+
+pub filled-one : (address width group answer : ℕ) (l : List ℕ) → group < groupCount → answer ≡ answerAt (groupAddress address width group) → filledFrom address width (group + 1) (sets l (groupSize * group) (replicate groupSize answer)) ≡ filledFrom address width group l
+unfolding filledFrom groupsFrom
+filled-one address width group answer l h e =
+    let n : groupCount - group ≡ suc (groupCount - (group + 1)) = omega arith in
+    let f : groupSize * (group + 1) ≡ groupSize * group + groupSize = omega arith in
+    let rest = groupsFrom address width (group + 1) (groupCount - (group + 1)) in
+    rw (n, f, ← add-one group, ← e) (sym (sets-append l (groupSize * group) (replicate groupSize answer) rest))
+
+pub filled-none : (address width group : ℕ) (l : List ℕ) → groupCount ≤ group → filledFrom address width group l ≡ l
+unfolding filledFrom groupsFrom
+filled-none address width group l h =
+    let e : groupCount - group ≡ 0 = omega arith in
     rw e

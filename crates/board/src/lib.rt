@@ -1,8 +1,13 @@
 // The board table: the board's answers for an access.
 ghost use mathlib.Core.Path.{_≡_};
-ghost use Rattle.board.specs.Board.{answerAt, boardAnswers, upperAddress};
+ghost use Prim.Native.Nat.{_*_, _<_};
+ghost use lib.ListN.{replicate};
+ghost use lib.Seq.{sets};
+ghost use Rattle.bus.specs.Groups.{groupCount, groupSize};
+ghost use Rattle.board.specs.Board.{answerAt, boardAnswers, groupAddress};
 pub use bus::ANSWERS;
 use bus::GROUP_SIZE;
+use bus::GROUPS;
 use bus::bad_width;
 
 // The answer of each 1 MiB block.
@@ -14,32 +19,45 @@ fn answer_at(address: usize) -> u8
     BLOCK_ANSWERS[address / 1048576 % 16]
 }
 
-// The address of the upper doubleword, or of the access itself where there is none.
-fn upper_address(address: u32, width: u32) -> usize
-    ensures { λ r. ⌜ r ≡ upperAddress address width ⌝ }
+// The address of a group's doubleword, or of the access itself where there is none: an access of a refused width has only the lowest.
+fn group_address(address: u32, width: u32, group: usize) -> usize
+    requires { ⌜ group < groupCount ⌝ }
+    ensures { λ r. ⌜ r ≡ groupAddress address width group ⌝ }
 {
     let start = address as usize;
     if bad_width(width) {
         return start;
     }
-    if 4 < start % 4 + width as usize {
-        return start + 4;
+    if 4 * group < start % 4 + width as usize {
+        return start + 4 * group;
     }
     start
 }
 
-// The 32 answers for an access: sixteen for its lower doubleword, sixteen for its upper one. An access of a refused width has no
-// upper doubleword.
+// Puts an answer at every place of a group.
+fn fill_group(answers: &mut [u8; ANSWERS], group: usize, answer: u8)
+    requires { ⌜ group < groupCount ⌝ }
+    ensures { λ _. ⌜ now (answers .exit) ≡ sets (now (answers .entry)) (groupSize * group) (replicate groupSize answer) ⌝ }
+{
+    let first = GROUP_SIZE * group;
+    let mut k: usize = 0;
+    while k < GROUP_SIZE {
+        answers[first + k] = answer;
+        k += 1;
+    }
+}
+
+// The answers for an access, a group for each doubleword that one can touch.
 pub fn board_answers(address: u32, width: u32) -> [u8; ANSWERS]
     ensures { λ r. ⌜ r ≡ boardAnswers address width ⌝ }
 {
-    let lower = answer_at(address as usize);
-    let upper = answer_at(upper_address(address, width));
-    let mut answers = [lower; ANSWERS];
-    let mut k: usize = GROUP_SIZE;
-    while k < ANSWERS {
-        answers[k] = upper;
-        k += 1;
+    let lowest = answer_at(address as usize);
+    let mut answers = [lowest; ANSWERS];
+    let mut group: usize = 1;
+    while group < GROUPS {
+        let answer = answer_at(group_address(address, width, group));
+        fill_group(&mut answers, group, answer);
+        group += 1;
     }
     answers
 }

@@ -1,17 +1,18 @@
 -- Laws of numbers as text: what the scanning of a field finds.
 use Prim.Native.Nat.{ℕ, zero, suc, _+_, _*_, _-_, _^_, _≤_, _<_}
 use mathlib.Core.Path.{_≡_, refl, sym, _∙_}
-use mathlib.Core.Bool.{Bool, true, false, _&&_, and-false, and-assoc, and-true}
+use mathlib.Core.Bool.{Bool, true, false, cond, _&&_, and-false, and-assoc, and-true}
 use mathlib.Core.List.{List, [], _∷_, _++_}
 use native.Mathlib.Nat.{pow-le-pow-right, pow-suc}
 use native.Mathlib.Numerals.{add-one}
 use native.Mathlib.Omega.{arith}
+use lib.Dec.{leb}
 use lib.ListN.{length, getD, drop, drop-of-length-le}
 use lib.Seq.{drop-cons}
-use borrow.Author.Tests.{le-leb, lt-leb}
-use Rattle.laws.proofs.Tests.{both}
+use borrow.Author.Tests.{le-leb, lt-leb, leb-true}
+use Rattle.laws.proofs.Tests.{both, by-test}
 use Rattle.fields.specs.declared.numbers.Number.the-variants.{Value, NotANumber}
-use Rattle.fields.specs.Number.{isDigit, allAre, valueAfter, decimalValue, isNumber, numberOf, bitOf}
+use Rattle.fields.specs.Number.{isDigit, allAre, valueAfter, decimalValue, isNumber, numberWithin, bitOf}
 
 -- one byte more is looked at, and none is left
 all-step : (test : ℕ → Bool) (l : List ℕ) (k : ℕ) → k < length l → allAre test (drop k l) ≡ (test (getD l k 0) && allAre test (drop (k + 1) l))
@@ -56,28 +57,44 @@ all-at test [] k h a = absurd (omega (arith, h))
 all-at test (c ∷ cs) zero h a = both (test c) (allAre test cs) a .0
 all-at test (c ∷ cs) (suc k) h a = all-at test cs k (omega (arith, h)) (both (test c) (allAre test cs) a .1)
 
--- the fields that are no number
-pub number-empty : (field : List ℕ) → length field ≡ 0 → NotANumber ≡ numberOf field
-unfolding numberOf isNumber
-number-empty field e = rw e
+-- a number only grows as digits go on
+value-grows : (n : ℕ) (l : List ℕ) → n ≤ valueAfter n l
+unfolding valueAfter
+value-grows n [] = omega arith
+value-grows n (c ∷ l) = omega (arith, value-grows (n * 10 + (c - 48)) l)
 
-pub number-long : (field : List ℕ) → 10 < length field → NotANumber ≡ numberOf field
-unfolding numberOf isNumber
-number-long field h = simp (lt-leb (length field) 10 h, and-false)
+module _ (digits limit : ℕ) (field : List ℕ) where
+  -- the fields that are no number
+  pub number-empty : length field ≡ 0 → NotANumber ≡ numberWithin digits limit field
+  unfolding numberWithin isNumber
+  number-empty e = rw e
 
-pub number-other : (field : List ℕ) → allAre isDigit field ≡ false → NotANumber ≡ numberOf field
-unfolding numberOf isNumber
-number-other field e = simp (e, and-false)
+  pub number-long : digits < length field → NotANumber ≡ numberWithin digits limit field
+  unfolding numberWithin isNumber
+  number-long h = simp (lt-leb (length field) digits h, and-false)
 
-pub number-large : (field : List ℕ) → 4294967295 < decimalValue field → NotANumber ≡ numberOf field
-unfolding numberOf isNumber
-number-large field h = simp (lt-leb (decimalValue field) 4294967295 h, and-false)
+  pub number-other : allAre isDigit field ≡ false → NotANumber ≡ numberWithin digits limit field
+  unfolding numberWithin isNumber
+  number-other e = simp (e, and-false)
 
--- a field that is a number
-pub number-value : (field : List ℕ) → 1 ≤ length field → length field ≤ 10 → allAre isDigit field ≡ true → decimalValue field ≤ 4294967295 → Value (decimalValue field) ≡ numberOf field
-unfolding numberOf isNumber
-number-value field some few digits small =
-    simp (le-leb 1 (length field) some, le-leb (length field) 10 few, digits, le-leb (decimalValue field) 4294967295 small)
+  pub number-large : limit < decimalValue field → NotANumber ≡ numberWithin digits limit field
+  unfolding numberWithin isNumber
+  number-large h = simp (lt-leb (decimalValue field) limit h, and-false)
+
+  -- a field that is a number
+  pub number-value : 1 ≤ length field → length field ≤ digits → allAre isDigit field ≡ true → decimalValue field ≤ limit → Value (decimalValue field) ≡ numberWithin digits limit field
+  unfolding numberWithin isNumber
+  number-value some few all small =
+      simp (le-leb 1 (length field) some, le-leb (length field) digits few, all, le-leb (decimalValue field) limit small)
+
+  pub number-most : (n : ℕ) → numberWithin digits limit field ≡ Value n → n ≤ limit
+  unfolding numberWithin isNumber
+  number-most n e =
+      by-test (λ b. isNumber digits limit field ≡ b → cond b (Value (decimalValue field)) NotANumber ≡ Value n → n ≤ limit)
+      (isNumber digits limit field)
+      (λ _ t f. let v : decimalValue field ≡ n = cc in omega (arith, v, leb-true (decimalValue field) limit (both (leb 1 (length field) && leb (length field) digits && allAre isDigit field) _ t .1)))
+      (λ _ _ f. let z : _≡_ {A = ℕ} 0 1 = cc in absurd (omega arith))
+      refl e
 
 pub low-digit : (c : ℕ) → c < 48 → isDigit c ≡ false
 low-digit c h = rw (lt-leb 48 c h)
@@ -96,40 +113,41 @@ pub power-most : (k : ℕ) → k < 10 → 10 ^ k ≤ 1000000000
 power-most k h = pow-le-pow-right {n = 10} (omega arith) {i = k} {j = 9} (omega (arith, h))
 
 -- What the scanning of a field keeps: what is found of the bytes that are left, after the value, is what is found of all.
-pub record ScanInvariant (field : List ℕ) (value k : ℕ) : Type 0 where
+pub record ScanInvariant (limit : ℕ) (field : List ℕ) (value k : ℕ) : Type 0 where
   pub within : k ≤ length field
-  pub small : value < 10 ^ k
+  pub small : value ≤ limit
   pub digits : allAre isDigit (drop k field) ≡ allAre isDigit field
   pub says : valueAfter value (drop k field) ≡ decimalValue field
 
-pub scan-begin : (field : List ℕ) → ScanInvariant field 0 0
-scan-begin field = record { within = omega arith; small = omega arith; digits = refl; says = refl }
+pub scan-begin : (limit : ℕ) (field : List ℕ) → ScanInvariant limit field 0 0
+scan-begin limit field = record { within = omega arith; small = omega arith; digits = refl; says = refl }
 
-module _ (field : List ℕ) (value k : ℕ) (inv : ScanInvariant field value k) where
-  -- a byte is left: one that is no digit, and a digit
+module _ (limit : ℕ) (field : List ℕ) (value k : ℕ) (inv : ScanInvariant limit field value k) where
+  -- a byte is left: one that is no digit, a digit that makes the number too large, and one that does not
   module _ (h : k < length field) where
-    pub scan-other : isDigit (getD field k 0) ≡ false → NotANumber ≡ numberOf field
-    scan-other e = number-other field (sym (inv .digits) ∙ rw (all-step isDigit field k h, e))
+    pub scan-other : (most : ℕ) → isDigit (getD field k 0) ≡ false → NotANumber ≡ numberWithin most limit field
+    scan-other most e = number-other most limit field (sym (inv .digits) ∙ rw (all-step isDigit field k h, e))
 
-    pub scan-next : 48 ≤ getD field k 0 → getD field k 0 ≤ 57 → ScanInvariant field (value * 10 + (getD field k 0 - 48)) (k + 1)
-    scan-next low high =
+    taken : valueAfter (value * 10 + (getD field k 0 - 48)) (drop (k + 1) field) ≡ decimalValue field
+    taken = sym (value-step value field k h) ∙ inv .says
+
+    pub scan-large : (most : ℕ) → limit < value * 10 + (getD field k 0 - 48) → NotANumber ≡ numberWithin most limit field
+    scan-large most n = number-large most limit field (omega (arith, n, taken, value-grows (value * 10 + (getD field k 0 - 48)) (drop (k + 1) field)))
+
+    pub scan-next : 48 ≤ getD field k 0 → getD field k 0 ≤ 57 → value * 10 + (getD field k 0 - 48) ≤ limit → ScanInvariant limit field (value * 10 + (getD field k 0 - 48)) (k + 1)
+    scan-next low high room =
         record {
           within = omega arith;
-          small = power-step value (getD field k 0) k (inv .small) high;
+          small = room;
           digits = rw (a-digit (getD field k 0) low high) at (sym (all-step isDigit field k h)) ∙ inv .digits;
-          says = sym (value-step value field k h) ∙ inv .says;
+          says = taken;
         }
 
   -- none is left
-  module _ (h : length field ≤ k) where
-    scan-all : decimalValue field ≡ value
-    scan-all = sym (inv .says) ∙ value-end value field k h
-
-    pub scan-large : 4294967295 < value → NotANumber ≡ numberOf field
-    scan-large n = number-large field (rw scan-all n)
-
-    pub scan-value : 1 ≤ length field → length field ≤ 10 → value ≤ 4294967295 → Value value ≡ numberOf field
-    scan-value some few n = rw scan-all at (number-value field some few (sym (inv .digits) ∙ all-end isDigit field k h) (rw scan-all n))
+  pub scan-value : (most : ℕ) → length field ≤ k → 1 ≤ length field → length field ≤ most → Value value ≡ numberWithin most limit field
+  scan-value most h some few =
+      let all : decimalValue field ≡ value = sym (inv .says) ∙ value-end value field k h in
+      rw all at (number-value most limit field some few (sym (inv .digits) ∙ all-end isDigit field k h) (rw all (inv .small)))
 
 -- a field of one byte, and one of none or more
 pub bit-one : (field : List ℕ) → length field ≡ 1 → bitOf field ≡ bitOf (getD field 0 0 ∷ [])

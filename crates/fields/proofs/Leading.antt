@@ -14,7 +14,7 @@ use Rattle.bytes.specs.Bytes.{indexOf, indexAfter}
 use Rattle.fields.specs.declared.numbers.Number.{Number}
 use Rattle.fields.specs.declared.numbers.Number.the-variants.{Value, NotANumber}
 use Rattle.fields.specs.declared.numbers.Leading.the-variants.{Field, Nothing}
-use Rattle.fields.specs.Number.{isDigit, allAre, valueAfter, decimalValue, numberOf, bitOf}
+use Rattle.fields.specs.Number.{isDigit, allAre, valueAfter, decimalValue, numberOf, numberWithin, bitOf}
 use Rattle.fields.specs.Fields.{tab, fieldsOf, isHex, isPairs, leadingWith, leadingOf}
 use Rattle.fields.proofs.Parts.{drop-part, parts-end, parts-more, index-most}
 use Rattle.fields.proofs.Digits.{all-at, all-snoc, value-snoc, number-empty, number-long, number-large, number-other, number-value, low-digit, high-digit, a-digit, power-step, power-most}
@@ -96,16 +96,16 @@ module _ (l : List ℕ) (value k : ℕ) (inv : LeadingInvariant l value k) where
 
     pub lead-empty : getD l k 0 ≡ tab → k ≡ 0 → Nothing ≡ leadingOf l
     unfolding leadingWith
-    lead-empty e z = sym (lead-tab e ∙ rw (← number-empty (take k l) (size ∙ z)))
+    lead-empty e z = sym (lead-tab e ∙ rw (← number-empty 10 4294967295 (take k l) (size ∙ z)))
 
     pub lead-large : getD l k 0 ≡ tab → 4294967295 < value → Nothing ≡ leadingOf l
     unfolding leadingWith
-    lead-large e n = sym (lead-tab e ∙ rw (← number-large (take k l) (rw (inv .says) n)))
+    lead-large e n = sym (lead-tab e ∙ rw (← number-large 10 4294967295 (take k l) (rw (inv .says) n)))
 
     pub lead-field : getD l k 0 ≡ tab → 1 ≤ k → value ≤ 4294967295 → Field value (k + 1) ≡ leadingOf l
     unfolding leadingWith
     lead-field e some n =
-        let number : Value value ≡ numberOf (take k l) = rw (inv .says) at (number-value (take k l) (omega (arith, size)) (omega (arith, size, inv .few)) (inv .digits) (rw (inv .says) n)) in
+        let number : Value value ≡ numberOf (take k l) = rw (inv .says) at (number-value 10 4294967295 (take k l) (omega (arith, size)) (omega (arith, size, inv .few)) (inv .digits) (rw (inv .says) n)) in
         sym (lead-tab e ∙ rw (← number))
 
     -- a byte that is neither a digit nor a tab, or an eleventh one: the field is no number, if it ends at all
@@ -114,13 +114,13 @@ module _ (l : List ℕ) (value k : ℕ) (inv : LeadingInvariant l value k) where
         let same : getD (take e l) k 0 ≡ getD l k 0 = getD-take e l k 0 less in
         let sized : length (take e l) ≡ e = length-take-le e l most in
         let wrong : isDigit (getD l k 0) ≡ false → NotANumber ≡ numberOf (take e l) = λ bad.
-        number-other (take e l) (refuted _ (λ all. differ (rw same at (all-at isDigit (take e l) k (omega (arith, sized)) all)) bad)) in
+        number-other _ _ (take e l) (refuted _ (λ all. differ (rw same at (all-at isDigit (take e l) k (omega (arith, sized)) all)) bad)) in
         by-test (λ b. (b || ltb 57 (getD l k 0) || ltb 9 k) ≡ true → NotANumber ≡ numberOf (take e l)) (ltb (getD l k 0) 48)
         (λ low _. wrong (low-digit _ (ltb-true (getD l k 0) 48 low)))
         (λ _ u.
         by-test (λ b. (b || ltb 9 k) ≡ true → NotANumber ≡ numberOf (take e l)) (ltb 57 (getD l k 0))
         (λ high _. wrong (high-digit _ (ltb-true 57 (getD l k 0) high)))
-        (λ _ v. number-long (take e l) (omega (arith, sized, ltb-true 9 k v)))
+        (λ _ v. number-long _ _ (take e l) (omega (arith, sized, ltb-true 9 k v)))
         u)
         t
 
@@ -199,8 +199,8 @@ tab-at (c ∷ cs) h =
 tab-not-all : (test : ℕ → Bool) (l : List ℕ) → test tab ≡ false → indexOf tab l < length l → allAre test l ≡ false
 tab-not-all test l f h = refuted _ (λ all. differ (rw (tab-at l h) at (all-at test l (indexOf tab l) h all)) f)
 
-pub tab-no-number : (l : List ℕ) → indexOf tab l < length l → numberOf l ≡ NotANumber
-tab-no-number l h = sym (number-other l (tab-not-all isDigit l refl h))
+pub tab-no-number : (digits limit : ℕ) (l : List ℕ) → indexOf tab l < length l → numberWithin digits limit l ≡ NotANumber
+tab-no-number digits limit l h = sym (number-other digits limit l (tab-not-all isDigit l refl h))
 
 pub tab-no-pairs : (l : List ℕ) → indexOf tab l < length l → isPairs l ≡ false
 unfolding isPairs

@@ -1,4 +1,4 @@
--- Document 01, 'Board table and program': numbers as text.
+-- Document 01, 'Board table and program', with document 02, C-15: numbers as text.
 use Prim.Native.Nat.{ℕ, _+_, _*_, _-_}
 use mathlib.Core.Bool.{Bool, cond, _&&_, true}
 use mathlib.Core.List.{List, [], _∷_}
@@ -25,14 +25,22 @@ valueAfter n (c ∷ cs) = valueAfter (n * 10 + (c - 48)) cs
 abbrev pub decimalValue : List ℕ → ℕ
 decimalValue digits = valueAfter 0 digits
 
--- "Other numbers: 1 to 10 decimal digits, up to 4,294,967,295"
-unfoldable pub isNumber : List ℕ → Bool
-isNumber field =
-    leb 1 (length field) && leb (length field) 10 && allAre isDigit field && leb (decimalValue field) 4294967295
+-- A number of 1 to so many decimal digits, up to a limit.
+unfoldable pub isNumber : ℕ → ℕ → List ℕ → Bool
+isNumber digits limit field =
+    leb 1 (length field) && leb (length field) digits && allAre isDigit field && leb (decimalValue field) limit
 
 -- `Value` for such a field, `NotANumber` for any other.
-unfoldable pub numberOf : List ℕ → Number
-numberOf field = cond (isNumber field) (Value (decimalValue field)) NotANumber
+unfoldable pub numberWithin : ℕ → ℕ → List ℕ → Number
+numberWithin digits limit field = cond (isNumber digits limit field) (Value (decimalValue field)) NotANumber
+
+-- "Other numbers: 1 to 10 decimal digits, up to 4,294,967,295"
+abbrev pub numberOf : List ℕ → Number
+numberOf = numberWithin 10 4294967295
+
+-- C-15: "W's value field takes any 64-bit number, 1 to 20 digits."
+abbrev pub valueFieldOf : List ℕ → Number
+valueFieldOf = numberWithin 20 18446744073709551615
 
 -- "PCD, CD, NW one digit 0 or 1"
 unfoldable pub bitOf : List ℕ → Number

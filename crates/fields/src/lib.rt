@@ -10,3 +10,4 @@ pub use numbers::Number;
 pub use numbers::leading_number;
 pub use numbers::scan_bit;
 pub use numbers::scan_number;
+pub use numbers::scan_value;

@@ -1,41 +1,60 @@
 // Numbers as text.
 ghost use mathlib.Core.Path.{_≡_};
-ghost use Rattle.fields.specs.Number.{bitOf, numberOf};
+ghost use Rattle.fields.specs.Number.{bitOf, numberOf, numberWithin, valueFieldOf};
 ghost use Rattle.fields.specs.Fields.{leadingOf};
 
 // What a field says where a number belongs.
 pub enum Number {
-    Value(u32),
+    Value(u64),
     NotANumber,
 }
 
-// What a field says: a number of 1 to 10 decimal digits up to 4,294,967,295, or none.
-pub fn scan_number(field: &[u8]) -> Number
-    ensures { λ r. ⌜ r ≡ numberOf (now (field .entry)) ⌝ }
+// What a field says: a number of 1 to so many decimal digits up to a limit, or none. Each digit is held to the limit before it is
+// taken in: the largest limit leaves no room for a number above it.
+fn scan_within(field: &[u8], digits: usize, limit: u64) -> Number
+    ensures { λ r. ⌜ r ≡ numberWithin digits limit (now (field .entry)) ⌝ }
 {
     if field.len() == 0 {
         return Number::NotANumber;
     }
-    if 10 < field.len() {
+    if digits < field.len() {
         return Number::NotANumber;
     }
     let mut value: u64 = 0;
     let mut k: usize = 0;
     while k < field.len() {
-        let digit = field[k];
-        if digit < 48 {
+        let byte = field[k];
+        if byte < 48 {
             return Number::NotANumber;
         }
-        if 57 < digit {
+        if 57 < byte {
             return Number::NotANumber;
         }
-        value = value * 10 + (digit - 48) as u64;
+        let digit = (byte - 48) as u64;
+        if limit / 10 < value {
+            return Number::NotANumber;
+        }
+        if limit - value * 10 < digit {
+            return Number::NotANumber;
+        }
+        value = value * 10 + digit;
         k += 1;
     }
-    if 4294967295 < value {
-        return Number::NotANumber;
-    }
-    Number::Value(value as u32)
+    Number::Value(value)
+}
+
+// A number of 1 to 10 decimal digits up to 4,294,967,295.
+pub fn scan_number(field: &[u8]) -> Number
+    ensures { λ r. ⌜ r ≡ numberOf (now (field .entry)) ⌝ }
+{
+    scan_within(field, 10, 4294967295)
+}
+
+// The value that a write's line gives: any 64-bit number, 1 to 20 decimal digits.
+pub fn scan_value(field: &[u8]) -> Number
+    ensures { λ r. ⌜ r ≡ valueFieldOf (now (field .entry)) ⌝ }
+{
+    scan_within(field, 20, 18446744073709551615)
 }
 
 // The number before the first tab of a text, and the place after that tab.

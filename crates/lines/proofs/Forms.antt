@@ -13,7 +13,7 @@ use Rattle.bytes.specs.Bytes.{indexOf}
 use Rattle.fields.specs.declared.numbers.Number.the-variants.{Value, NotANumber}
 use Rattle.fields.specs.declared.numbers.Leading.the-variants.{Nothing}
 use Rattle.fields.specs.Fields.{tab, fieldsOf, partsOf, inFront, isPairs, leadingOf}
-use Rattle.fields.specs.Number.{numberOf, bitOf}
+use Rattle.fields.specs.Number.{numberOf, valueFieldOf, bitOf}
 use Rattle.fields.proofs.Parts.{drop-part, parts-some, parts-end, parts-more, index-most}
 use Rattle.fields.proofs.Leading.{Led, restFrom, unled, tab-no-number, tab-no-bit, tab-no-pairs}
 use Rattle.lines.specs.declared.Event.{Event}
@@ -111,9 +111,9 @@ module _ (a w x : List ℕ) (n m : ℕ) (e : numberOf a ≡ Value n) (f : number
   unfolding readOf readWith with
   read-last = one-field (readOf a w) x (λ t. rw (e, f, tab-no-bit x t)) ∙ rw (e, f)
 
-  pub write-last : ofOne (writeOf a w) (fieldsOf x) ≡ writeWith n m (numberOf x)
+  pub write-last : ofOne (writeOf a w) (fieldsOf x) ≡ writeWith n m (valueFieldOf x)
   unfolding writeOf writeWith with
-  write-last = one-field (writeOf a w) x (λ t. rw (e, f, tab-no-number x t)) ∙ rw (e, f)
+  write-last = one-field (writeOf a w) x (λ t. let none : valueFieldOf x ≡ NotANumber = tab-no-number _ _ x t in rw (e, f, none)) ∙ rw (e, f)
 
 pub external-first : (a pairs : List ℕ) → numberOf a ≡ NotANumber → externalOf a pairs ≡ Malformed
 unfolding externalOf with
@@ -125,7 +125,7 @@ external-last a pairs n e = one-field (externalOf a) pairs (λ t. rw (e, tab-no-
 
 pub snoop-last : (l : List ℕ) → ofOne snoopOf (fieldsOf l) ≡ with (numberOf l) (λ address. Snoop address)
 unfolding snoopOf with
-snoop-last l = one-field snoopOf l (λ t. rw (tab-no-number l t))
+snoop-last l = one-field snoopOf l (λ t. let none : numberOf l ≡ NotANumber = tab-no-number _ _ l t in rw none)
 
 -- the same choice both ways
 same : {A : Type 0} (b : Bool) (x : A) → cond b x x ≡ x

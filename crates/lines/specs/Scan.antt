@@ -1,4 +1,4 @@
--- Document 01, 'Board table and program': the event of a line.
+-- Document 01, 'Board table and program', with document 02, C-15: the event of a line.
 use Prim.Native.Nat.{ℕ, _+_}
 use mathlib.Core.Bool.{cond}
 use mathlib.Core.List.{List, [], _∷_}
@@ -6,7 +6,7 @@ use lib.Dec.{eqb, ltb}
 use lib.ListN.{length}
 use Rattle.fields.specs.declared.numbers.Number.{Number}
 use Rattle.fields.specs.declared.numbers.Number.the-variants.{Value, NotANumber}
-use Rattle.fields.specs.Number.{numberOf, bitOf}
+use Rattle.fields.specs.Number.{numberOf, valueFieldOf, bitOf}
 use Rattle.fields.specs.Fields.{fieldsOf, isPairs}
 use Rattle.lines.specs.declared.Event.{Event}
 use Rattle.lines.specs.declared.Event.the-variants.{Malformed, Read, Write, External, Snoop, Flush, Control, Reset}
@@ -48,9 +48,9 @@ readOf a w p = with (numberOf a) (λ address. with (numberOf w) (λ width. readW
 unfoldable pub writeWith : ℕ → ℕ → Number → Event
 writeWith address width third = with third (λ value. Write address width value)
 
--- "W address width value"
+-- "W address width value"; the value by C-15
 unfoldable pub writeOf : List ℕ → List ℕ → List ℕ → Event
-writeOf a w v = with (numberOf a) (λ address. with (numberOf w) (λ width. writeWith address width (numberOf v)))
+writeOf a w v = with (numberOf a) (λ address. with (numberOf w) (λ width. writeWith address width (valueFieldOf v)))
 
 -- "X address bytes": the event names where its pairs begin, after the letter, a tab, the address and a tab.
 unfoldable pub externalOf : List ℕ → List ℕ → Event

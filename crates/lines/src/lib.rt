@@ -11,6 +11,7 @@ use fields::is_pairs;
 use fields::leading_number;
 use fields::scan_bit;
 use fields::scan_number;
+use fields::scan_value;
 
 // The bytes of the longest line that asks for anything.
 pub const LONGEST_LINE: usize = 80;
@@ -19,7 +20,7 @@ pub const LONGEST_LINE: usize = 80;
 pub enum Event {
     Malformed,
     Read(u32, u32, bool),
-    Write(u32, u32, u32),
+    Write(u32, u32, u64),
     External(u32, usize),
     Snoop(u32),
     Flush,
@@ -87,7 +88,7 @@ fn access_of(is_read: bool, fields: &[u8]) -> Event
     if is_read {
         read_event(address, width, scan_bit(third))
     } else {
-        write_event(address, width, scan_number(third))
+        write_event(address, width, scan_value(third))
     }
 }
 
@@ -127,7 +128,7 @@ fn snoop_of(fields: &[u8]) -> Event
     ensures { λ r. ⌜ r ≡ ofOne snoopOf (fieldsOf (now (fields .entry))) ⌝ }
 {
     match scan_number(fields) {
-        Number::Value(address) => Event::Snoop(address),
+        Number::Value(address) => Event::Snoop(address as u32),
         Number::NotANumber => Event::Malformed,
     }
 }

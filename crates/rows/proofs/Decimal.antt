@@ -3,14 +3,14 @@ use Prim.Native.Nat.{ℕ, zero, suc, _+_, _-_, _/_, _%_, _^_, _≤_, _<_}
 use mathlib.Core.Path.{_≡_, refl, sym}
 use mathlib.Core.Bool.{true, cond}
 use mathlib.Core.List.{[], _∷_, _++_}
-use native.Mathlib.Nat.{pow-suc, mod-eq-of-lt}
+use native.Mathlib.Nat.{pow-suc, pow-succ', one-le-pow, mod-eq-of-lt, div-one, div-div-eq-div-mul}
 use native.Mathlib.Omega.{arith}
 use lib.Dec.{ltb}
 use lib.ListN.{length, length-append}
 use borrow.Author.Tests.{ltb-true, ltb-false, lt-ltb, le-ltb}
 use Rattle.laws.proofs.Tests.{by-test}
 use Rattle.fields.specs.declared.numbers.Number.the-variants.{Value}
-use Rattle.fields.specs.Number.{isDigit, allAre, valueAfter, decimalValue, numberOf}
+use Rattle.fields.specs.Number.{isDigit, allAre, valueAfter, decimalValue, numberWithin}
 use Rattle.fields.proofs.Digits.{value-snoc, all-snoc, a-digit, number-value}
 use Rattle.rows.specs.Decimal.{digitsOf, decimal}
 
@@ -47,6 +47,15 @@ more-digits (suc k) n h l =
     let b = rw (pow-suc 10 (suc (suc k))) at l in
     omega (arith, digit-place n (omega arith), more-digits k (n / 10) (omega arith) (omega arith))
 
+-- the digits in front of the last k
+pub digits-before : (k n : ℕ) → 10 ^ k ≤ n → length (decimal n) ≡ k + length (decimal (n / 10 ^ k))
+digits-before zero n h = rw (div-one n) (omega arith)
+digits-before (suc k) n h =
+    let m = rw (pow-suc 10 k) at h in
+    let some : 1 ≤ 10 ^ k = one-le-pow k 10 (omega arith) in
+    let e : n / 10 ^ suc k ≡ n / 10 / 10 ^ k = rw (pow-succ' 10 k) (sym (div-div-eq-div-mul n 10 (10 ^ k))) in
+    rw e (omega (arith, digit-place n (omega arith), digits-before k (n / 10) (omega arith)))
+
 -- The text of a number has its value, digits only, and no more of them than its size asks for.
 digits-value : (most n : ℕ) → n < most → decimalValue (digitsOf most n) ≡ n
 unfolding digitsOf valueAfter
@@ -80,13 +89,14 @@ digits-some most n =
     by-test (λ t. 1 ≤ length (cond t [] (digitsOf most (n / 10)) ++ ((48 + n % 10) ∷ []))) (ltb n 10) (λ _. omega arith)
     (λ _. rw (length-append (digitsOf most (n / 10)) ((48 + n % 10) ∷ [])) (omega arith))
 
-pub decimal-most : (n : ℕ) → n ≤ 4294967295 → length (decimal n) ≤ 10
+pub decimal-most : (k n : ℕ) → n < 10 ^ suc k → length (decimal n) ≤ suc k
 unfolding decimal
-decimal-most n h = digits-most (suc n) 9 n (omega (arith, h))
+decimal-most k n h = digits-most (suc n) k n h
 
--- Scanning what was printed gives the number back.
-pub printed-scanned : (n : ℕ) → n ≤ 4294967295 → numberOf (decimal n) ≡ Value n
+-- Scanning what was printed gives the number back, where so many digits are room enough for every number up to the limit.
+pub printed-scanned : (k limit n : ℕ) → limit < 10 ^ suc k → n ≤ limit → numberWithin (suc k) limit (decimal n) ≡ Value n
 unfolding decimal
-printed-scanned n h =
+printed-scanned k limit n room h =
     let v : decimalValue (digitsOf (suc n) n) ≡ n = digits-value (suc n) n (omega arith) in
-    sym (rw v at (number-value (digitsOf (suc n) n) (digits-some n n) (decimal-most n h) (digits-all (suc n) n) (rw v h)))
+    let few = decimal-most k n (omega (arith, room, h)) in
+    sym (rw v at (number-value (suc k) limit (digitsOf (suc n) n) (digits-some n n) few (digits-all (suc n) n) (rw v h)))

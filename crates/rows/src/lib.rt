@@ -1,7 +1,7 @@
 // Numbers and rows as text, printed into a lent buffer.
 ghost use mathlib.Core.Path.{_≡_};
 ghost use mathlib.Core.List.{List};
-ghost use Prim.Native.Nat.{ℕ, _+_, _≤_};
+ghost use Prim.Native.Nat.{ℕ, _+_, _≤_, _<_};
 ghost use lib.ListN.{length, set};
 ghost use lib.Seq.{sets};
 ghost use Rattle.rows.specs.Decimal.{decimal};
@@ -23,8 +23,9 @@ fn place_in(out: &[u8], at: usize) -> usize
     if at < out.len() { at } else { out.len() }
 }
 
-// How many decimal digits a number has.
-fn digit_count(n: u32) -> usize
+// How many decimal digits a number below 10,000,000,000 has.
+fn low_digit_count(n: u64) -> usize
+    requires { ⌜ n < 10000000000 ⌝ }
     ensures { λ r. ⌜ (r ≡ length (decimal n)) × (r ≤ 10) ⌝ }
 {
     if n < 10 {
@@ -57,11 +58,21 @@ fn digit_count(n: u32) -> usize
     10
 }
 
+// How many decimal digits a number has.
+fn digit_count(n: u64) -> usize
+    ensures { λ r. ⌜ (r ≡ length (decimal n)) × (r ≤ 20) ⌝ }
+{
+    if n < 10000000000 {
+        return low_digit_count(n);
+    }
+    10 + low_digit_count(n / 10000000000)
+}
+
 // Puts the decimal text of n at a place of out, the last digit first, as far as out goes, and answers the place after it.
-fn put_number(out: &mut [u8], at: usize, n: u32) -> usize
-    requires { ⌜ at ≤ length (now out) + 33 ⌝ }
+fn put_number(out: &mut [u8], at: usize, n: u64) -> usize
+    requires { ⌜ at ≤ length (now out) + 63 ⌝ }
     ensures { λ r. ⌜ (r ≡ at + length (decimal n)) × (now (out .exit) ≡ sets (now (out .entry)) at (decimal n)) ⌝ }
-    ensures { λ r. ⌜ r ≤ at + 10 ⌝ }
+    ensures { λ r. ⌜ r ≤ at + 20 ⌝ }
 {
     let end = at + digit_count(n);
     let mut rest = n;
@@ -89,18 +100,18 @@ pub fn put_header(out: &mut [u8]) -> usize
 }
 
 // Puts a row at a place of out, as far as out goes, and answers the row's length.
-pub fn put_row(out: &mut [u8], at: usize, event: u32, number: u32, value: u32, cycles: u32) -> usize
+pub fn put_row(out: &mut [u8], at: usize, event: u32, number: u32, value: u64, cycles: u32) -> usize
     ensures { λ r. ⌜ (r ≡ length (rowOf event number value cycles)) × (now (out .exit) ≡ sets (now (out .entry)) at (rowOf event number value cycles)) ⌝ }
-    ensures { λ r. ⌜ r ≤ 44 ⌝ }
+    ensures { λ r. ⌜ r ≤ 54 ⌝ }
 {
     let from = place_in(out, at);
-    let a = put_number(out, from, event);
+    let a = put_number(out, from, event as u64);
     put(out, a, b'\t');
-    let b = put_number(out, a + 1, number);
+    let b = put_number(out, a + 1, number as u64);
     put(out, b, b'\t');
     let c = put_number(out, b + 1, value);
     put(out, c, b'\t');
-    let d = put_number(out, c + 1, cycles);
+    let d = put_number(out, c + 1, cycles as u64);
     put(out, d, b'\n');
     d + 1 - from
 }

@@ -1,44 +1,48 @@
-use Rattle.board.specs.Board.{boardAnswers}
-use mathlib.Core.Path.{_≡_, sym, _∙_}
-use Prim.Native.Nat.{_≤_, _-_}
+use Prim.Native.Nat.{_-_, _≤_}
+use mathlib.Core.Path.{_≡_, sym, ap, _∙_}
 use native.Mathlib.Omega.{arith}
-use Rattle.board.proofs.Answers.{storedFrom, stored-all, stored-one, stored-none}
+use Rattle.bus.specs.Groups.{groupCount}
+use Rattle.board.specs.Board.{answerAt, boardAnswers}
+use Rattle.board.proofs.Answers.{filledFrom, filled-lowest, filled-one, filled-none}
 use Rattle.board.proofs.board_answers.Statement.{statement}
 use Rattle.board.proofs.board_answers.Tie as tie
 
 abbrev Inv-loop : tie.InvT-loop
-Inv-loop address width lower upper answers₀ k₀ answers k = (k ≤ 32) × (storedFrom k upper answers ≡ boardAnswers address width)
+Inv-loop address width lowest answers₀ group₀ answers group = (group ≤ groupCount) × (filledFrom address width group answers ≡ boardAnswers address width)
 
 abbrev μ-loop : tie.MeasureT-loop
-μ-loop address width lower upper answers₀ k₀ answers k = 32 - k
+μ-loop address width lowest answers₀ group₀ answers group = groupCount - group
 
 answer-at-requires : tie.Need-answer-at-requires Inv-loop μ-loop
 answer-at-requires c κs = tt
 
-upper-address-requires : tie.Need-upper-address-requires Inv-loop μ-loop
-upper-address-requires c κs = tt
+loop-holds : tie.Need-loop-holds Inv-loop μ-loop
+loop-holds c = (omega arith, filled-lowest _ _ _ (c .answer-at .ensures))
+
+group-address-requires : tie.Need-group-address-requires Inv-loop μ-loop
+group-address-requires c κs = omega arith
 
 answer-at-requires-2 : tie.Need-answer-at-requires-2 Inv-loop μ-loop
 answer-at-requires-2 c κs = tt
 
-loop-holds : tie.Need-loop-holds Inv-loop μ-loop
-unfolding boardAnswers
-loop-holds c = (omega arith, stored-all (c .before .before .answer-at .result) (c .answer-at2 .result) ∙ rw (c .before .before .answer-at .ensures, c .answer-at2 .ensures, c .before .upper-address .ensures))
+fill-group-requires : tie.Need-fill-group-requires Inv-loop μ-loop
+fill-group-requires c κs = omega arith
 
-array-write-answers : tie.Need-array-write-answers Inv-loop μ-loop
-array-write-answers c = omega arith
-
-add-k : tie.Need-add-k Inv-loop μ-loop
-add-k c = omega arith
+add-group : tie.Need-add-group Inv-loop μ-loop
+add-group c = omega arith
 
 loop-less : tie.Need-loop-less Inv-loop μ-loop
 loop-less c = omega arith
 
 loop-again : tie.Need-loop-again Inv-loop μ-loop
-loop-again c = (omega arith, stored-one (c .before .loop .k) (c .before .before .answer-at2 .result) (c .before .loop .answers) (omega arith) ∙ c .before .loop .inv .1)
+loop-again c =
+    let at-group-address = c .before .before .before in
+    let l = at-group-address .before .before .loop in
+    let answer = c .before .before .answer-at2 .ensures ∙ ap answerAt (at-group-address .group-address .ensures) in
+    (omega arith, rw (c .fill-group .ensures) (filled-one _ _ (l .group) _ (l .answers) (omega arith) answer) ∙ l .inv .1)
 
 returns : tie.Need-returns Inv-loop μ-loop
-returns c = sym (stored-none (c .before .loop .k) (c .before .before .answer-at2 .result) (c .before .loop .answers) (omega arith)) ∙ c .before .loop .inv .1
+returns c = let l = c .before .loop in sym (filled-none _ _ (l .group) (l .answers) (omega arith)) ∙ l .inv .1
 
 pub board-answers-spec : {M : Type 1} → statement M
 board-answers-spec =
@@ -47,11 +51,11 @@ board-answers-spec =
     Inv-loop
     μ-loop
     answer-at-requires
-    upper-address-requires
-    answer-at-requires-2
     loop-holds
-    array-write-answers
-    add-k
+    group-address-requires
+    answer-at-requires-2
+    fill-group-requires
+    add-group
     loop-less
     loop-again
     returns)

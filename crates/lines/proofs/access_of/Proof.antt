@@ -63,8 +63,8 @@ scan-bit-requires c κs = search needs
 read-event-requires : tie.Need-read-event-requires
 read-event-requires c κs = search needs
 
-scan-number-requires : tie.Need-scan-number-requires
-scan-number-requires c κs = search needs
+scan-value-requires : tie.Need-scan-value-requires
+scan-value-requires c κs = search needs
 
 write-event-requires : tie.Need-write-event-requires
 write-event-requires c κs = search needs
@@ -81,7 +81,7 @@ returns-4 c =
     let width = second (c .before .before .before .before) in
     let address = first (c .before .before .before .before .before .before .before .before .before) in
     let last = write-last (address .field) (width .field) _ _ _ (address .says) (width .says) in
-    c .write-event .ensures ∙ rw (c .before .before .if1 .left) (sym (three-led address _ ∙ two-led width _ ∙ last ∙ rw (c .before .scan-number .ensures)))
+    c .write-event .ensures ∙ rw (c .before .before .if1 .left) (sym (three-led address _ ∙ two-led width _ ∙ last ∙ rw (c .before .scan-value .ensures)))
 
 pub access-of-spec : {M : Type 1} → statement M
 access-of-spec =
@@ -103,7 +103,7 @@ access-of-spec =
     part-third-end
     scan-bit-requires
     read-event-requires
-    scan-number-requires
+    scan-value-requires
     write-event-requires
     returns-3
     returns-4)

@@ -1,5 +1,7 @@
 use Rattle.lines.proofs.Forms.{snoop-last}
 use Rattle.lines.specs.Scan.{with}
+use Rattle.fields.proofs.Digits.{number-most}
+use native.Mathlib.Omega.{arith}
 use mathlib.Core.Path.{sym, _∙_}
 use borrow.Author.Needs.{needs}
 use Rattle.lines.proofs.snoop_of.Statement.{statement}
@@ -10,6 +12,9 @@ scan-number-requires c κs = search needs
 
 enum-known-address : tie.Need-enum-known-address
 enum-known-address c = search needs
+
+cast-t5 : tie.Need-cast-t5
+cast-t5 c = omega (arith, number-most _ _ _ _ (sym (c .before .before .before .scan-number .ensures) ∙ c .before .address .given .1))
 
 enum-told : tie.Need-enum-told
 enum-told c = search needs
@@ -24,4 +29,4 @@ returns-2 c = sym (snoop-last _ ∙ rw (sym (c .before .before .scan-number .ens
 
 pub snoop-of-spec : {M : Type 1} → statement M
 snoop-of-spec =
-    tie.close (tie.spec scan-number-requires enum-known-address enum-told returns returns-2)
+    tie.close (tie.spec scan-number-requires enum-known-address cast-t5 enum-told returns returns-2)

@@ -1,4 +1,5 @@
 use Rattle.rows.specs.Row.{rowOf}
+use Rattle.rows.proofs.Decimal.{decimal-most}
 use Rattle.rows.proofs.Printing.{row-put}
 use native.Mathlib.Omega.{arith}
 use mathlib.Core.Path.{_∙_}
@@ -99,12 +100,13 @@ returns c =
       (omega (arith, put .0), put .1 ∙ at-place-in .place-in .ensures .1 (rowOf (a .event) (a .number) (a .value) (a .cycles))),
       omega (
         arith,
-        at-put-number .put-number .ensures .1,
-        at-put-number2 .put-number2 .ensures .1,
+        at-put-number .put-number .ensures .0 .0,
+        decimal-most 9 (a .event) (omega arith),
+        at-put-number2 .put-number2 .ensures .0 .0,
+        decimal-most 9 (a .number) (omega arith),
         at-put-number3 .put-number3 .ensures .1,
-        at-put-number4 .put-number4 .ensures .1,
-        at-place-in .place-in .ensures .0,
-        start .fits,
+        at-put-number4 .put-number4 .ensures .0 .0,
+        decimal-most 9 (a .cycles) (omega arith),
       ),
     )
 
