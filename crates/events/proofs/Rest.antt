@@ -51,7 +51,7 @@ module _ (input out₀ : List ℕ) (from : ℕ) where
     pub printed : sets out at (rowsLeft input s event place) ≡ sets out₀ from (rowsOf start 1 (linesOf input))
     pub events : event ≤ place + 1
     pub within : place ≤ length input + 1
-    pub most : at + 44 ≤ from + 44 * event
+    pub most : at + 54 ≤ from + 54 * event
     pub outLength : length out ≡ length out₀
     pub ramLength : length (s .memory .ram) ≡ ramSize
     pub parityLength : length (s .memory .parity) ≡ ramSize / 4
@@ -80,7 +80,7 @@ module _ (input out₀ : List ℕ) (from : ℕ) where
         → (e ≡ indexOf newline rest) × (e ≤ length rest)
         → after done m array log ≡ lineDone s (take e rest)
         → (length (m .ram) ≡ length (s .memory .ram)) × (length (m .parity) ≡ length (s .memory .parity)) × (length array ≡ length (s .array))
-        → ((size ≡ length (rowFor event done)) × (out′ ≡ sets out at (rowFor event done))) × (size ≤ 44)
+        → ((size ≡ length (rowFor event done)) × (out′ ≡ sets out at (rowFor event done))) × (size ≤ 54)
         → RunInvariant (state (done .directory) m array) out′ (event + 1) (place + e + 1) (at + size)
     run-next rest e done m array log out′ size h r (i, l) d (lr, lp, la) ((n, p), few) =
         let row = rowFor event done in

@@ -20,9 +20,9 @@ ramSize = 65536
 abbrev pub longestInput : ℕ
 longestInput = 65536
 
--- No rule: no output is longer. A header of 26 bytes, and at most 44 for each line and for one more.
+-- No rule: no output is longer. A header of 26 bytes, and at most 54 for each line and for one more.
 abbrev pub longestOutput : ℕ
-longestOutput = 2883654
+longestOutput = 3539024
 
 -- A row shows an event's answer.
 abbrev pub rowFor : ℕ → Outcome → List ℕ

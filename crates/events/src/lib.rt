@@ -20,7 +20,7 @@ const RAM_SIZE: usize = 65536;
 pub const LONGEST_INPUT: usize = 65536;
 
 // Bytes that are enough for every output.
-pub const LONGEST_OUTPUT: usize = 2883654;
+pub const LONGEST_OUTPUT: usize = 3539024;
 
 // Puts the output of the program for the input at the start of output, as far as output goes, and answers its length.
 pub fn run(input: &[u8], output: &mut [u8]) -> usize
@@ -38,7 +38,7 @@ pub fn run(input: &[u8], output: &mut [u8]) -> usize
 fn run_lines(input: &[u8], output: &mut [u8], from: usize) -> usize
     requires { ⌜ (length (now input) ≤ longestInput) × (from ≤ length header) ⌝ }
     ensures { λ r. ⌜ (r ≡ from + length (rowsOf start 1 (linesOf (now (input .entry))))) × (now (output .exit) ≡ sets (now (output .entry)) from (rowsOf start 1 (linesOf (now (input .entry))))) ⌝ }
-    ensures { λ r. ⌜ r ≤ from + 44 * (longestInput + 1) ⌝ }
+    ensures { λ r. ⌜ r ≤ from + 54 * (longestInput + 1) ⌝ }
 {
     let directory = Directory::reset();
     let mut tags = directory.tags;

@@ -11,6 +11,7 @@ use crate::script::bytes_from;
 use crate::script::digits;
 use crate::script::letter_of;
 use crate::script::number;
+use crate::script::wide_number;
 use crate::stores::store_line;
 use carried::CarriedWrites;
 use directory::Directory;
@@ -22,7 +23,7 @@ use directory::SETS;
 struct Access {
     address: u32,
     width: u32,
-    third: u32,
+    third: u64,
     next: usize,
 }
 
@@ -175,7 +176,7 @@ fn write_line(
 fn fields_of(line: &[u8]) -> Access {
     let address = number(line, 1);
     let width = number(line, address.next);
-    let third = number(line, width.next);
+    let third = wide_number(line, width.next);
     Access {
         address: address.value,
         width: width.value,

@@ -36,7 +36,7 @@ pub fn call_row(
 ) -> Directory {
     label(&[letter]);
     number(done.number as u64);
-    number(done.value as u64);
+    number(done.value);
     number(done.cycles as u64);
     words(log, done.cycles as usize * 3);
     let d = done.directory;
@@ -88,7 +88,7 @@ pub fn end_with_digests(d: Directory, ram: &[u8], parity: &[u8], data: &[u8], lo
 // The answers are one field, a digit for each.
 pub fn board_row(answers: &[u8; ANSWERS]) {
     label(b"B\t");
-    for k in 0..32usize {
+    for k in 0..ANSWERS {
         digit(answers[k]);
     }
     end_row();

@@ -9,6 +9,12 @@ pub struct Field {
     pub next: usize,
 }
 
+// The number of a field that has 64 bits, and the place after it.
+pub struct WideField {
+    pub value: u64,
+    pub next: usize,
+}
+
 // The place after the line that begins at `at`.
 pub fn line_end(script: &[u8], at: usize) -> usize
     requires { ⌜ at < length (now script) ⌝ }
@@ -31,17 +37,26 @@ pub fn letter_of(line: &[u8]) -> u8 {
 
 // The number of the field at a place, modulo 2^32; 0 where there is none.
 pub fn number(line: &[u8], at: usize) -> Field {
-    let mut value = 0u32;
+    let wide = wide_number(line, at);
+    Field {
+        value: (wide.value % 4294967296) as u32,
+        next: wide.next,
+    }
+}
+
+// The same modulo 2^64.
+pub fn wide_number(line: &[u8], at: usize) -> WideField {
+    let mut value = 0u64;
     let mut next = after_blank(line, at);
     while next < line.len() {
         let byte = line[next];
         if !is_digit(byte) {
-            return Field { value, next };
+            return WideField { value, next };
         }
         value = with_digit(value, byte);
         next += 1;
     }
-    Field { value, next }
+    WideField { value, next }
 }
 
 // A field of digits that are each a value: how many there are, as far as they have room.
@@ -137,9 +152,11 @@ fn is_digit(byte: u8) -> bool {
     b'0' <= byte && byte <= b'9'
 }
 
-// The lower four bits of a digit's byte are its value.
-fn with_digit(value: u32, digit: u8) -> u32 {
-    ((value as u64 * 10 + (digit % 16) as u64) % 4294967296) as u32
+// Ten times the value and a digit, modulo 2^64, half by half. The lower four bits of a digit's byte are its value.
+fn with_digit(value: u64, digit: u8) -> u64 {
+    let low = value % 4294967296 * 10 + (digit % 16) as u64;
+    let high = value / 4294967296 * 10 + low / 4294967296;
+    high % 4294967296 * 4294967296 + low % 4294967296
 }
 
 fn low_byte(value: u32) -> u8 {

@@ -4,10 +4,10 @@ use Rattle.replay.proofs.print.board_row.Statement.{statement}
 use Rattle.replay.proofs.print.board_row.Tie as tie
 
 abbrev Inv-loop : tie.InvT-loop
-Inv-loop answers k₀ k = k ≤ 32
+Inv-loop answers k₀ k = k ≤ 48
 
 abbrev μ-loop : tie.MeasureT-loop
-μ-loop answers k₀ k = 32 - k
+μ-loop answers k₀ k = 48 - k
 
 slice-aggregate-label : tie.Need-slice-aggregate-label Inv-loop μ-loop
 slice-aggregate-label c = search needs

@@ -1,8 +1,8 @@
 use borrow.Author.Needs.{needs}
 use Prim.Native.Nat.{_-_}
 use lib.ListN.{length}
-use Rattle.replay.proofs.script.number.Statement.{statement}
-use Rattle.replay.proofs.script.number.Tie as tie
+use Rattle.replay.proofs.script.wide_number.Statement.{statement}
+use Rattle.replay.proofs.script.wide_number.Tie as tie
 
 abbrev Inv-loop : tie.InvT-loop
 Inv-loop line at value₀ next₀ value next = Unit {0}
@@ -40,8 +40,8 @@ loop-again c = search needs
 returns-2 : tie.Need-returns-2 Inv-loop μ-loop
 returns-2 c = search needs
 
-pub number-spec : {M : Type 1} → statement M
-number-spec =
+pub wide-number-spec : {M : Type 1} → statement M
+wide-number-spec =
     tie.close
     (tie.spec
     Inv-loop
