@@ -6,7 +6,8 @@
 
 namespace baseline {
 
-// "0 to 15 serve the cycles of the lower doubleword in turn, 16 to 31 those of the upper"
+// "0 to 15 serve the cycles of the lower doubleword in turn, 16 to 31 those of the upper"; document 02: "48
+// answers in groups of 16".
 constexpr unsigned group_answers = 16;
 
 // "A cycle moves part of the bytes still wanted, starting with the lowest: with BS8# that byte alone;
@@ -44,7 +45,7 @@ inline void read_cycle(
     records.put(address, lanes | flags | (wrong ? UNIT486_FLAG_WRONG_PARITY : 0), word);
 }
 
-// The wanted lanes of an access: 0 to 3 in the lower doubleword, 4 to 7 in the upper one.
+// The wanted lanes of an access: 0 to 3 in the lowest doubleword, 4 to 7 in the next, 8 to 10 in the third.
 inline unsigned wanted_lanes(uint32_t address, uint32_t width) { return ((1u << width) - 1) << address % 4; }
 
 // Ahead of a cycle of a read that carries no writes.

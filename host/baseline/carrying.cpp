@@ -73,6 +73,19 @@ uint32_t read_doubleword(
     return load(access.lent.data + data_offset(line_index(set, way), address)) & lane_bits[wanted];
 }
 
+uint64_t read_doublewords(
+    Carrying &access, uint32_t address, unsigned wanted, bool may_fill, const uint8_t *answers)
+{
+    uint64_t value = 0;
+    for (uint32_t doubleword = address & ~3u; wanted != 0; doubleword += 4) {
+        const uint32_t word = read_doubleword(access, doubleword, wanted & all_lanes, may_fill, answers);
+        value |= value_part(word, doubleword - address);
+        wanted >>= 4;
+        answers += group_answers;
+    }
+    return value;
+}
+
 // "State numbers: the read's sets first, then the writes' in list order."
 uint32_t carrying_states_number(
     const Directory &directory, uint32_t address, uint32_t width, const unit486_carried_writes &carried)
@@ -97,19 +110,12 @@ unit486_result read_carrying(Directory &directory, unit486_buffers &lent, uint32
     if (number != UNIT486_DONE)
         return {number, 0, 0};
     Carrying access{directory, lent, carried, {log}};
-    const bool may_fill = !directory.cd && !pcd;
-    const unsigned wanted = wanted_lanes(address, width);
-    const uint32_t lower = address & ~3u;
-    uint64_t words = read_doubleword(access, lower, wanted & all_lanes, may_fill, answers);
-    if (wanted > all_lanes) {
-        const uint64_t upper =
-            read_doubleword(access, lower + 4, wanted >> 4, may_fill, answers + group_answers);
-        words |= upper << 32;
-    }
+    const uint64_t value =
+        read_doublewords(access, address, wanted_lanes(address, width), !directory.cd && !pcd, answers);
     // "Writes numbered past the last cycle, and all where there is none, land after the value is taken."
     while (access.next < carried.count)
         access.land();
-    return {UNIT486_DONE, static_cast<uint32_t>(words >> 8 * (address % 4)), access.records.count};
+    return {UNIT486_DONE, access.records.count, value};
 }
 
 } // namespace baseline
