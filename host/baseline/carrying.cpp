@@ -73,19 +73,6 @@ uint32_t read_doubleword(
     return load(access.lent.data + data_offset(line_index(set, way), address)) & lane_bits[wanted];
 }
 
-uint64_t read_doublewords(
-    Carrying &access, uint32_t address, unsigned wanted, bool may_fill, const uint8_t *answers)
-{
-    uint64_t value = 0;
-    for (uint32_t doubleword = address & ~3u; wanted != 0; doubleword += 4) {
-        const uint32_t word = read_doubleword(access, doubleword, wanted & all_lanes, may_fill, answers);
-        value |= value_part(word, doubleword - address);
-        wanted >>= 4;
-        answers += group_answers;
-    }
-    return value;
-}
-
 // "State numbers: the read's sets first, then the writes' in list order."
 uint32_t carrying_states_number(
     const Directory &directory, uint32_t address, uint32_t width, const unit486_carried_writes &carried)
@@ -110,8 +97,11 @@ unit486_result read_carrying(Directory &directory, unit486_buffers &lent, uint32
     if (number != UNIT486_DONE)
         return {number, 0, 0};
     Carrying access{directory, lent, carried, {log}};
-    const uint64_t value =
-        read_doublewords(access, address, wanted_lanes(address, width), !directory.cd && !pcd, answers);
+    const bool may_fill = !directory.cd && !pcd;
+    const auto read_one = [&](uint32_t doubleword, unsigned wanted, const uint8_t *group) {
+        return read_doubleword(access, doubleword, wanted, may_fill, group);
+    };
+    const uint64_t value = read_doublewords(address, width, answers, read_one);
     // "Writes numbered past the last cycle, and all where there is none, land after the value is taken."
     while (access.next < carried.count)
         access.land();

@@ -33,18 +33,6 @@ inline void store_lanes(uint8_t *to, unsigned lanes, uint32_t word)
     store(to, (load(to) & ~bits) | (word & bits));
 }
 
-// A doubleword and a value of which it has some bytes, little-endian: where the doubleword's first byte stands
-// in the value, from 3 bytes before its start (which is 2^32 - 3 here) to 7 after it.
-inline uint64_t value_part(uint64_t word, uint32_t place)
-{
-    return place < 8 ? word << 8 * place : word >> 8 * (0 - place);
-}
-
-inline uint32_t word_part(uint64_t value, uint32_t place)
-{
-    return static_cast<uint32_t>(place < 8 ? value >> 8 * place : value << 8 * (0 - place));
-}
-
 // "Even parity: a byte and its DP bit together have an even number of ones": DP0 to DP3 of a doubleword.
 inline unsigned dp_bits(uint32_t word)
 {

@@ -81,16 +81,10 @@ unit486_result read(Directory &directory, unit486_buffers &lent, uint32_t addres
         return {number, 0, 0};
     Records records{log};
     const bool may_fill = !directory.cd && !pcd;
-    uint64_t value = 0;
-    // "the lower one completed first (H)": the next one may hit in the line that it filled.
-    uint32_t doubleword = address & ~3u;
-    for (unsigned wanted = wanted_lanes(address, width); wanted != 0; wanted >>= 4) {
-        const uint32_t word =
-            read_doubleword(directory, lent, doubleword, wanted & all_lanes, may_fill, answers, records);
-        value |= value_part(word, doubleword - address);
-        doubleword += 4;
-        answers += group_answers;
-    }
+    const auto read_one = [&](uint32_t doubleword, unsigned wanted, const uint8_t *group) {
+        return read_doubleword(directory, lent, doubleword, wanted, may_fill, group, records);
+    };
+    const uint64_t value = read_doublewords(address, width, answers, read_one);
     return {UNIT486_DONE, records.count, value};
 }
 
@@ -121,13 +115,10 @@ unit486_result write(Directory &directory, unit486_buffers &lent, uint32_t addre
     if (number != UNIT486_DONE)
         return {number, 0, 0};
     Records records{log};
-    uint32_t doubleword = address & ~3u;
-    for (unsigned wanted = wanted_lanes(address, width); wanted != 0; wanted >>= 4) {
-        const uint32_t word = word_part(value, doubleword - address);
-        write_doubleword(directory, lent, doubleword, wanted & all_lanes, word, answers, records);
-        doubleword += 4;
-        answers += group_answers;
-    }
+    write_doublewords(
+        address, width, value, answers, [&](uint32_t doubleword, unsigned wanted, uint32_t word, const uint8_t *group) {
+            write_doubleword(directory, lent, doubleword, wanted, word, group, records);
+        });
     return {UNIT486_DONE, records.count, 0};
 }
 
