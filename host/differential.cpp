@@ -40,6 +40,8 @@ int main(int argc, char **argv)
     series.large(200);
     series.test_limits();
     series.first_victims();
+    series.operand_limits();
+    series.operands();
     series.carried_limits();
     series.carrying();
     while (coverage.calls < calls) {
