@@ -49,8 +49,8 @@ inline void read_cycle(
 inline unsigned wanted_lanes(uint32_t address, uint32_t width) { return ((1u << width) - 1) << address % 4; }
 constexpr unsigned two_doublewords = 255;
 
-// Document 02: "up to three doublewords". `read` gives the wanted lanes of one; "the lower one completed first
-// (H)": the next one may hit in the line that it filled. They are written out, which is faster than a loop.
+// Document 02: "up to three doublewords". `read` gives the wanted lanes of one; "the lower one completed
+// first (H)": the next one may hit in the line that it filled. Written out, which is faster than a loop.
 template <class Read>
 uint64_t read_doublewords(uint32_t address, uint32_t width, const uint8_t *answers, Read read)
 {
@@ -75,8 +75,8 @@ void write_doublewords(uint32_t address, uint32_t width, uint64_t value, const u
     const uint64_t words = value << shift;
     write(lowest, wanted & all_lanes, static_cast<uint32_t>(words), answers);
     if (wanted > all_lanes)
-        write(lowest + 4, wanted >> 4 & all_lanes, static_cast<uint32_t>(words >> 32),
-            answers + group_answers);
+        write(
+            lowest + 4, wanted >> 4 & all_lanes, static_cast<uint32_t>(words >> 32), answers + group_answers);
     if (wanted > two_doublewords)
         write(lowest + 8, wanted >> 8, static_cast<uint32_t>(value >> (64 - shift)),
             answers + 2 * group_answers);

@@ -115,10 +115,10 @@ unit486_result write(Directory &directory, unit486_buffers &lent, uint32_t addre
     if (number != UNIT486_DONE)
         return {number, 0, 0};
     Records records{log};
-    write_doublewords(
-        address, width, value, answers, [&](uint32_t doubleword, unsigned wanted, uint32_t word, const uint8_t *group) {
-            write_doubleword(directory, lent, doubleword, wanted, word, group, records);
-        });
+    const auto write_one = [&](uint32_t doubleword, unsigned wanted, uint32_t word, const uint8_t *group) {
+        write_doubleword(directory, lent, doubleword, wanted, word, group, records);
+    };
+    write_doublewords(address, width, value, answers, write_one);
     return {UNIT486_DONE, records.count, 0};
 }
 

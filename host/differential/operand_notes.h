@@ -1,5 +1,5 @@
-// What accesses of up to three doublewords met, and the limits of what they are given, so that a test which met
-// too little fails.
+// What accesses of up to three doublewords met, and the limits of what they are given, so that a test which
+// met too little fails.
 #pragma once
 
 #include "baseline/refusal.h"
@@ -46,8 +46,7 @@ private:
         coverage.note(one_answer_less, wrong_answers && answers == UNIT486_ANSWERS - 1);
         coverage.note(one_answer_more, wrong_answers && answers == UNIT486_ANSWERS + 1);
         coverage.note(last_answer_above_7, wrong_answers && answers == UNIT486_ANSWERS && last_alone_wrong());
-        coverage.note(
-            log_of_143_words, result.number == UNIT486_SHORT_LOG && log == UNIT486_LOG_WORDS - 1);
+        coverage.note(log_of_143_words, result.number == UNIT486_SHORT_LOG && log == UNIT486_LOG_WORDS - 1);
         coverage.note(log_of_144_words, done() && log == UNIT486_LOG_WORDS);
         coverage.note(log_of_145_words, done() && log == UNIT486_LOG_WORDS + 1);
     }
@@ -134,7 +133,6 @@ private:
         coverage.note(board_with_own_second_and_third, second && third);
         uint8_t next[UNIT486_ANSWERS];
         baseline::board_answers(call.address + 4, 1, next);
-        coverage.note(
-            board_of_refused_width, !baseline::good_width(call.width) && next[0] != answers[0]);
+        coverage.note(board_of_refused_width, !baseline::good_width(call.width) && next[0] != answers[0]);
     }
 };

@@ -523,8 +523,8 @@ private:
     static std::array<uint64_t, 12> around_widths()
     {
         constexpr uint64_t one = 256, two = 65536, four = uint64_t{1} << 32;
-        return {0, one - 1, one, one + 1, two - 1, two, two + 1, four - 1, four, four + 1,
-            uint64_t{1} << 63, UINT64_MAX};
+        return {0, one - 1, one, one + 1, two - 1, two, two + 1, four - 1, four, four + 1, uint64_t{1} << 63,
+            UINT64_MAX};
     }
 
     // New answers, log words and bytes for a call, the same on both sides.
@@ -697,7 +697,7 @@ private:
                     check_operand(line + offset, width, answer, held);
     }
 
-    // A read and a write; bit 0 of `held` says whether the line of the first byte is held, bit 1 the next line.
+    // Reads and a write; bit 0 of `held` is for the line of the first byte, bit 1 for the next line.
     void check_operand(uint32_t address, uint32_t width, int answer, uint32_t held)
     {
         for (const Kind kind : {Kind::read, Kind::read_carrying_none, Kind::write}) {

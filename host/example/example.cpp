@@ -1,6 +1,6 @@
 // A host's first steps: compare versions, fill a line, hit it, let another master write, read the new byte;
-// then a floating-point number of eight bytes, a fieldbus card that writes during a fill, and a diagnostic disk's
-// test of the cache. Ends with 1 if a step is not as unit486.h says.
+// then a floating-point number of eight bytes, a fieldbus card that writes during a fill, and a diagnostic
+// disk's test of the cache. Ends with 1 if a step is not as unit486.h says.
 #include <cinttypes>
 #include <cstdio>
 #include <cstring>
@@ -110,8 +110,8 @@ static void another_master(Host &host)
     expect_number("read beyond RAM: number", host.read(65534, 4).number, UNIT486_BEYOND_RAM);
 }
 
-// A recipe's floating-point number, stored and loaded where it lies in three doublewords of one line. The first
-// brings the line in, from its own place on, and the two others hit.
+// A recipe's floating-point number, stored and loaded where it lies in three doublewords of one line. The
+// first brings the line in, from its own place on, and the two others hit.
 static void eight_bytes(Host &host)
 {
     constexpr uint32_t recipe = 0x3456;
@@ -133,8 +133,8 @@ static void eight_bytes(Host &host)
     expect("  value", result.value, bits);
     expect("the same read, a hit: cycles", host.read(recipe, 8).cycles, 0);
 
-    expect_number("write of a value of 8 bytes to 4: number", host.write(recipe, 4, bits).number,
-        UNIT486_LARGE_VALUE);
+    expect_number(
+        "write of a value of 8 bytes to 4: number", host.write(recipe, 4, bits).number, UNIT486_LARGE_VALUE);
 }
 
 static constexpr uint32_t batch_address = 0x2348;

@@ -221,9 +221,9 @@ static_assert(sizeof(unit486_carried_writes) == 116, "layout of carried writes")
 /* The UNIT486_VERSION of libhost.a. Every version has this call. */
 uint32_t unit486_version(void);
 
-/* A read of 1, 2, 4 or 8 bytes, little-endian; they may lie in three doublewords and in two lines. A doubleword
-   that misses fills its line where cd = 0, pcd = 0 and its first cycle has KEN#; the fill is kept where its
-   last has it too. */
+/* A read of 1, 2, 4 or 8 bytes, little-endian; they may lie in three doublewords and in two lines. A
+   doubleword that misses fills its line where cd = 0, pcd = 0 and its first cycle has KEN#; the fill is kept
+   where its last has it too. */
 unit486_result unit486_read_in_place(
     uint32_t *tags, bool *valid, uint8_t *lru, bool cd,
     const uint8_t *ram, size_t ram_length, const uint8_t *parity, size_t parity_length,
@@ -303,9 +303,10 @@ unit486_outcome unit486_reset_by_value(void);
 /* The same snoop as unit486_snoop, by way of copies of the directory: document 01's thin call. */
 uint32_t unit486_drop_line(unit486_directory *directory, uint32_t address);
 
-/* The board table's 48 answers for an access, into answers, which has room for 48: sixteen times that of the
-   block of each doubleword. Where the access has no second or no third doubleword, those sixteen are the
-   lowest's. Never refused; for a width other than 1, 2, 4 and 8 all 48 are the address's own block's. */
+/* The board table's 48 answers for an access, into answers, which has room for 48: for each doubleword
+   sixteen times that of its block. Where the access has no second or no third doubleword, those sixteen are
+   the lowest's. Never refused; for a width other than 1, 2, 4 and 8 all 48 are the answer of the address's
+   own block. */
 void unit486_board_answers(uint32_t address, uint32_t width, uint8_t *answers);
 
 /* The event program on lines in memory, in libprogram.a: puts as much of the output as fits, answers its
