@@ -3,7 +3,6 @@
 
 #include <algorithm>
 #include <cstdlib>
-#include <regex>
 #include <sstream>
 #include <string>
 
@@ -89,6 +88,11 @@ private:
         }
     }
 
+    static bool are_digits(const std::string &field, size_t most)
+    {
+        return !field.empty() && field.size() <= most && field.find_first_not_of("0123456789") == field.npos;
+    }
+
     void note_row(const std::string &line, const std::string &row)
     {
         uint32_t event = 0, answer = 0;
@@ -100,14 +104,18 @@ private:
             note_written(line, answer);
     }
 
-    // Of a W line whose address and width are numbers: what its value's digits led to.
+    // Of a W line whose fields are digits, those of address and width so few that their number is in range:
+    // what the value's digits led to.
     void note_written(const std::string &line, uint32_t answer)
     {
-        static const std::regex form("W\t[0-9]{1,9}\t[0-9]{1,9}\t([0-9]+)");
-        std::smatch fields;
-        if (line[0] != 'W' || !std::regex_match(line, fields, form))
+        std::istringstream text(line);
+        std::string fields[4];
+        for (std::string &field : fields)
+            std::getline(text, field, '\t');
+        if (fields[0] != "W" || !text.eof() || !are_digits(fields[1], 9) || !are_digits(fields[2], 9) ||
+            !are_digits(fields[3], line.size()))
             return;
-        const auto digits = fields[1].length();
+        const size_t digits = fields[3].size();
         const bool malformed = answer == UNIT486_MALFORMED_LINE;
         coverage.note(run_value_of_20_digits, digits == 20 && answer == UNIT486_DONE);
         coverage.note(run_value_above_64_bits, digits == 20 && malformed);
