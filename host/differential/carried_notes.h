@@ -121,6 +121,8 @@ private:
         for (uint32_t k = 0; k < carried.count; ++k) {
             note_snoop(k);
             note_order(k);
+            coverage.note(
+                carried_before_cycle_above_32, carried.cycles[k] > 32 && carried.cycles[k] < result.cycles);
             for (const Group &group : groups)
                 if (carried.cycles[k] >= group.first && carried.cycles[k] < group.end)
                     note_within(group, k);
@@ -181,6 +183,7 @@ private:
             return coverage.note(carried_at_first_cycle_of_fill);
         coverage.note(before.nw ? carried_spoiled_fill_with_nw : carried_spoiled_fill);
         coverage.note(carried_spoiled_fill_of_16_cycles, cycles == 16);
+        coverage.note(carried_spoiled_fill_from_cycle_32, group.first == 32);
         coverage.note(carried_spoiled_fill_at_last_cycle, place == cycles - 1);
     }
 

@@ -158,6 +158,22 @@ public:
         }
     }
 
+    // Reads of three doublewords under BS8#, whose fills are dropped in turn, so that up to 48 cycles are
+    // made, and carry writes at every number.
+    void carrying_byte_fills()
+    {
+        name = "carrying byte fills";
+        make_sides(8192);
+        choose_sets();
+        restore_lengths();
+        for (const bool nw : {false, true}) {
+            make_modes(false, nw);
+            for (const uint32_t offset : {1u, 6u, 11u, 13u})
+                for (const int kept : {0, 4, 6})
+                    check_carrying(offset, 8, byte_fills + kept);
+        }
+    }
+
     // Accesses of every width from every byte of a line on, under every answer and mode, each of their lines
     // held and not: across sets, from the last set into the first, and in RAM's last line.
     void operands()
@@ -197,7 +213,10 @@ public:
     }
 
 private:
-    static constexpr int mixed_answers = -1; // in place of one for all cycles
+    // In place of one answer for all cycles: what is lent already; or BS8# with KEN# in the first cycle of
+    // each doubleword, and in the sixteenth of those that an added mask names: of these a fill is kept.
+    static constexpr int mixed_answers = -1;
+    static constexpr int byte_fills = 8;
 
     uint64_t seed;
     Random random;
@@ -682,11 +701,22 @@ private:
         check(call);
     }
 
-    // One answer for all cycles, or those that are lent already.
     void lend_answers(int answer)
     {
-        if (answer != mixed_answers)
-            sides.both([&](Side &side) { std::memset(side.answers.start(), answer, UNIT486_ANSWERS); });
+        if (answer == mixed_answers)
+            return;
+        uint8_t answers[UNIT486_ANSWERS];
+        for (uint32_t k = 0; k < UNIT486_ANSWERS; ++k)
+            answers[k] = static_cast<uint8_t>(
+                answer < byte_fills ? answer
+                                    : byte_fill_answer(static_cast<uint32_t>(answer - byte_fills), k));
+        sides.both([&](Side &side) { std::memcpy(side.answers.start(), answers, sizeof answers); });
+    }
+
+    static int byte_fill_answer(uint32_t kept, uint32_t k)
+    {
+        const bool ken = k % 16 == 0 || (k % 16 == 15 && (kept >> k / 16 & 1));
+        return ken ? UNIT486_BS8 | UNIT486_KEN : UNIT486_BS8;
     }
 
     void check_operands(uint32_t line, int answer)
