@@ -81,6 +81,9 @@ void hit_rows()
     row("read hit of 2 bytes", done, reads(aligned(2), 2));
     row("read hit in two doublewords of one line", done, reads(in_two_doublewords(), 4));
     row("read hit in two lines", done, reads(in_two_lines(), 4));
+    row("read hit of 8 bytes", done, reads(aligned(8), 8));
+    row("read hit of 8 bytes in three doublewords", done, reads(in_three_doublewords(), 8));
+    row("read hit of 8 bytes in two lines", done, reads(in_two_lines(), 8));
 }
 
 // All of RAM in turn, 32 tags for each set: each line is gone before it is read again. The lines that are
@@ -122,6 +125,7 @@ void plain_read_rows()
     row("plain read, BS8# (4 cycles)", cycles(4), plain, answered(UNIT486_BS8));
     row("plain read in two doublewords (2 cycles)", cycles(2),
         reads(not_held(in_two_doublewords()), 4, true));
+    row("plain read of 8 bytes (2 cycles)", cycles(2), reads(not_held(aligned(8)), 8, true));
 }
 
 void write_rows()
@@ -136,6 +140,8 @@ void write_rows()
     row("write hit, BS8# (4 cycles)", cycles(4), hits, answered(UNIT486_BS8));
     row("write hit in two doublewords (2 cycles)", cycles(2), writes(in_two_doublewords(), 4));
     row("write hit in two lines (2 cycles)", cycles(2), writes(in_two_lines(), 4));
+    row("write hit of 8 bytes (2 cycles)", cycles(2), writes(aligned(8), 8));
+    row("write hit of 8 bytes, 3 doublewords (3 cycles)", cycles(3), writes(in_three_doublewords(), 8));
     row("write miss, BS8# (4 cycles)", cycles(4), misses, answered(UNIT486_BS8));
     row("write that stays in the cache (CD = NW = 1)", done, hits,
         [](Side &side) { side.directory.cd = side.directory.nw = true; });

@@ -40,8 +40,11 @@ int main(int argc, char **argv)
     series.large(200);
     series.test_limits();
     series.first_victims();
+    series.operand_limits();
+    series.operands();
     series.carried_limits();
     series.carrying();
+    series.carrying_byte_fills();
     while (coverage.calls < calls) {
         series.hot(3000);
         series.refused(1500);
@@ -50,6 +53,6 @@ int main(int argc, char **argv)
     }
     const bool met = coverage.report();
     std::printf("%" PRIu64 " calls, seed %" PRIu64 ": no difference\n", coverage.calls, seed);
-    std::printf(met ? "PASS\n" : "FAIL: something was never met; some 200,000 calls meet everything\n");
+    std::printf(met ? "PASS\n" : "FAIL: something was never met; some 400,000 calls meet everything\n");
     return met ? 0 : 1;
 }

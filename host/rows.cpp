@@ -7,12 +7,14 @@
 // The lines of a script, and what a row has, are described in oracle/scripts/script_unit.py. A file that
 // cannot be read, and a line that is no script line, end the program with 2.
 #include <algorithm>
+#include <charconv>
 #include <cinttypes>
 #include <cstdio>
 #include <cstdlib>
 #include <cstring>
 #include <fstream>
 #include <iterator>
+#include <limits>
 #include <map>
 #include <sstream>
 #include <string>
@@ -77,12 +79,18 @@ const std::map<char, std::pair<size_t, size_t>> field_counts{{'N', {6, 6}}, {'T'
     {'p', {20, 20}}, {'t', {2, 2}}, {'Q', {5, 81}}};
 
 constexpr size_t answers_word = 4; // of R, W and Q, the letter being word 0
+constexpr size_t value_word = 3;   // of W and w
 
 bool is_digits(const std::string &field) { return field.find_first_not_of("0123456789") == field.npos; }
 
-bool is_number(const std::string &field)
+// A number of 32 bits in 10 digits at most, or one of 64 in 20.
+template <class Number> bool is_number(const std::string &field)
 {
-    return is_digits(field) && field.size() <= 10 && std::strtoull(field.c_str(), nullptr, 10) <= UINT32_MAX;
+    constexpr size_t most_digits = std::numeric_limits<Number>::digits10 + 1;
+    const char *end = field.data() + field.size();
+    Number number;
+    const std::from_chars_result read = std::from_chars(field.data(), end, number);
+    return field.size() <= most_digits && read.ec == std::errc{} && read.ptr == end;
 }
 
 // The writes that a Q carries, from its count on; whether all their fields are there and no others.
@@ -110,7 +118,8 @@ bool has_carried_form(const std::string &text)
     return take_carried(line, carried);
 }
 
-// A letter and its fields: numbers, but for answers, which are a run of digits.
+// A letter and its fields: numbers of 32 bits, but for a written value, which has 64, and for answers, which
+// are a run of digits.
 bool has_form(const std::string &text)
 {
     std::istringstream line(text);
@@ -126,7 +135,12 @@ bool has_form(const std::string &text)
             return false;
         words.erase(words.begin() + answers_word);
     }
-    return std::all_of(words.begin() + 1, words.end(), is_number) &&
+    if (std::strchr("Ww", text[0])) {
+        if (!is_number<uint64_t>(words[value_word]))
+            return false;
+        words.erase(words.begin() + value_word);
+    }
+    return std::all_of(words.begin() + 1, words.end(), is_number<uint32_t>) &&
            (text[0] != 'Q' || has_carried_form(text));
 }
 
@@ -192,7 +206,8 @@ struct ScriptUnit {
 
     unit486_result access(char letter, std::istringstream &line)
     {
-        uint32_t address = 0, width = 0, third = 0;
+        uint32_t address = 0, width = 0;
+        uint64_t third = 0; // PCD or the value
         std::string digits;
         line >> address >> width >> third >> digits;
         Bytes answers(digits.begin(), digits.end());
@@ -270,7 +285,7 @@ struct ScriptUnit {
     {
         const unit486_result result = call(letter, line);
         std::printf(
-            "%c\t%" PRIu32 "\t%" PRIu32 "\t%" PRIu32, letter, result.number, result.value, result.cycles);
+            "%c\t%" PRIu32 "\t%" PRIu64 "\t%" PRIu32, letter, result.number, result.value, result.cycles);
         for (size_t k = 0; k < 3 * result.cycles; ++k)
             std::printf("\t%" PRIu32, log[k]);
         print_digests();

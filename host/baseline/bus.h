@@ -6,7 +6,8 @@
 
 namespace baseline {
 
-// "0 to 15 serve the cycles of the lower doubleword in turn, 16 to 31 those of the upper"
+// "0 to 15 serve the cycles of the lower doubleword in turn, 16 to 31 those of the upper"; document 02: "48
+// answers in groups of 16".
 constexpr unsigned group_answers = 16;
 
 // "A cycle moves part of the bytes still wanted, starting with the lowest: with BS8# that byte alone;
@@ -44,8 +45,42 @@ inline void read_cycle(
     records.put(address, lanes | flags | (wrong ? UNIT486_FLAG_WRONG_PARITY : 0), word);
 }
 
-// The wanted lanes of an access: 0 to 3 in the lower doubleword, 4 to 7 in the upper one.
+// The wanted lanes of an access: 0 to 3 in the lowest doubleword, 4 to 7 in the next, 8 to 10 in the third.
 inline unsigned wanted_lanes(uint32_t address, uint32_t width) { return ((1u << width) - 1) << address % 4; }
+constexpr unsigned two_doublewords = 255;
+
+// Document 02: "up to three doublewords". `read` gives the wanted lanes of one; "the lower one completed
+// first (H)": the next one may hit in the line that it filled. Written out, which is faster than a loop.
+template <class Read>
+uint64_t read_doublewords(uint32_t address, uint32_t width, const uint8_t *answers, Read read)
+{
+    const unsigned wanted = wanted_lanes(address, width);
+    const unsigned shift = 8 * (address % 4);
+    const uint32_t lowest = address & ~3u;
+    uint64_t words = read(lowest, wanted & all_lanes, answers);
+    if (wanted > all_lanes)
+        words |= uint64_t{read(lowest + 4, wanted >> 4 & all_lanes, answers + group_answers)} << 32;
+    uint64_t value = words >> shift;
+    if (wanted > two_doublewords)
+        value |= uint64_t{read(lowest + 8, wanted >> 8, answers + 2 * group_answers)} << (64 - shift);
+    return value;
+}
+
+template <class Write>
+void write_doublewords(uint32_t address, uint32_t width, uint64_t value, const uint8_t *answers, Write write)
+{
+    const unsigned wanted = wanted_lanes(address, width);
+    const unsigned shift = 8 * (address % 4);
+    const uint32_t lowest = address & ~3u;
+    const uint64_t words = value << shift;
+    write(lowest, wanted & all_lanes, static_cast<uint32_t>(words), answers);
+    if (wanted > all_lanes)
+        write(
+            lowest + 4, wanted >> 4 & all_lanes, static_cast<uint32_t>(words >> 32), answers + group_answers);
+    if (wanted > two_doublewords)
+        write(lowest + 8, wanted >> 8, static_cast<uint32_t>(value >> (64 - shift)),
+            answers + 2 * group_answers);
+}
 
 // Ahead of a cycle of a read that carries no writes.
 constexpr auto nothing_lands = [] {};

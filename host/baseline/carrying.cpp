@@ -98,18 +98,14 @@ unit486_result read_carrying(Directory &directory, unit486_buffers &lent, uint32
         return {number, 0, 0};
     Carrying access{directory, lent, carried, {log}};
     const bool may_fill = !directory.cd && !pcd;
-    const unsigned wanted = wanted_lanes(address, width);
-    const uint32_t lower = address & ~3u;
-    uint64_t words = read_doubleword(access, lower, wanted & all_lanes, may_fill, answers);
-    if (wanted > all_lanes) {
-        const uint64_t upper =
-            read_doubleword(access, lower + 4, wanted >> 4, may_fill, answers + group_answers);
-        words |= upper << 32;
-    }
+    const auto read_one = [&](uint32_t doubleword, unsigned wanted, const uint8_t *group) {
+        return read_doubleword(access, doubleword, wanted, may_fill, group);
+    };
+    const uint64_t value = read_doublewords(address, width, answers, read_one);
     // "Writes numbered past the last cycle, and all where there is none, land after the value is taken."
     while (access.next < carried.count)
         access.land();
-    return {UNIT486_DONE, static_cast<uint32_t>(words >> 8 * (address % 4)), access.records.count};
+    return {UNIT486_DONE, access.records.count, value};
 }
 
 } // namespace baseline

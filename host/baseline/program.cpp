@@ -1,7 +1,7 @@
 // The event program: event lines in, rows out.
 #include <charconv>
 #include <cstring>
-#include <initializer_list>
+#include <limits>
 #include <memory>
 
 #include "unit.h"
@@ -17,7 +17,7 @@ struct Event {
     char letter = 0;
     uint32_t address = 0;
     uint32_t width = 0;
-    uint32_t value = 0;  // of a write
+    uint64_t value = 0;  // of a write
     bool first = false;  // PCD or CD
     bool second = false; // NW
     uint8_t bytes[pairs_limit];
@@ -34,15 +34,35 @@ struct Scanner {
 
     bool tab() { return at != end && *at++ == '\t'; }
 
+    // The number of at most `most` decimal digits, of which 19 always have one of 64 bits.
+    uint64_t digits(unsigned most)
+    {
+        uint64_t sum = 0;
+        for (; most > 0 && is_digit(); --most)
+            sum = sum * 10 + (*at++ - '0');
+        return sum;
+    }
+
+    bool is_digit() const { return at != end && *at >= '0' && *at <= '9'; }
+
     // "1 to 10 decimal digits, up to 4,294,967,295"
     bool number(uint32_t &number)
     {
-        uint64_t sum = 0;
         const uint8_t *first = at;
-        while (at != end && at - first < 10 && *at >= '0' && *at <= '9')
-            sum = sum * 10 + (*at++ - '0');
+        const uint64_t sum = digits(10);
         number = static_cast<uint32_t>(sum);
         return at != first && sum <= UINT32_MAX;
+    }
+
+    // Document 02: "any 64-bit number, 1 to 20 digits".
+    bool value(uint64_t &value)
+    {
+        const uint8_t *first = at;
+        value = digits(19);
+        if (at - first < 19 || !is_digit())
+            return at != first;
+        const uint64_t last = *at++ - uint64_t{'0'};
+        return !__builtin_mul_overflow(value, 10, &value) && !__builtin_add_overflow(value, last, &value);
     }
 
     // "one digit 0 or 1"
@@ -84,7 +104,7 @@ static bool fields_of(Scanner &scan, Event &event)
                scan.tab() && scan.bit(event.first);
     case 'W':
         return scan.tab() && scan.number(event.address) && scan.tab() && scan.number(event.width) &&
-               scan.tab() && scan.number(event.value);
+               scan.tab() && scan.value(event.value);
     case 'X':
         return scan.tab() && scan.number(event.address) && scan.tab() && scan.pairs(event.bytes, event.count);
     case 'S': return scan.tab() && scan.number(event.address);
@@ -165,13 +185,17 @@ struct Text {
     // by a newline."
     void put_row(uint32_t event, const unit486_result &result)
     {
-        char row[44];
+        char row[54];
         char *at = row;
-        for (const uint32_t number : {event, result.number, result.value, result.cycles}) {
-            at = std::to_chars(at, at + 10, number).ptr;
-            *at++ = '\t';
-        }
-        at[-1] = '\n';
+        const auto put_field = [&](auto number, char end) {
+            constexpr int most = std::numeric_limits<decltype(number)>::digits10 + 1;
+            at = std::to_chars(at, at + most, number).ptr;
+            *at++ = end;
+        };
+        put_field(event, '\t');
+        put_field(result.number, '\t');
+        put_field(result.value, '\t');
+        put_field(result.cycles, '\n');
         put(row, static_cast<size_t>(at - row));
     }
 };

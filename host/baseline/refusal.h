@@ -21,9 +21,10 @@ inline uint32_t memory_number(const unit486_buffers &lent)
     return lent.parity_length == lent.ram_length / 4 ? UNIT486_DONE : UNIT486_WRONG_PARITY_LENGTH;
 }
 
-inline bool good_width(uint32_t width) { return width == 1 || width == 2 || width == 4; }
+// 4. Document 02: "Add width 8."
+inline bool good_width(uint32_t width) { return width == 1 || width == 2 || width == 4 || width == 8; }
 
-// 6. "Not 32 answers, or one above 7", the unused ones too.
+// 6. Not 48 answers, "or one above 7", the unused ones too.
 inline bool good_answers(const uint8_t *answers, size_t length)
 {
     if (length != UNIT486_ANSWERS)
@@ -57,9 +58,9 @@ inline uint32_t input_number(const unit486_buffers &lent, uint32_t address, uint
 }
 
 // 8. "Value too large for its width."
-inline uint32_t value_number(uint32_t width, uint32_t value)
+inline uint32_t value_number(uint32_t width, uint64_t value)
 {
-    return uint64_t{value} >> 8 * width != 0 ? UNIT486_LARGE_VALUE : UNIT486_DONE;
+    return width < 8 && value >> 8 * width != 0 ? UNIT486_LARGE_VALUE : UNIT486_DONE;
 }
 
 // 10. "External write empty, over 16 bytes, across lines or beyond RAM."

@@ -81,16 +81,11 @@ unit486_result read(Directory &directory, unit486_buffers &lent, uint32_t addres
         return {number, 0, 0};
     Records records{log};
     const bool may_fill = !directory.cd && !pcd;
-    const unsigned wanted = wanted_lanes(address, width);
-    const uint32_t lower = address & ~3u;
-    uint64_t words = read_doubleword(directory, lent, lower, wanted & all_lanes, may_fill, answers, records);
-    // "the lower one completed first (H)": the upper one may hit in the line that the lower one filled.
-    if (wanted > all_lanes) {
-        const uint64_t upper = read_doubleword(
-            directory, lent, lower + 4, wanted >> 4, may_fill, answers + group_answers, records);
-        words |= upper << 32;
-    }
-    return {UNIT486_DONE, static_cast<uint32_t>(words >> 8 * (address % 4)), records.count};
+    const auto read_one = [&](uint32_t doubleword, unsigned wanted, const uint8_t *group) {
+        return read_doubleword(directory, lent, doubleword, wanted, may_fill, group, records);
+    };
+    const uint64_t value = read_doublewords(address, width, answers, read_one);
+    return {UNIT486_DONE, records.count, value};
 }
 
 // One doubleword of a write. "A miss never fills. With CD = NW = 1 a hit changes the data array and, as
@@ -110,7 +105,7 @@ static void write_doubleword(Directory &directory, unit486_buffers &lent, uint32
 }
 
 unit486_result write(Directory &directory, unit486_buffers &lent, uint32_t address, uint32_t width,
-    uint32_t value, const uint8_t *answers, size_t answers_length, uint32_t *log, size_t log_length)
+    uint64_t value, const uint8_t *answers, size_t answers_length, uint32_t *log, size_t log_length)
 {
     uint32_t number = input_number(lent, address, width, answers, answers_length, log_length);
     if (number == UNIT486_DONE)
@@ -120,16 +115,11 @@ unit486_result write(Directory &directory, unit486_buffers &lent, uint32_t addre
     if (number != UNIT486_DONE)
         return {number, 0, 0};
     Records records{log};
-    const unsigned wanted = wanted_lanes(address, width);
-    const uint32_t lower = address & ~3u;
-    const uint64_t words = uint64_t{value} << 8 * (address % 4);
-    const uint32_t low = static_cast<uint32_t>(words);
-    write_doubleword(directory, lent, lower, wanted & all_lanes, low, answers, records);
-    if (wanted > all_lanes) {
-        const uint32_t high = static_cast<uint32_t>(words >> 32);
-        write_doubleword(directory, lent, lower + 4, wanted >> 4, high, answers + group_answers, records);
-    }
-    return {UNIT486_DONE, 0, records.count};
+    const auto write_one = [&](uint32_t doubleword, unsigned wanted, uint32_t word, const uint8_t *group) {
+        write_doubleword(directory, lent, doubleword, wanted, word, group, records);
+    };
+    write_doublewords(address, width, value, answers, write_one);
+    return {UNIT486_DONE, records.count, 0};
 }
 
 uint32_t external_write(
@@ -203,14 +193,15 @@ static uint8_t answer_at(uint64_t address)
     return table[address / 1048576 % 16];
 }
 
-// "repeated 16 times for each doubleword; an absent upper doubleword takes the lower's". A width that
-// will be refused has none.
+// "repeated 16 times for each doubleword"; document 02: "the third group from its own doubleword, or from the
+// lowest where there is none", and so is the second. A width that will be refused has the lowest alone.
 void board_answers(uint32_t address, uint32_t width, uint8_t *answers)
 {
-    const bool crosses = good_width(width) && address % 4 + width > 4;
-    const uint64_t upper = uint64_t{address} + (crosses ? 4 : 0);
-    std::memset(answers, answer_at(address), group_answers);
-    std::memset(answers + group_answers, answer_at(upper), group_answers);
+    const uint64_t lowest = address;
+    const uint32_t end = good_width(width) ? address % 4 + width : 4;
+    std::memset(answers, answer_at(lowest), group_answers);
+    std::memset(answers + group_answers, answer_at(end > 4 ? lowest + 4 : lowest), group_answers);
+    std::memset(answers + 2 * group_answers, answer_at(end > 8 ? lowest + 8 : lowest), group_answers);
 }
 
 } // namespace baseline

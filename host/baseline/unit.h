@@ -18,7 +18,7 @@ unit486_result read_carrying(Directory &directory, unit486_buffers &lent, uint32
     bool pcd, const uint8_t *answers, size_t answers_length, uint32_t *log, size_t log_length,
     const unit486_carried_writes &carried);
 unit486_result write(Directory &directory, unit486_buffers &lent, uint32_t address, uint32_t width,
-    uint32_t value, const uint8_t *answers, size_t answers_length, uint32_t *log, size_t log_length);
+    uint64_t value, const uint8_t *answers, size_t answers_length, uint32_t *log, size_t log_length);
 uint32_t external_write(
     Directory &directory, unit486_buffers &lent, uint32_t address, const uint8_t *bytes, size_t count);
 

@@ -75,7 +75,7 @@ struct Library {
         return unit486_read_carrying(&side.directory, &side.lent, address, width, false, side.answers,
             UNIT486_ANSWERS, side.log, UNIT486_LOG_WORDS, &side.carried);
     }
-    static unit486_result write(Side &side, uint32_t address, uint32_t width, uint32_t value)
+    static unit486_result write(Side &side, uint32_t address, uint32_t width, uint64_t value)
     {
         return unit486_write(&side.directory, &side.lent, address, width, value, side.answers,
             UNIT486_ANSWERS, side.log, UNIT486_LOG_WORDS);
@@ -114,7 +114,7 @@ struct Baseline {
         return baseline::read_carrying(side.directory, side.lent, address, width, false, side.answers,
             UNIT486_ANSWERS, side.log, UNIT486_LOG_WORDS, side.carried);
     }
-    static unit486_result write(Side &side, uint32_t address, uint32_t width, uint32_t value)
+    static unit486_result write(Side &side, uint32_t address, uint32_t width, uint64_t value)
     {
         return baseline::write(side.directory, side.lent, address, width, value, side.answers,
             UNIT486_ANSWERS, side.log, UNIT486_LOG_WORDS);

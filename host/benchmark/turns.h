@@ -37,7 +37,7 @@ inline Addresses each_line()
     return in_order([](uint32_t k) { return k * UNIT486_LINE_BYTES % held_bytes; });
 }
 
-// Of held accesses of so many bytes that lie in one doubleword.
+// Of held accesses of so many bytes at a multiple of them: in one doubleword, those of 8 bytes in two.
 inline Addresses aligned(uint32_t width)
 {
     return at_random([=](Random &random) { return random.below(held_bytes / width) * width; });
@@ -51,6 +51,15 @@ inline Addresses in_two_doublewords()
     });
 }
 
+// Of held accesses of eight bytes in one line.
+inline Addresses in_three_doublewords()
+{
+    return at_random([](Random &random) {
+        return random.below(UNIT486_LINES) * UNIT486_LINE_BYTES + random.below(2) * 4 + random.between(1, 3);
+    });
+}
+
+// Of held accesses of four bytes, or of eight in three doublewords, the last two in the second line.
 inline Addresses in_two_lines()
 {
     return at_random([](Random &random) {
@@ -97,9 +106,9 @@ inline auto carrying_reads(const Addresses &addresses, uint32_t distance)
 // Values of the whole width.
 inline auto writes(const Addresses &addresses, uint32_t width)
 {
-    const uint32_t shift = 32 - 8 * width;
+    const uint32_t shift = 64 - 8 * width;
     return each(addresses, [=](Side &side, auto unit, uint32_t address) {
-        return unit.write(side, address, width, address * 2654435761u >> shift);
+        return unit.write(side, address, width, address * 0x9e3779b97f4a7c15 >> shift);
     });
 }
 

@@ -39,7 +39,7 @@ struct Call {
     Kind kind = Kind::reset;
     uint32_t address = 0;
     uint32_t width = 0;
-    uint32_t value = 0;
+    uint64_t value = 0;
     bool pcd = false;
     bool cd = false;
     bool nw = false;
@@ -68,7 +68,7 @@ inline unit486_result number_only(uint32_t number) { return {number, 0, 0}; }
 inline unit486_result stored(unit486_directory &directory, const unit486_outcome &outcome)
 {
     directory = outcome.directory;
-    return {outcome.number, outcome.value, outcome.cycles};
+    return {outcome.number, outcome.cycles, outcome.value};
 }
 
 inline unit486_result call_library(Side &side, const Call &call)
@@ -175,7 +175,7 @@ inline void print_carried(const unit486_carried_writes &carried)
 // changes.
 inline void print_call(const Call &call, const Side &side)
 {
-    std::printf("  %s: address %" PRIu32 " (%#" PRIx32 "), width %" PRIu32 ", value %" PRIu32
+    std::printf("  %s: address %" PRIu32 " (%#" PRIx32 "), width %" PRIu32 ", value %" PRIu64
                 ", PCD %d, CD %d, NW %d\n",
         kind_names[static_cast<size_t>(call.kind)], call.address, call.address, call.width, call.value,
         call.pcd, call.cd, call.nw);
@@ -186,6 +186,12 @@ inline void print_call(const Call &call, const Side &side)
     print_bytes("answers", side.answers);
     print_bytes("bytes of an external write or a test write", side.bytes);
     print_carried(call.carried);
+}
+
+inline void print_result(const char *side, const unit486_result &result)
+{
+    std::printf("  %-9s number %" PRIu32 ", value %" PRIu64 ", cycles %" PRIu32 "\n", side, result.number,
+        result.value, result.cycles);
 }
 
 // Which call differed, and where.

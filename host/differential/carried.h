@@ -31,7 +31,7 @@ inline void add_write(unit486_carried_writes &carried, Random &random, uint32_t 
 // The numbers of the cycles that a 32-bit bus, BS16# and BS8# make, and past all of them.
 inline uint32_t random_cycle(Random &random)
 {
-    const uint32_t most = random.pick({2u, 5u, 9u, 17u, 34u});
+    const uint32_t most = random.pick({2u, 5u, 9u, 17u, 34u, 50u});
     return random.percent(97) ? random.below(most) : UINT32_MAX - random.below(2);
 }
 

@@ -4,6 +4,7 @@
 #include <algorithm>
 #include <vector>
 
+#include "baseline/bus.h"
 #include "baseline/refusal.h"
 #include "coverage.h"
 
@@ -44,8 +45,11 @@ private:
     static bool same_line(uint32_t one, uint32_t other) { return one / 16 == other / 16; }
     static bool same_set(uint32_t one, uint32_t other) { return one / 16 % 128 == other / 16 % 128; }
 
-    uint32_t lower() const { return call.address & ~3u; }
+    uint32_t lower() const { return lowest_doubleword(call); }
     uint32_t upper() const { return (call.address + call.width - 1) & ~3u; }
+
+    // 0 for the lowest doubleword of the access.
+    uint32_t place_of(const Group &group) const { return (group.address - lower()) / 4; }
 
     // ---- refused ----
 
@@ -102,7 +106,7 @@ private:
             if (!(record[1] & UNIT486_FLAG_LAST))
                 continue;
             group.end = k + 1;
-            const uint32_t answers = group.address == lower() ? 0 : 16;
+            const uint32_t answers = place_of(group) * baseline::group_answers;
             group.last_ken = side.answers.start()[answers + k - group.first] & UNIT486_KEN;
             groups.push_back(group);
         }
@@ -117,6 +121,8 @@ private:
         for (uint32_t k = 0; k < carried.count; ++k) {
             note_snoop(k);
             note_order(k);
+            coverage.note(
+                carried_before_cycle_above_32, carried.cycles[k] > 32 && carried.cycles[k] < result.cycles);
             for (const Group &group : groups)
                 if (carried.cycles[k] >= group.first && carried.cycles[k] < group.end)
                     note_within(group, k);
@@ -149,6 +155,8 @@ private:
         const uint32_t place = carried.cycles[k] - group.first;
         const bool moved_doubleword =
             address < group.address + 4 && address + carried.lengths[k] > group.address;
+        if (doublewords_of(call) == 3)
+            note_within_three(group);
         coverage.note(
             carried_between_bytes_of_doubleword, place > 0 && place < group.own && moved_doubleword);
         if (!group.fill)
@@ -161,6 +169,12 @@ private:
             note_victim(group, address);
     }
 
+    void note_within_three(const Group &group)
+    {
+        coverage.note(carried_in_middle_of_three, place_of(group) == 1);
+        coverage.note(carried_in_last_of_three, place_of(group) == 2);
+    }
+
     // Of a fill whose last cycle has KEN#.
     void note_in_filled_line(const Group &group, uint32_t place)
     {
@@ -169,6 +183,7 @@ private:
             return coverage.note(carried_at_first_cycle_of_fill);
         coverage.note(before.nw ? carried_spoiled_fill_with_nw : carried_spoiled_fill);
         coverage.note(carried_spoiled_fill_of_16_cycles, cycles == 16);
+        coverage.note(carried_spoiled_fill_from_cycle_32, group.first == 32);
         coverage.note(carried_spoiled_fill_at_last_cycle, place == cycles - 1);
     }
 
@@ -192,7 +207,7 @@ private:
             upper_hit && carried.cycles[k] == result.cycles && same_line(carried.addresses[k], upper()));
     }
 
-    // What the lower doubleword's writes and fill mean for the upper one, and the reverse.
+    // What the lowest doubleword's writes and fill mean for the last one, and the reverse.
     void note_later_lookups()
     {
         if (lower() == upper() || groups.empty())
@@ -201,6 +216,7 @@ private:
         const bool upper_missed = last.address == upper();
         const bool lower_missed = groups[0].address == lower();
         for (uint32_t k = 0; k < carried.count && upper_missed; ++k) {
+            note_spoiled_before_upper(k);
             const uint32_t address = carried.addresses[k], number = carried.cycles[k];
             coverage.note(carried_made_upper_miss,
                 number < last.first && same_line(address, upper()) && is_held(before, upper()) && !before.nw);
@@ -209,9 +225,20 @@ private:
             coverage.note(carried_dropped_line_just_filled,
                 lower_missed && groups[0].fill && number >= last.first && number < last.end && !before.nw &&
                     same_line(address, lower()) && !same_line(lower(), upper()));
-            coverage.note(carried_spoiled_fill_before_upper,
-                lower_missed && groups[0].fill && groups[0].last_ken && number > 0 && number < last.first &&
-                    same_line(address, upper()) && same_line(lower(), upper()));
         }
+    }
+
+    // The last doubleword missed in the line of the fill before it, which the write dropped.
+    void note_spoiled_before_upper(uint32_t k)
+    {
+        if (groups.size() < 2)
+            return;
+        const Group &fill = groups[groups.size() - 2];
+        const bool during = carried.cycles[k] > fill.first && carried.cycles[k] < fill.end;
+        if (!during || !fill.fill || !fill.last_ken || !same_line(fill.address, upper()) ||
+            !same_line(carried.addresses[k], upper()))
+            return;
+        coverage.note(carried_spoiled_fill_before_upper);
+        coverage.note(carried_spoiled_fill_from_middle, place_of(fill) == 1);
     }
 };

@@ -21,6 +21,35 @@ enum Condition {
     upper_hits_line_just_filled,
     upper_fills_after_dropped_fill,
     access_across_lines,
+    three_in_one_line,
+    three_with_first_alone,
+    three_with_last_alone,
+    three_hits,
+    three_with_one_hit_in_two_lines,
+    three_with_two_hits_in_two_lines,
+    fill_from_middle,
+    last_hits_line_filled_from_middle,
+    last_fills_after_dropped_fill_from_middle,
+    read_of_48_cycles,
+    wrong_parity_in_last_of_three,
+    three_inside_in_part,
+    read_of_value_above_32_bits,
+    write_of_value_above_32_bits,
+    access_of_8_at_end_of_ram,
+    access_of_8_past_end_of_ram,
+    largest_value_of_width,
+    value_one_above_width,
+    value_above_32_bits_refused,
+    one_answer_less,
+    one_answer_more,
+    log_of_143_words,
+    log_of_144_words,
+    log_of_145_words,
+    last_answer_above_7,
+    board_with_own_second_group,
+    board_with_own_third_group,
+    board_with_own_second_and_third,
+    board_of_refused_width,
     wrong_parity_in_plain_read,
     wrong_parity_in_fill,
     write_hit_through,
@@ -67,6 +96,11 @@ enum Condition {
     carried_spoiled_fill_of_16_cycles,
     carried_spoiled_fill_at_last_cycle,
     carried_spoiled_fill_before_upper,
+    carried_spoiled_fill_from_middle,
+    carried_in_middle_of_three,
+    carried_in_last_of_three,
+    carried_before_cycle_above_32,
+    carried_spoiled_fill_from_cycle_32,
     carried_chose_the_victim,
     carried_made_upper_miss,
     carried_after_lower_hit,
@@ -86,6 +120,11 @@ enum Condition {
     run_whole_output,
     run_output_cut,
     run_without_last_newline,
+    run_value_of_20_digits,
+    run_value_of_21_digits,
+    run_value_above_64_bits,
+    run_value_of_64_bits_refused,
+    run_read_above_32_bits,
     conditions
 };
 
@@ -101,12 +140,41 @@ constexpr const char *condition_names[conditions] = {
     "upper doubleword hit in the line just filled",
     "upper doubleword filled after a dropped fill of its line",
     "accesses across two lines",
+    "accesses of three doublewords in one line",
+    "those in two lines, the first alone in its line",
+    "those in two lines, the last alone in its line",
+    "reads of three doublewords that all hit",
+    "reads of three doublewords in two lines with one hit",
+    "reads of three doublewords in two lines with two hits",
+    "fills that start in the middle doubleword of three",
+    "last doubleword hit in the line filled from the middle",
+    "last doubleword filled after a dropped fill from the middle",
+    "reads of 48 cycles",
+    "reads with a parity error in the last doubleword of three",
+    "writes of three doublewords, some inside, some to RAM",
+    "reads of a value above 32 bits",
+    "writes of a value above 32 bits",
+    "accesses of 8 bytes that end with RAM",
+    "accesses of 8 bytes of which RAM has 4 to 7 (5)",
+    "writes of the largest value of a width below 8",
+    "writes of the smallest value too large for its width (8)",
+    "writes of a value above 32 bits, too large (8)",
+    "accesses with 47 answers (6)",
+    "accesses with 49 answers (6)",
+    "accesses with a log of 143 words (7)",
+    "accesses with a log of 144 words",
+    "accesses with a log of 145 words",
+    "accesses whose last answer alone is above 7 (6)",
+    "board answers whose second group alone is not the lowest's",
+    "board answers whose third group alone is not the lowest's",
+    "board answers whose second and third are not the lowest's",
+    "board answers of a refused width at the end of a block",
     "plain reads with a parity error",
     "fills with a parity error",
     "write hits through to RAM",
     "write hits that stayed inside (CD = NW = 1)",
     "write misses",
-    "writes half inside, half to RAM",
+    "writes in part inside, in part to RAM",
     "snoops that dropped a line",
     "snoops of a held line with NW = 1",
     "external writes that dropped a line",
@@ -146,7 +214,12 @@ constexpr const char *condition_names[conditions] = {
     "carried writes that dropped a fill with NW = 1",
     "carried writes that dropped a fill of 16 cycles",
     "carried writes that dropped a fill at its last cycle",
-    "fills dropped so that the upper doubleword missed",
+    "fills dropped so that the last doubleword missed",
+    "those that started in the middle doubleword of three",
+    "carried writes during the middle doubleword of three",
+    "carried writes during the last doubleword of three",
+    "carried writes before a cycle numbered above 32",
+    "carried writes that dropped a fill from cycle 32 on",
     "carried writes that dropped the line which became the victim",
     "carried writes that made the upper doubleword miss",
     "carried writes to the line where the lower doubleword hit",
@@ -166,6 +239,11 @@ constexpr const char *condition_names[conditions] = {
     "runs with their whole output",
     "runs whose output was cut",
     "runs without a last newline",
+    "W lines whose value has 20 digits, done",
+    "W lines whose value has 21 digits (11)",
+    "W lines whose value has 20 digits and is above 64 bits (11)",
+    "W lines whose value has 11 to 20 digits, refused (8)",
+    "R lines that gave a value above 32 bits",
 };
 
 // The numbers that each kind of call can answer; of run, those of its rows.
@@ -205,6 +283,10 @@ inline bool is_held(const unit486_directory &directory, uint32_t address)
             return true;
     return false;
 }
+
+inline uint32_t lowest_doubleword(const Call &call) { return call.address & ~3u; }
+
+inline uint32_t doublewords_of(const Call &call) { return (call.address % 4 + call.width + 3) / 4; }
 
 class Coverage {
 public:
@@ -375,8 +457,6 @@ private:
         return kept;
     }
 
-    static uint32_t doublewords_of(const Call &call) { return call.address % 4 + call.width > 4 ? 2 : 1; }
-
     void note_access(const unit486_directory &before, const Call &call)
     {
         if (call.address % 16 + call.width > 16)
@@ -399,9 +479,9 @@ private:
             note(read_hit_under_cd_or_pcd, hits);
         if (call.address % 16 + call.width > 16)
             return;
-        if (groups.fills == 1 && hits == 1)
+        if (groups.fills == 1 && hits > 0)
             note(upper_hits_line_just_filled);
-        if (groups.fills == 2)
+        if (groups.fills > 1)
             note(upper_fills_after_dropped_fill);
     }
 
@@ -410,14 +490,14 @@ private:
     {
         note_access(before, call);
         const uint32_t doublewords = doublewords_of(call);
-        uint32_t held = is_held(before, call.address);
-        if (doublewords == 2)
-            held += is_held(before, call.address + call.width - 1);
+        uint32_t held = 0;
+        for (uint32_t k = 0; k < doublewords; ++k)
+            held += is_held(before, lowest_doubleword(call) + 4 * k);
         const uint32_t inside = doublewords - note_records(result, side).plain;
         note(write_hit_inside, inside);
         note(write_hit_through, held - inside);
         note(write_miss, doublewords - held);
-        if (inside == 1 && held == 1 && doublewords == 2)
+        if (inside > 0 && inside < doublewords)
             note(write_hit_and_miss_inside);
     }
 };

@@ -49,7 +49,7 @@ private:
         if (roll < 45)
             return "R\t" + number(address()) + "\t" + number(width()) + "\t" + bit();
         if (roll < 68)
-            return written();
+            return random.percent(90) ? written() : written_digits();
         if (roll < 82)
             return "X\t" + number(address()) + "\t" +
                    pairs(random.percent(90) ? random.below(17) : random.below(35));
@@ -63,9 +63,20 @@ private:
     std::string written()
     {
         const uint32_t bytes = width();
-        const bool fits = random.percent(90) && bytes < 4;
+        const bool fits = random.percent(90) && bytes >= 1 && bytes <= 8;
         return "W\t" + number(address()) + "\t" + number(bytes) + "\t" +
-               number(fits ? random.below(1u << 8 * bytes) : random.word());
+               padded(random.of_bytes(fits ? bytes : random.between(1, 8)), 20);
+    }
+
+    // A value of 1 to 21 digits, many of them near the limit of 64 bits.
+    std::string written_digits()
+    {
+        const std::string limit = "18446744073709551615";
+        std::string value = random.percent(40) ? limit : "";
+        for (uint32_t digits = random.between(1, 21); value.size() < digits;)
+            value += "0123456789"[random.below(10)];
+        value[random.below(static_cast<uint32_t>(value.size()))] = "0123456789"[random.below(10)];
+        return "W\t" + number(address()) + "\t" + number(random.pick({1u, 4u, 8u, 8u})) + "\t" + value;
     }
 
     // A few lines of a few sets, so that they meet again; and the ends of RAM and of the numbers.
@@ -83,16 +94,19 @@ private:
 
     uint32_t width()
     {
-        return random.percent(96) ? random.pick({1u, 2u, 4u}) : random.pick({0u, 3u, 5u, 8u, UINT32_MAX});
+        return random.percent(96) ? random.pick({1u, 2u, 4u, 8u})
+                                  : random.pick({0u, 3u, 5u, 6u, 7u, 9u, 16u, UINT32_MAX});
     }
 
     std::string bit() { return random.percent(70) ? "0" : "1"; }
 
-    // Sometimes with leading zeros, up to ten digits.
-    std::string number(uint32_t value)
+    std::string number(uint32_t value) { return padded(value, 10); }
+
+    // Sometimes with leading zeros, up to so many digits.
+    std::string padded(uint64_t value, size_t most)
     {
         std::string digits = std::to_string(value);
-        while (digits.size() < 10 && random.percent(5))
+        while (digits.size() < most && random.percent(5))
             digits.insert(0, "0");
         return digits;
     }
@@ -119,9 +133,12 @@ private:
     {
         const char *field =
             random.pick({"", "4294967296", "9999999999", "00000000000", "-1", "+1", " 1", "1 ", "0x1"});
-        switch (random.below(6)) {
+        const char *value =
+            random.pick({"", "18446744073709551616", "99999999999999999999", "000000000000000000000", "-1"});
+        switch (random.below(7)) {
         case 0: return std::string("R\t") + field + "\t4\t0";
         case 1: return std::string("W\t0\t4\t") + field;
+        case 5: return std::string("W\t0\t8\t") + value;
         case 2: return std::string("S\t") + field;
         case 3: return std::string("C\t0\t") + random.pick({"", "2", "00", "01", "x", "0\t"});
         case 4: return std::string("X\t0") + random.pick({"", "\tA", "\taa", "\tAG", "\tAA\t", "\t AA"});

@@ -22,6 +22,9 @@ public:
     uint32_t word() { return static_cast<uint32_t>(next() >> 32); }
     uint8_t byte() { return static_cast<uint8_t>(next() >> 56); }
 
+    // Any value of 1 to 8 bytes.
+    uint64_t of_bytes(uint32_t bytes) { return next() >> (64 - 8 * bytes); }
+
     // 0 to limit - 1; the tiny bias of the product does no harm here.
     uint32_t below(uint32_t limit) { return static_cast<uint32_t>(uint64_t{word()} * limit >> 32); }
 

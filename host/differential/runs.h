@@ -3,6 +3,7 @@
 
 #include <algorithm>
 #include <cstdlib>
+#include <sstream>
 #include <string>
 
 #include "calls.h"
@@ -46,7 +47,7 @@ private:
         texts.input.make(text.size(), random);
         std::memcpy(texts.input.start(), text.data(), text.size());
         const size_t lines = static_cast<size_t>(std::count(text.begin(), text.end(), '\n')) + 1;
-        const size_t enough = 26 + 44 * lines; // the header and the longest rows
+        const size_t enough = 26 + 54 * lines; // the header and the longest rows
         texts.output.make(enough, random);
         if (random.percent(30))
             texts.output.length = random.below(static_cast<uint32_t>(random.percent(50) ? enough / 4 : 60));
@@ -75,14 +76,51 @@ private:
         coverage.note(cut ? run_output_cut : run_whole_output);
         if (!text.empty() && text.back() != '\n')
             coverage.note(run_without_last_newline);
-        // The second field of each whole row is its answer.
+        // The row of each line, as far as rows are whole. An input that is too long has one row.
         const std::string output(baseline.output.start(),
             baseline.output.start() + std::min(baseline.whole, baseline.output.length));
-        size_t line = output.find('\n');
-        while (line != std::string::npos && output.find('\n', line + 1) != std::string::npos) {
-            coverage.note_number(
-                Kind::run, static_cast<uint32_t>(std::atoi(output.c_str() + output.find('\t', line) + 1)));
-            line = output.find('\n', line + 1);
+        std::istringstream lines(text), rows(output.substr(0, output.rfind('\n') + 1));
+        std::string line, row;
+        std::getline(rows, row); // the header
+        while (std::getline(rows, row)) {
+            std::getline(lines, line);
+            note_row(line, row);
         }
+    }
+
+    static bool are_digits(const std::string &field, size_t most)
+    {
+        return !field.empty() && field.size() <= most && field.find_first_not_of("0123456789") == field.npos;
+    }
+
+    void note_row(const std::string &line, const std::string &row)
+    {
+        uint32_t event = 0, answer = 0;
+        uint64_t value = 0;
+        std::istringstream(row) >> event >> answer >> value;
+        coverage.note_number(Kind::run, answer);
+        coverage.note(run_read_above_32_bits, value > UINT32_MAX);
+        if (answer != UNIT486_LONG_INPUT)
+            note_written(line, answer);
+    }
+
+    // Of a W line whose fields are digits, those of address and width so few that their number is in range:
+    // what the value's digits led to.
+    void note_written(const std::string &line, uint32_t answer)
+    {
+        std::istringstream text(line);
+        std::string fields[4];
+        for (std::string &field : fields)
+            std::getline(text, field, '\t');
+        if (fields[0] != "W" || !text.eof() || !are_digits(fields[1], 9) || !are_digits(fields[2], 9) ||
+            !are_digits(fields[3], line.size()))
+            return;
+        const size_t digits = fields[3].size();
+        const bool malformed = answer == UNIT486_MALFORMED_LINE;
+        coverage.note(run_value_of_20_digits, digits == 20 && answer == UNIT486_DONE);
+        coverage.note(run_value_above_64_bits, digits == 20 && malformed);
+        coverage.note(run_value_of_21_digits, digits == 21 && malformed);
+        coverage.note(
+            run_value_of_64_bits_refused, digits > 10 && digits <= 20 && answer == UNIT486_LARGE_VALUE);
     }
 };

@@ -12,6 +12,7 @@
 #include "carried_notes.h"
 #include "coverage.h"
 #include "event_text.h"
+#include "operand_notes.h"
 #include "runs.h"
 #include "sides.h"
 
@@ -147,15 +148,59 @@ public:
         make_sides(8192);
         choose_sets();
         restore_lengths();
-        const std::pair<uint32_t, uint32_t> bytes[] = {
-            {0, 1}, {5, 2}, {8, 4}, {12, 4}, {2, 4}, {7, 2}, {9, 4}, {13, 4}, {15, 2}};
+        const std::pair<uint32_t, uint32_t> bytes[] = {{0, 1}, {5, 2}, {8, 4}, {12, 4}, {2, 4}, {7, 2},
+            {9, 4}, {13, 4}, {15, 2}, {0, 8}, {12, 8}, {1, 8}, {6, 8}, {11, 8}, {13, 8}, {15, 8}};
         for (uint32_t modes = 0; modes < 4; ++modes) {
             make_modes(modes % 2 != 0, modes / 2 != 0);
             for (const auto &[offset, width] : bytes)
                 for (const int answer : {1, 3, 5, mixed_answers})
-                    for (uint32_t number = 0; number < 34; ++number)
-                        for (uint32_t line = 0; line < 4; ++line)
-                            check_carrying(offset, width, answer, number, line);
+                    check_carrying(offset, width, answer);
+        }
+    }
+
+    // Reads of three doublewords under BS8#, whose fills are dropped in turn, so that up to 48 cycles are
+    // made, and carry writes at every number.
+    void carrying_byte_fills()
+    {
+        name = "carrying byte fills";
+        make_sides(8192);
+        choose_sets();
+        restore_lengths();
+        for (const bool nw : {false, true}) {
+            make_modes(false, nw);
+            for (const uint32_t offset : {1u, 6u, 11u, 13u})
+                for (const int kept : {0, 4, 6})
+                    check_carrying(offset, 8, byte_fills + kept);
+        }
+    }
+
+    // Accesses of every width from every byte of a line on, under every answer and mode, each of their lines
+    // held and not: across sets, from the last set into the first, and in RAM's last line.
+    void operands()
+    {
+        name = "operands";
+        make_sides(4096);
+        restore_lengths();
+        for (uint32_t modes = 0; modes < 4; ++modes) {
+            make_modes(modes % 2 != 0, modes / 2 != 0);
+            for (const uint32_t line : {16u, 2032u, 4080u})
+                for (int answer = mixed_answers; answer < 8; ++answer)
+                    check_operands(line, answer);
+        }
+    }
+
+    // Values on either side of every width's limit, lengths and answers on either side of theirs, for every
+    // width.
+    void operand_limits()
+    {
+        name = "operand limits";
+        make_sides(2048);
+        choose_sets();
+        set_control(false, false);
+        for (const uint32_t width : {0u, 1u, 2u, 3u, 4u, 5u, 6u, 7u, 8u, 9u, 12u, 16u}) {
+            check_value_limits(width);
+            check_length_limits(width);
+            check_each_answer(width);
         }
     }
 
@@ -168,7 +213,10 @@ public:
     }
 
 private:
-    static constexpr int mixed_answers = -1; // in place of one for all cycles
+    // In place of one answer for all cycles: what is lent already; or BS8# with KEN# in the first cycle of
+    // each doubleword, and in the sixteenth of those that an added mask names: of these a fill is kept.
+    static constexpr int mixed_answers = -1;
+    static constexpr int byte_fills = 8;
 
     uint64_t seed;
     Random random;
@@ -193,7 +241,7 @@ private:
         side.answers.make(64, random);
         side.bytes.make(64, random);
         side.shown.make(16, random);
-        side.log.make(128, random);
+        side.log.make(176, random);
         for (uint32_t k = 0; k < ram_length; ++k) {
             uint8_t &parity = side.parity.start()[k / 4];
             parity = static_cast<uint8_t>(
@@ -273,6 +321,19 @@ private:
         put_set(first, tags, valid, lru);
     }
 
+    // The set of an address, well formed, with its line in some way, valid or not, and lines beyond RAM.
+    void make_set_of_line(uint32_t at, bool held)
+    {
+        const uint32_t own = random.below(4);
+        uint32_t tags[4];
+        bool valid[4];
+        for (uint32_t way = 0; way < 4; ++way) {
+            tags[way] = way == own ? at / 2048 : 100 + way;
+            valid[way] = way == own ? held : random.percent(75);
+        }
+        put_set(at / 16 % 128 * 4, tags, valid, static_cast<uint8_t>(random.below(8)));
+    }
+
     void put_set(uint32_t first, const uint32_t *tags, const bool *valid, uint8_t lru)
     {
         sides.both([&](Side &side) {
@@ -325,7 +386,7 @@ private:
 
     void restore_lengths()
     {
-        const size_t log = random.percent(30) ? random.between(96, 128) : 96;
+        const size_t log = UNIT486_LOG_WORDS + (random.percent(30) ? random.below(33) : 0);
         lend_lengths(ram_length, parity_length);
         sides.both([&](Side &side) {
             side.data.length = UNIT486_DATA_BYTES;
@@ -340,8 +401,8 @@ private:
             ram_length + 8, ram_length + 16, 0u, 1u, 15u});
         const size_t parity = random.pick({parity_length - 1, parity_length + 1, parity_length + 4, 0u});
         const size_t data = random.pick({0u, 16u, 8191u, 8193u, 8208u});
-        const size_t answers = random.pick({0u, 16u, 31u, 33u, 48u});
-        const size_t log = random.pick({0u, 3u, 95u});
+        const size_t answers = random.pick({0u, 16u, 32u, 47u, 49u, 64u});
+        const size_t log = random.pick({0u, 3u, 96u, 143u});
         const uint32_t which = random.percent(70) ? 1u << random.below(5) : random.below(32);
         sides.both([&](Side &side) {
             side.ram.length = which & 1 ? ram : side.ram.length;
@@ -360,7 +421,7 @@ private:
             return random.pick({ram_length - random.below(20), ram_length + random.below(4), random.word(),
                 UINT32_MAX - random.below(20), random.below(16)});
         if (ram_length == UNIT486_RAM_MOST && random.percent(60))
-            return random.below(17) * 1048576 + random.below(8) - 4;
+            return random.below(17) * 1048576 + random.below(16) - 12;
         // As many tags as RAM has, eight at most, so that lines meet again.
         const uint32_t tags = std::min(ram_length / 2048 + 1, 8u);
         const uint32_t at = random.below(tags) * 2048 + sets[random.below(3)] * 16 + random.below(16);
@@ -392,15 +453,15 @@ private:
         Call call;
         call.kind = kind;
         call.address = address();
-        call.width = random.pick({1u, 2u, 4u, 4u});
-        call.value = call.width == 4 ? random.word() : random.below(1u << 8 * call.width);
+        call.width = random.pick({1u, 2u, 4u, 4u, 8u, 8u});
+        call.value = random.of_bytes(call.width);
         call.pcd = random.percent(15);
         call.cd = random.percent(25);
         call.nw = random.percent(call.cd ? 50 : 10);
         // The table changes at the ends of blocks only, and no width is refused here.
         if (call.kind == Kind::board_answers && random.percent(70)) {
-            call.address = random.below(4097) * 1048576 + random.below(8) - 4;
-            call.width = random.pick({0u, 1u, 2u, 3u, 4u, 5u, 8u, UINT32_MAX});
+            call.address = random.below(4097) * 1048576 + random.below(16) - 12;
+            call.width = random.pick({0u, 1u, 2u, 3u, 4u, 5u, 6u, 7u, 8u, 8u, 9u, 16u, UINT32_MAX});
         }
         choose_line(call);
         if (kind == Kind::read_carrying || kind == Kind::read_carrying_none)
@@ -464,15 +525,25 @@ private:
         const uint8_t above = static_cast<uint8_t>(random.pick({8u, 9u, 16u, 128u, 255u}));
         const uint32_t at = random.below(UNIT486_ANSWERS);
         switch (random.below(4)) {
-        case 0: call.width = random.pick({0u, 3u, 5u, 8u, 16u, UINT32_MAX, random.word()}); break;
+        case 0:
+            call.width = random.pick({0u, 3u, 5u, 6u, 7u, 9u, 16u, 64u, UINT32_MAX, random.word()});
+            break;
         case 1:
-            call.address =
-                random.pick({ram_length, ram_length - 1, ram_length - 3, UINT32_MAX, random.word()});
+            call.address = random.pick({ram_length, ram_length - 1, ram_length - 3, ram_length - 7,
+                UINT32_MAX - 7, UINT32_MAX, random.word()});
             break;
         case 2: sides.both([&](Side &side) { side.answers.start()[at] = above; }); break;
-        default: call.value = random.pick({256u, 65536u, UINT32_MAX, random.word()});
+        default: call.value = random.pick({random.pick(around_widths()), random.next()});
         }
         return call;
+    }
+
+    // Either side of the limits of 1, 2 and 4 bytes, and what has its low bits clear.
+    static std::array<uint64_t, 12> around_widths()
+    {
+        constexpr uint64_t one = 256, two = 65536, four = uint64_t{1} << 32;
+        return {0, one - 1, one, one + 1, two - 1, two, two + 1, four - 1, four, four + 1, uint64_t{1} << 63,
+            UINT64_MAX};
     }
 
     // New answers, log words and bytes for a call, the same on both sides.
@@ -578,7 +649,7 @@ private:
     Call next_carrying_read(uint32_t count)
     {
         Call call = next_call(Kind::read_carrying);
-        call.address = random.below(ram_length - 4);
+        call.address = random.below(ram_length - 8);
         call.carried.count = 0;
         for (uint32_t k = 0; k < UNIT486_CARRIED_MOST; ++k)
             add_write(call.carried, random, 1 + k / 2, random.below(ram_length));
@@ -601,6 +672,14 @@ private:
         check(call);
     }
 
+    // At each number that its cycles may have, and past them, and in each line.
+    void check_carrying(uint32_t offset, uint32_t width, int answer)
+    {
+        for (uint32_t number = 0; number < (width == 8 ? 50 : 34); ++number)
+            for (uint32_t line = 0; line < 4; ++line)
+                check_carrying(offset, width, answer, number, line);
+    }
+
     // A write of this number, and at times more of this and the next numbers. Lines 0 to 3: that of the
     // access's first byte, that of its last, and another of the set of each.
     void check_carrying(uint32_t offset, uint32_t width, int answer, uint32_t number, uint32_t line)
@@ -615,12 +694,88 @@ private:
             add_write(call.carried, random, number + random.below(call.carried.count + 1),
                 lines[target] / 16 * 16 + random.below(16));
         std::sort(call.carried.cycles, call.carried.cycles + call.carried.count);
-        if (answer != mixed_answers)
-            sides.both([&](Side &side) { std::memset(side.answers.start(), answer, UNIT486_ANSWERS); });
+        lend_answers(answer);
         make_set_for_carrying(call.address);
         if (last / 16 != call.address / 16)
             make_set_for_carrying(last);
         check(call);
+    }
+
+    void lend_answers(int answer)
+    {
+        if (answer == mixed_answers)
+            return;
+        uint8_t answers[UNIT486_ANSWERS];
+        for (uint32_t k = 0; k < UNIT486_ANSWERS; ++k)
+            answers[k] = static_cast<uint8_t>(
+                answer < byte_fills ? answer
+                                    : byte_fill_answer(static_cast<uint32_t>(answer - byte_fills), k));
+        sides.both([&](Side &side) { std::memcpy(side.answers.start(), answers, sizeof answers); });
+    }
+
+    static int byte_fill_answer(uint32_t kept, uint32_t k)
+    {
+        const bool ken = k % 16 == 0 || (k % 16 == 15 && (kept >> k / 16 & 1));
+        return ken ? UNIT486_BS8 | UNIT486_KEN : UNIT486_BS8;
+    }
+
+    void check_operands(uint32_t line, int answer)
+    {
+        for (uint32_t offset = 0; offset < UNIT486_LINE_BYTES; ++offset)
+            for (const uint32_t width : {1u, 2u, 4u, 8u})
+                for (uint32_t held = 0; held < 4; ++held)
+                    check_operand(line + offset, width, answer, held);
+    }
+
+    // Reads and a write; bit 0 of `held` is for the line of the first byte, bit 1 for the next line.
+    void check_operand(uint32_t address, uint32_t width, int answer, uint32_t held)
+    {
+        for (const Kind kind : {Kind::read, Kind::read_carrying_none, Kind::write}) {
+            Call call = next_call(kind);
+            call.address = address;
+            call.width = width;
+            call.value = random.of_bytes(width);
+            lend_answers(answer);
+            make_set_of_line(address, held % 2 != 0);
+            make_set_of_line(address + UNIT486_LINE_BYTES, held / 2 != 0);
+            check(call);
+        }
+    }
+
+    void check_value_limits(uint32_t width)
+    {
+        for (const uint64_t value : around_widths()) {
+            Call call = next_call(Kind::write);
+            call.address = random.below(ram_length - 16);
+            call.width = width;
+            call.value = value;
+            check(call);
+        }
+    }
+
+    void check_length_limits(uint32_t width)
+    {
+        for (const size_t answers : {0u, 16u, 32u, 47u, 48u, 49u, 64u})
+            for (const size_t log : {0u, 96u, 143u, 144u, 145u})
+                for (const Kind kind : {Kind::read, Kind::read_carrying, Kind::write}) {
+                    sides.both([&](Side &side) { side.answers.length = answers, side.log.length = log; });
+                    Call call = next_call(kind);
+                    call.width = width;
+                    check(call);
+                }
+        restore_lengths();
+    }
+
+    // Each answer in turn as large as may be, and larger.
+    void check_each_answer(uint32_t width)
+    {
+        for (uint32_t at = 0; at < UNIT486_ANSWERS; ++at)
+            for (const uint8_t answer : {7, 8, 128, 255}) {
+                Call call = next_call(random.pick({Kind::read, Kind::read_carrying, Kind::write}));
+                call.width = width;
+                sides.both([&](Side &side) { side.answers.start()[at] = answer; });
+                check(call);
+            }
     }
 
     void check(const Call &call)
@@ -635,13 +790,12 @@ private:
             print_mismatch(coverage.calls, seed, name, found);
             print_call(call, sides.baseline);
             std::printf("  CD %d, NW %d before the call\n", before.cd, before.nw);
-            std::printf("  library:  number %u, value %u, cycles %u\n", library.number, library.value,
-                library.cycles);
-            std::printf("  baseline: number %u, value %u, cycles %u\n", baseline.number, baseline.value,
-                baseline.cycles);
+            print_result("library", library);
+            print_result("baseline", baseline);
             std::exit(1);
         }
         coverage.note_call(before, call, baseline, sides.baseline);
+        OperandNotes(coverage, call, baseline, sides.baseline).note();
         if (call.kind == Kind::read_carrying)
             CarriedNotes(coverage, before, call, baseline, sides.baseline).note();
     }

@@ -1,6 +1,7 @@
 // A host's first steps: compare versions, fill a line, hit it, let another master write, read the new byte;
-// then a fieldbus card that writes during a fill, and a diagnostic disk's test of the cache. Ends with 1 if a
-// step is not as unit486.h says.
+// then a floating-point number of eight bytes, a fieldbus card that writes during a fill, and a diagnostic
+// disk's test of the cache. Ends with 1 if a step is not as unit486.h says.
+#include <cinttypes>
 #include <cstdio>
 #include <cstring>
 #include <vector>
@@ -9,11 +10,11 @@
 
 static bool all_as_documented = true;
 
-static void expect(const char *step, uint32_t seen, uint32_t documented)
+static void expect(const char *step, uint64_t seen, uint64_t documented)
 {
-    std::printf("%-52s %u\n", step, seen);
+    std::printf("%-52s %" PRIu64 "\n", step, seen);
     if (seen != documented) {
-        std::printf("  but %u is documented\n", documented);
+        std::printf("  but %" PRIu64 " is documented\n", documented);
         all_as_documented = false;
     }
 }
@@ -57,7 +58,7 @@ struct Host {
             UNIT486_LOG_WORDS, &carried);
     }
 
-    unit486_result write(uint32_t address, uint32_t width, uint32_t value)
+    unit486_result write(uint32_t address, uint32_t width, uint64_t value)
     {
         uint8_t answers[UNIT486_ANSWERS];
         unit486_board_answers(address, width, answers);
@@ -107,6 +108,33 @@ static void another_master(Host &host)
     expect("  the byte in it", shown[address % UNIT486_LINE_BYTES], 0xAA);
 
     expect_number("read beyond RAM: number", host.read(65534, 4).number, UNIT486_BEYOND_RAM);
+}
+
+// A recipe's floating-point number, stored and loaded where it lies in three doublewords of one line. The
+// first brings the line in, from its own place on, and the two others hit.
+static void eight_bytes(Host &host)
+{
+    constexpr uint32_t recipe = 0x3456;
+    const double dose = 0.1;
+    uint64_t bits;
+    std::memcpy(&bits, &dose, sizeof bits);
+
+    unit486_result result = host.write(recipe, 8, bits);
+    expect("write of 8 bytes in three doublewords: cycles", result.cycles, 3);
+    expect("  flags of the first", host.log[1],
+        UNIT486_FLAG_BYTE2 | UNIT486_FLAG_BYTE3 | UNIT486_FLAG_WRITE | UNIT486_FLAG_LAST);
+    expect("  flags of the second", host.log[4], all_bytes | UNIT486_FLAG_WRITE | UNIT486_FLAG_LAST);
+    expect("  flags of the third", host.log[7],
+        UNIT486_FLAG_BYTE0 | UNIT486_FLAG_BYTE1 | UNIT486_FLAG_WRITE | UNIT486_FLAG_LAST);
+
+    result = host.read(recipe, 8);
+    expect("read of them, one fill: cycles", result.cycles, 4);
+    expect("  address of the first cycle", host.log[0], 0x3454);
+    expect("  value", result.value, bits);
+    expect("the same read, a hit: cycles", host.read(recipe, 8).cycles, 0);
+
+    expect_number(
+        "write of a value of 8 bytes to 4: number", host.write(recipe, 4, bits).number, UNIT486_LARGE_VALUE);
 }
 
 static constexpr uint32_t batch_address = 0x2348;
@@ -197,6 +225,7 @@ int main(int argc, char **)
     Host host;
     fill_and_hit(host);
     another_master(host);
+    eight_bytes(host);
     card_writes_during_fill(host);
     cache_test(host);
     std::printf(all_as_documented ? "all as documented\n" : "NOT as documented\n");

@@ -1,5 +1,6 @@
 /* The 486 cache and bus unit, for a host in C (C11) or C++ (C++17). The rules are document 01's; those of
-   the test calls, of carried writes and of a flush are document 02's, requests C-11, C-12 and C-14.
+   the test calls, of carried writes, of a flush and of eight-byte operands are document 02's, requests C-11,
+   C-12, C-14 and C-15.
 
    Link with target/staticlib/libhost.a, which `rt staticlib host` writes for x86-64; a host that calls
    unit486_run links target/staticlib/libprogram.a too, which `rt staticlib program` writes. The unit
@@ -21,11 +22,15 @@
                  agree with zero parity; a host that loads RAM itself sets the parity too, or loads by
                  external writes. Wrong parity sets UNIT486_FLAG_WRONG_PARITY and never alters data
      data array  8,192 bytes: the line of a set and a way stands from (set * 4 + way) * 16
-     answers     32 bytes, one for each cycle: 1 for KEN# + 2 for BS8# + 4 for BS16#; 0 to 15 serve the
-                 lower doubleword of an access, 16 to 31 the upper one
-     log         96 words or more; each cycle leaves three: doubleword address, flags, and data, where byte
-                 k of the doubleword stands in bits 8k to 8k + 7 and unmoved bytes are 0. Words from
-                 3 * cycles on are unchanged
+     answers     48 bytes, one for each cycle: 1 for KEN# + 2 for BS8# + 4 for BS16#; 0 to 15 serve the
+                 lowest doubleword of an access, 16 to 31 the next one, 32 to 47 the third. All are lent,
+                 and tested, for every width; those of a doubleword that is not touched serve no cycle
+     log         144 words or more for every width; each cycle leaves three: doubleword address, flags, and
+                 data, where byte k of the doubleword stands in bits 8k to 8k + 7 and unmoved bytes are 0.
+                 Words from 3 * cycles on are unchanged
+
+   An access of 1, 2, 4 or 8 bytes touches up to three aligned doublewords, in two lines at most. They are
+   served in ascending order, each completed before the next is looked up.
 
    What a call may change is lent by a pointer that is not const. Lengths are in elements; a call with a
    wrong one is refused by its number. Each pointer is aligned as its type asks, not null even where its
@@ -40,7 +45,7 @@
 
    CARRIED WRITES, for fieldbus cards, which write while a line is coming in. unit486_read_carrying is
    unit486_read with up to four external writes that land during it, each numbered by the cycle before which
-   it does; with none it is unit486_read. Cycles count from 0 over the access, through both doublewords.
+   it does; with none it is unit486_read. Cycles count from 0 over the access, through all its doublewords.
    Before a cycle moves its bytes, the writes numbered up to it that have not landed land, in list order:
    bytes and parity into RAM, then a snoop, which changes nothing with NW = 1. Each byte, each record and
    its UNIT486_FLAG_WRONG_PARITY are of RAM as it is at that cycle. The writes leave no record.
@@ -79,7 +84,7 @@ extern "C" {
 #endif
 
 /* Of this header's layout and calls. */
-#define UNIT486_VERSION 8
+#define UNIT486_VERSION 9
 
 enum {
     UNIT486_SETS = 128,
@@ -90,11 +95,11 @@ enum {
     UNIT486_DATA_BYTES = 8192,
     UNIT486_RAM_LEAST = 16,
     UNIT486_RAM_MOST = 16777216,
-    UNIT486_ANSWERS = 32,
-    UNIT486_LOG_WORDS = 96,
+    UNIT486_ANSWERS = 48,
+    UNIT486_LOG_WORDS = 144,
     UNIT486_CARRIED_MOST = 4,     /* external writes that a read may carry */
     UNIT486_INPUT_MOST = 65536,   /* bytes of event lines that unit486_run runs */
-    UNIT486_OUTPUT_MOST = 2883654 /* bytes that are enough for the output of every input */
+    UNIT486_OUTPUT_MOST = 3539024 /* bytes that are enough for the output of every input */
 };
 
 enum unit486_number {
@@ -102,10 +107,10 @@ enum unit486_number {
     UNIT486_WRONG_RAM_LENGTH = 1,
     UNIT486_WRONG_PARITY_LENGTH = 2,   /* not RAM / 4 */
     UNIT486_WRONG_DATA_LENGTH = 3,     /* not 8,192 bytes */
-    UNIT486_WRONG_WIDTH = 4,           /* not 1, 2 or 4 */
+    UNIT486_WRONG_WIDTH = 4,           /* not 1, 2, 4 or 8 */
     UNIT486_BEYOND_RAM = 5,            /* address + width is beyond RAM; a view: the address is not in RAM */
-    UNIT486_WRONG_ANSWERS = 6,         /* not 32 answers, or one above 7 */
-    UNIT486_SHORT_LOG = 7,             /* below 96 words */
+    UNIT486_WRONG_ANSWERS = 6,         /* not 48 answers, or one above 7 */
+    UNIT486_SHORT_LOG = 7,             /* below 144 words */
     UNIT486_LARGE_VALUE = 8,           /* too large for its width */
     UNIT486_WRONG_CONTROL = 9,         /* CD = 0 and NW = 1 */
     UNIT486_WRONG_EXTERNAL_WRITE = 10, /* empty, over 16 bytes, across lines, or beyond RAM */
@@ -148,15 +153,15 @@ typedef struct unit486_directory {
 typedef struct unit486_outcome {
     unit486_directory directory;
     uint32_t number;
-    uint32_t value;
+    uint64_t value;
     uint32_t cycles;
 } unit486_outcome;
 
-/* What a read or a write answers: the number, a read's value, the count of cycles. */
+/* What a read or a write answers: the number, the count of cycles, a read's value. */
 typedef struct unit486_result {
     uint32_t number;
-    uint32_t value;
     uint32_t cycles;
+    uint64_t value;
 } unit486_result;
 
 /* What a test read answers: the number, and the line with the LRU number of its set. Refused: zeros and an
@@ -189,11 +194,12 @@ static_assert(offsetof(unit486_directory, nw) == 2689, "layout of the directory"
 static_assert(sizeof(unit486_directory) == 2692, "layout of the directory");
 static_assert(offsetof(unit486_outcome, number) == 2692, "layout of an outcome");
 static_assert(offsetof(unit486_outcome, value) == 2696, "layout of an outcome");
-static_assert(offsetof(unit486_outcome, cycles) == 2700, "layout of an outcome");
-static_assert(sizeof(unit486_outcome) == 2704, "layout of an outcome");
-static_assert(offsetof(unit486_result, value) == 4, "layout of a result");
-static_assert(offsetof(unit486_result, cycles) == 8, "layout of a result");
-static_assert(sizeof(unit486_result) == 12, "layout of a result");
+static_assert(offsetof(unit486_outcome, cycles) == 2704, "layout of an outcome");
+static_assert(sizeof(unit486_outcome) == 2712, "layout of an outcome");
+static_assert(offsetof(unit486_result, number) == 0, "layout of a result");
+static_assert(offsetof(unit486_result, cycles) == 4, "layout of a result");
+static_assert(offsetof(unit486_result, value) == 8, "layout of a result");
+static_assert(sizeof(unit486_result) == 16, "layout of a result");
 static_assert(offsetof(unit486_test_line, number) == 0, "layout of a test line");
 static_assert(offsetof(unit486_test_line, tag) == 4, "layout of a test line");
 static_assert(offsetof(unit486_test_line, valid) == 8, "layout of a test line");
@@ -215,8 +221,9 @@ static_assert(sizeof(unit486_carried_writes) == 116, "layout of carried writes")
 /* The UNIT486_VERSION of libhost.a. Every version has this call. */
 uint32_t unit486_version(void);
 
-/* A read of 1, 2 or 4 bytes, little-endian; they may lie in two doublewords or two lines. A miss fills its
-   line where cd = 0, pcd = 0 and the first cycle has KEN#; the fill is kept where the last has it too. */
+/* A read of 1, 2, 4 or 8 bytes, little-endian; they may lie in three doublewords and in two lines. A
+   doubleword that misses fills its line where cd = 0, pcd = 0 and its first cycle has KEN#; the fill is kept
+   where its last has it too. */
 unit486_result unit486_read_in_place(
     uint32_t *tags, bool *valid, uint8_t *lru, bool cd,
     const uint8_t *ram, size_t ram_length, const uint8_t *parity, size_t parity_length,
@@ -232,12 +239,12 @@ unit486_result unit486_read_carrying_in_place(
     const uint8_t *answers, size_t answers_length, uint32_t *log, size_t log_length,
     unit486_carried_writes carried);
 
-/* A write of 1, 2 or 4 bytes: through to RAM and, on a hit, into the data array; with CD = NW = 1 a hit
-   stays in the data array. */
+/* A write of 1, 2, 4 or 8 bytes, little-endian: through to RAM and, where a doubleword hits, into the data
+   array; with CD = NW = 1 what hits stays in the data array. */
 unit486_result unit486_write_in_place(
     const uint32_t *tags, const bool *valid, uint8_t *lru, bool cd, bool nw,
     uint8_t *ram, size_t ram_length, uint8_t *parity, size_t parity_length,
-    uint8_t *data, size_t data_length, uint32_t address, uint32_t width, uint32_t value,
+    uint8_t *data, size_t data_length, uint32_t address, uint32_t width, uint64_t value,
     const uint8_t *answers, size_t answers_length, uint32_t *log, size_t log_length);
 
 /* Another master's write of 1 to 16 bytes of one line into RAM, then a snoop. It leaves no record. */
@@ -296,8 +303,10 @@ unit486_outcome unit486_reset_by_value(void);
 /* The same snoop as unit486_snoop, by way of copies of the directory: document 01's thin call. */
 uint32_t unit486_drop_line(unit486_directory *directory, uint32_t address);
 
-/* The board table's 32 answers for an access, into answers, which has room for 32. Never refused; an access
-   of a width other than 1, 2 and 4 has no upper doubleword. */
+/* The board table's 48 answers for an access, into answers, which has room for 48: for each doubleword
+   sixteen times that of its block. Where the access has no second or no third doubleword, those sixteen are
+   the lowest's. Never refused; for a width other than 1, 2, 4 and 8 all 48 are the answer of the address's
+   own block. */
 void unit486_board_answers(uint32_t address, uint32_t width, uint8_t *answers);
 
 /* The event program on lines in memory, in libprogram.a: puts as much of the output as fits, answers its
@@ -343,7 +352,7 @@ static inline unit486_result unit486_read_carrying(
 }
 
 static inline unit486_result unit486_write(
-    unit486_directory *directory, unit486_buffers *lent, uint32_t address, uint32_t width, uint32_t value,
+    unit486_directory *directory, unit486_buffers *lent, uint32_t address, uint32_t width, uint64_t value,
     const uint8_t *answers, size_t answers_length, uint32_t *log, size_t log_length)
 {
     return unit486_write_in_place(
@@ -428,10 +437,10 @@ static inline const char *unit486_number_text(uint32_t number)
     case UNIT486_WRONG_RAM_LENGTH: return "RAM is not 16 to 16,777,216 bytes, a multiple of 16";
     case UNIT486_WRONG_PARITY_LENGTH: return "the parity array is not a fourth of RAM";
     case UNIT486_WRONG_DATA_LENGTH: return "the data array is not 8,192 bytes";
-    case UNIT486_WRONG_WIDTH: return "the width is not 1, 2 or 4";
+    case UNIT486_WRONG_WIDTH: return "the width is not 1, 2, 4 or 8";
     case UNIT486_BEYOND_RAM: return "beyond RAM";
-    case UNIT486_WRONG_ANSWERS: return "not 32 answers, or one above 7";
-    case UNIT486_SHORT_LOG: return "the log is below 96 words";
+    case UNIT486_WRONG_ANSWERS: return "not 48 answers, or one above 7";
+    case UNIT486_SHORT_LOG: return "the log is below 144 words";
     case UNIT486_LARGE_VALUE: return "the value is too large for its width";
     case UNIT486_WRONG_CONTROL: return "control with CD = 0 and NW = 1";
     case UNIT486_WRONG_EXTERNAL_WRITE:
