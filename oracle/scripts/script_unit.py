@@ -55,7 +55,7 @@ LOG_PATTERN = 0xC0DE0000
 RAM_ROOM = 65_536
 PARITY_ROOM = 65_536
 DATA_ROOM = 65_536
-LOG_ROOM = 128
+LOG_ROOM = 192
 FIELD_ROOM = 64
 
 # The fields that are 0 or 1, by their place after the letter.
