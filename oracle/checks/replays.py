@@ -11,7 +11,7 @@ from scripts.script_unit import marks_are_0_or_1
 from .unit_calls import check
 
 FILE_LIMIT = 60_000
-TOTAL_LIMIT = 1_600_000
+TOTAL_LIMIT = 1_650_000
 # What a program may print where it is run without its proofs.
 PRINTED_LIMIT = 1_048_576
 RANDOM = (
@@ -49,6 +49,9 @@ CONDITIONS = (
     "lines snooped",
     "LRU numbers flushed",
     "wrong parity",
+    "values above 32 bits",
+    "2 doublewords on the bus",
+    "3 doublewords on the bus",
     "views of held lines",
     "views of RAM",
     "p 0",
