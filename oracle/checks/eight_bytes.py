@@ -1,12 +1,14 @@
 """Sentences of document 02's request C-15, each with an input that tells, and what source document
 002 says of 64-bit reads and writes."""
 
+import copy
+import random
 from collections.abc import Sequence
 from itertools import product
 
 from unit486_model import board, events, memory
 from unit486_model.access import Result
-from unit486_model.bus import ANSWERS, BS8, BS16, FILL, GROUP, KEN, LAST, LOG_WORDS
+from unit486_model.bus import ANSWERS, BS8, BS16, FILL, GROUP, KEN, LAST, LOG_WORDS, Record
 from unit486_model.carried import CarriedWrite
 from unit486_model.directory import LRU_LIMIT, data_offset, set_of
 from unit486_model.events import NUMBER_LIMIT, VALUE_LIMIT, Unit
@@ -146,8 +148,8 @@ def touched_sets() -> None:
     store_line(unit, 6, 3, 9)
     before = snapshot(unit)
     # The last start below each set, the first in it, the last in it, and the first above.
-    starts = ((BELOW + 8, 0), (BELOW + 9, 23), (BELOW + 15, 23), (LINE, 23), (LINE + 15, 23))
-    starts += ((ABOVE, 0), (ABOVE + 8, 0), (ABOVE + 9, 21), (0x60, 21), (0x6F, 21), (0x70, 0))
+    starts = [(BELOW + 8, 0), (BELOW + 9, 23), (BELOW + 15, 23), (LINE, 23), (LINE + 15, 23)]
+    starts += [(ABOVE, 0), (ABOVE + 8, 0), (ABOVE + 9, 21), (0x60, 21), (0x6F, 21), (0x70, 0)]
     for address, number in starts:
         check(f"read at {address:x}", read(unit, address, 8, NO_KEN).number, number)
         if number:
@@ -204,6 +206,47 @@ def _written(unit: Unit, before: bytes, address: int) -> None:
     expected = before[:address] + VALUE.to_bytes(8, "little") + before[address + 8 :]
     check("RAM", bytes(unit.ram), expected)
     check("parity", memory.parity_agrees(unit.ram, unit.parity), True)
+
+
+def one_after_the_other() -> None:
+    """Document 01: "the lower one completed first (H)". At an even start eight bytes do what
+    accesses of each doubleword's bytes do in turn, whatever is held and answered."""
+    source = random.Random(815)
+    for _ in range(400):
+        whole = _unit(source.random() < 0.3, source.random() < 0.3)
+        for set_index in (3, 4, 5):
+            if source.random() < 0.4:
+                store_line(whole, set_index, source.randrange(4), 0)
+        parts, address = copy.deepcopy(whole), LINE + 2 * source.randrange(-3, 8)
+        ken = source.choice((0, KEN))
+        answers = [source.choice((0, 0, BS16, BS8, KEN)) | ken for _ in range(ANSWERS)]
+        value = source.getrandbits(64) if source.random() < 0.5 else None
+        result = _accessed(whole, address, 8, value, answers)
+        check(f"at {address:x}", result, _by_doublewords(parts, address, value, answers))
+        check("what is left", snapshot(whole), snapshot(parts))
+
+
+def _accessed(
+    unit: Unit, address: int, width: int, value: int | None, answers: list[int]
+) -> Result:
+    """A write of this value, or a read."""
+    if value is None:
+        return read(unit, address, width, answers)
+    return write(unit, address, width, value % 256**width, answers)
+
+
+def _by_doublewords(unit: Unit, address: int, value: int | None, answers: list[int]) -> Result:
+    """Each doubleword's bytes by an access of their own, with its group in the lowest's place."""
+    joined, place = 0, 0
+    records: tuple[Record, ...] = ()
+    for index, width in enumerate((2, 4, 2) if address % 4 else (4, 4)):
+        group = answers[GROUP * index : GROUP * (index + 1)]
+        part = None if value is None else value >> 8 * place
+        result = _accessed(unit, address + place, width, part, answers_of(group))
+        joined |= result.value << 8 * place
+        records += result.records
+        place += width
+    return Result(0, joined, len(records), records)
 
 
 def own_last_cycle() -> None:
@@ -527,6 +570,7 @@ def readings() -> None:
         touched_sets,
         source_tables,
         groups_of_answers,
+        one_after_the_other,
         own_last_cycle,
         board_table,
         fills_in_one_line,

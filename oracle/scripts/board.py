@@ -53,10 +53,8 @@ def _crossings(script: Script) -> None:
             _asked(script, end - before, width, lower, lower, upper)
         for before, width in ((4, 4), (2, 2), (8, 8)):
             _asked(script, end - before, width, lower)
-    for before, width in ((2, 4), (1, 4)):
-        _asked(script, 8 * MEBIBYTE - before, width, "1", "5", "1")
-    for before, width in ((2, 8), (6, 8)):
-        _asked(script, 8 * MEBIBYTE - before, width, "1", "5" if before < 4 else "1", "5")
+    for before, width, given in ((2, 4, "151"), (1, 4, "151"), (2, 8, "155"), (6, 8, "115")):
+        _asked(script, 8 * MEBIBYTE - before, width, *given)
     for width in (0, 3, 5, 7, 9, 12, 16, 4294967295):
         _asked(script, 8 * MEBIBYTE - 2, width, "1")
 
