@@ -13,6 +13,7 @@ from scripts.board import board
 from scripts.burst import burst
 from scripts.carried import carried
 from scripts.diagnostics import diagnostics
+from scripts.eight_bytes import eight_bytes
 from scripts.ken import ken
 from scripts.modes import modes
 from scripts.numbers import numbers
@@ -30,8 +31,9 @@ CRATE = "crates/replay"
 def scripts() -> tuple[Script, ...]:
     """Tables and examples first, then random calls."""
     records = (bench(), sizing(), burst(), ken())
-    rules = (modes(), parity(), numbers(), states(), board(), views(), diagnostics(), carried())
-    return (*records, *rules, *random_scripts())
+    rules = (modes(), parity(), numbers(), states(), board(), views())
+    requests = (diagnostics(), carried(), eight_bytes())
+    return (*records, *rules, *requests, *random_scripts())
 
 
 def arguments() -> str:

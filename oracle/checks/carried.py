@@ -372,7 +372,7 @@ def order_of_numbers() -> None:
     unit = _unit()
     unit.directory.lru[4] = LRU_LIMIT + 1
     check("33 before 23", read_carrying(unit, LINE, 4, bad), Result(33))
-    check("7", read_carrying(unit, LINE, 4, bad, log=[0] * 95), Result(7))
+    check("7", read_carrying(unit, LINE, 4, bad, log=[0] * 143), Result(7))
     check("6", read_carrying(unit, LINE, 4, bad, ALL_KEN[1:], log=[]), Result(6))
     check("5", read_carrying(unit, RAM_BYTES - 2, 4, bad, []), Result(5))
     check("4", read_carrying(unit, NUMBER_LIMIT, 3, bad), Result(4))

@@ -209,7 +209,7 @@ def stretches() -> None:
     _planted(unit, comparison, 0, True)
     unit.directory.nw = True
     write(unit, 0x40, 1, 5)
-    comparison.plain.write(0x40, 1, 5, NO_KEN, 96)
+    comparison.plain.write(0x40, 1, 5, NO_KEN, 144)
     check("inside", unit.ram[0x40] != comparison.plain.bytes_held[0x40], True)
     comparison.before_flush_or_reset(unit.ram)
     access.flush(unit.directory)

@@ -47,7 +47,17 @@ LETTERS = {
     "C": {0, 9},
     "Z": {0},
 }
-CONDITIONS = ("read hits", "fills", "two fills", "writes inside", "lines replaced", "lines snooped")
+CONDITIONS = (
+    "read hits",
+    "fills",
+    "two fills",
+    "writes inside",
+    "lines replaced",
+    "lines snooped",
+    "values above 32 bits",
+    "values of twenty digits",
+    "writes of three doublewords",
+)
 
 
 def event_file_checks() -> None:

@@ -182,7 +182,7 @@ class RandomList:
 
     def write(self) -> None:
         address, width = self.address(), self.width()
-        bits = self.random.choice((8, 16, 32)) if self.wrong() else min(8 * width, 32)
+        bits = self.random.choice((8, 16, 32, 64)) if self.wrong() else min(8 * width, 64)
         value, answers, log = self.random.getrandbits(bits), self.answers(), self.log()
         before = list(log)
         result = write(self.unit, address, width, value, answers, log)
@@ -399,7 +399,7 @@ def refused_calls() -> None:
 
 def _any_call(source: random.Random, unit: Unit, log: list[int]) -> int:
     address = source.choice((0, 1, 13, 14, 15, 16, 2046, 2050, 99999))
-    width = source.choice((1, 2, 4, 4, 4, 3))
+    width = source.choice((1, 2, 4, 4, 8, 8, 3))
     answers = [source.randrange(8) for _ in range(ANSWERS)] + [0] * (source.random() < 0.1)
     call = source.randrange(11)
     if call < 2:
@@ -410,7 +410,7 @@ def _any_call(source: random.Random, unit: Unit, log: list[int]) -> int:
         carried = [CarriedWrite(cycle, place, bytes(source.choice((1, 7)))) for cycle in cycles]
         return read_carrying(unit, address, width, carried, answers, False, log).number
     if call == 2:
-        value = source.choice((1, 255, 256, 4294967295))
+        value = source.choice((1, 255, 256, 2**32 - 1, 2**32, 2**64 - 1))
         return write(unit, address, width, value, answers, log).number
     if call == 3:
         return external(unit, address, bytes(source.randrange(18))).number

@@ -11,7 +11,9 @@ from scripts.script_unit import marks_are_0_or_1
 from .unit_calls import check
 
 FILE_LIMIT = 60_000
-TOTAL_LIMIT = 1_500_000
+TOTAL_LIMIT = 1_650_000
+# What a program may print where it is run without its proofs.
+PRINTED_LIMIT = 1_048_576
 RANDOM = (
     "tiny.txt",
     "hot.txt",
@@ -47,6 +49,9 @@ CONDITIONS = (
     "lines snooped",
     "LRU numbers flushed",
     "wrong parity",
+    "values above 32 bits",
+    "2 doublewords on the bus",
+    "3 doublewords on the bus",
     "views of held lines",
     "views of RAM",
     "p 0",
@@ -78,6 +83,7 @@ def replays() -> None:
         at_random += script.met if name in RANDOM else Counter()
     size = sum(len(generate()) for _, generate in replay.expectations())
     check("all files", size < TOTAL_LIMIT, True)
+    check("printed", len(replay.printed()) < PRINTED_LIMIT, True)
     check("random calls", at_random["calls"] >= RANDOM_CALLS, True)
     for letter, numbers in NUMBERS.items():
         for number in numbers:

@@ -20,7 +20,7 @@ ORACLE = Path(__file__).resolve().parent.parent
 RAM_BYTES = 0x4000
 ALL_KEN = [KEN] * ANSWERS
 NO_KEN = [0] * ANSWERS
-BAD_WIDTHS = (0, 3, 5, 8, 4_294_967_295)
+BAD_WIDTHS = (0, 3, 5, 6, 7, 9, 16, 4_294_967_295)
 
 
 class Mismatch(Exception):

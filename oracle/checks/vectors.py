@@ -171,13 +171,14 @@ FLAG_TABLE = {
 
 
 def flag_table() -> None:
-    """Each row by the bus's cycles; the widths that a call accepts by reads and writes too."""
+    """Each row by the bus's cycles, by reads and by writes. It has a row for each width that a call
+    accepts, at each offset in a doubleword."""
+    check("rows", list(FLAG_TABLE), [(width, offset) for width in WIDTHS for offset in range(4)])
     for (width, offset), columns in FLAG_TABLE.items():
         for answer, column in ((0, 0), (BS16, 1), (BS8, 2), (BS8 + BS16, 2)):
             parts = [[int(flag) for flag in part.split(",")] for part in columns[column].split("|")]
             check(f"cycles {width} at {offset}", _bus_flags(offset, width, answer), parts)
-            if width in WIDTHS:
-                _flags_of_calls(width, offset, answer, parts)
+            _flags_of_calls(width, offset, answer, parts)
 
 
 def _bus_flags(offset: int, width: int, answer: int) -> list[list[int]]:
@@ -313,8 +314,9 @@ def bench_table() -> None:
     check("width 3", read(unit_of(), 0, 3), Result(4))
     check("RAM 16", read(unit_of(16), 0, 4).number, 0)
     check("RAM 15", number_with_ram(15), 1)
-    check("log 96", read(unit_of(), 0, 4, log=[0] * 96).number, 0)
-    check("log 95", read(unit_of(), 0, 4, log=[0] * 95), Result(7))
+    # C-15: "the bench table's log cases become 144 and 143".
+    check("log 144", read(unit_of(), 0, 4, log=[0] * 144).number, 0)
+    check("log 143", read(unit_of(), 0, 4, log=[0] * 143), Result(7))
 
 
 PROGRAM_INPUT = (

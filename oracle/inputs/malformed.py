@@ -135,12 +135,22 @@ def inserted_files() -> Iterator[EventFile]:
 
 # --- numbers, digits, hex pairs
 
-BAD_NUMBERS = (
+NO_NUMBERS = (
     *("+1", "-1", "-0", "1-", " 1", "1 ", "1 2", "/", ":", "1/", "/1", "1:", ":1", "0/", ":0"),
     *("A", "a", "F", "0x1", "1h", "1e1", "1.", ".1", "1,000", "1_0", "#1", "'1'", '"1"'),
+    *("1\0", "\x001", "1\r", "²", "٣", "１"),
+)
+BAD_NUMBERS = (
+    *NO_NUMBERS,
     *("4294967296", "4294967299", "4294967306", "9999999999"),
     *("10000000000", "00000000001", "00000000000", "04294967295", "000000000000000000004"),
-    *("1\0", "\x001", "1\r", "²", "٣", "１"),
+    "18446744073709551615",
+)
+# W's value has up to twenty digits, and is a 64-bit number.
+BAD_VALUES = (
+    *NO_NUMBERS,
+    *("18446744073709551616", "18446744073709551623", "18446744078004518912", "9" * 20),
+    *("1" + "0" * 20, "0" * 20 + "1", "0" * 21, "018446744073709551615", "0" * 40 + "4"),
 )
 BAD_DIGITS = (
     *("2", "3", "8", "9", "00", "01", "10", "11", "000", "/", ":", "0/", "1:", " 0", "0 ", " 1"),
@@ -163,7 +173,8 @@ BAD_PAIRS = {
 
 def number_files() -> Iterator[EventFile]:
     for name, (letter, place) in NUMBERS.items():
-        yield probed(f"number-{name}", [with_field(letter, place, bad) for bad in BAD_NUMBERS])
+        wrong = BAD_VALUES if name == "W-value" else BAD_NUMBERS
+        yield probed(f"number-{name}", [with_field(letter, place, bad) for bad in wrong])
 
 
 def digit_files() -> Iterator[EventFile]:
@@ -179,6 +190,9 @@ def pair_files() -> Iterator[EventFile]:
 # --- every byte in one place
 
 DECIMAL = b"0123456789"
+# Where one reader takes several fields, these have every byte in one of them, and in the others
+# those of seven bits and the good ones with bit 7 set.
+EVERY_BYTE = ("letter", "after-letter", "separator", "number-last", "PCD", "pair-first")
 # What a line has before the byte and after it, and which bytes make it well formed.
 SWEEPS: dict[str, tuple[bytes, bytes, bytes]] = {
     "letter": (b"", b"", b"FZ"),
@@ -199,7 +213,8 @@ def sweep_files() -> Iterator[EventFile]:
     for name, (before, after, good) in SWEEPS.items():
         file = EventFile(f"malformed-byte-{name}")
         file.control(False, False)
-        for code in (code for code in range(256) if code != 10):
+        high = range(128, 256) if name in EVERY_BYTE else [*(byte + 128 for byte in good), 255]
+        for code in (*(code for code in range(128) if code != 10), *high):
             result = file.line(before + bytes([code]) + after)
             # "C 0 1" is well formed and refused.
             refused = 9 if (name, code) == ("NW", ord("1")) else 11

@@ -38,11 +38,11 @@ class Kind:
 
 
 KINDS = (
-    Kind("mixed", 40, 40, "RRRRRRRRWWWWXXSSFCZ", wrong=0.06, changed=0.08),
-    Kind("hot-random", 10, 70, "RRRRRRRRRRRRRWWWS", tags=7, changed=0.02, elsewhere=0.03),
-    Kind("modes-random", 10, 60, "RRRRRRRRWWWWWWXSFCCCCZ", tags=2, wrong=0.02, elsewhere=0.1),
-    Kind("masters-random", 10, 50, "RRRRRRRXXXXSSSW", tags=3, wrong=0.03),
-    Kind("malformed-random", 8, 45, "RRRWWWXXXSSFCCZ", wrong=0.05, changed=0.8),
+    Kind("mixed", 40, 34, "RRRRRRRRWWWWXXSSFCZ", wrong=0.06, changed=0.08),
+    Kind("hot-random", 10, 54, "RRRRRRRRRRRRRWWWS", tags=7, changed=0.02, elsewhere=0.03),
+    Kind("modes-random", 10, 46, "RRRRRRRRWWWWWWXSFCCCCZ", tags=2, wrong=0.02, elsewhere=0.1),
+    Kind("masters-random", 10, 40, "RRRRRRRXXXXSSSW", tags=3, wrong=0.03),
+    Kind("malformed-random", 8, 40, "RRRWWWXXXSSFCCZ", wrong=0.05, changed=0.8),
 )
 
 
@@ -92,6 +92,13 @@ class RandomEvents:
         texts = [f"{field:0{digits}}" if isinstance(field, int) else field for field in fields]
         return "\t".join([letter, *texts]).encode()
 
+    def _value(self, width: int) -> str:
+        """Of the width's bits, or of too many; at times with leading zeros, up to twenty digits."""
+        wrong = self._wrong()
+        bits = self.source.choice((8, 9, 16, 17, 32, 33, 64)) if wrong else 8 * min(width, 8)
+        digits = self.source.between(7, 20) if self.source.chance(self.kind.zeros) else 1
+        return f"{self.source.bits(bits):0{digits}}"
+
     def _address(self) -> int:
         """Mostly in a few lines of one set and the next, often at the end of a line."""
         if self._wrong():
@@ -99,7 +106,7 @@ class RandomEvents:
         if self.source.chance(self.kind.elsewhere):
             return self.source.below(RAM_BYTES)
         line = self.source.choice(self.tags) * WAY_BYTES + self.hot * LINE_BYTES
-        return (line + self.source.between(-3, LINE_BYTES + 1)) % RAM_BYTES
+        return (line + self.source.between(-4, LINE_BYTES + 1)) % RAM_BYTES
 
     def _width(self) -> int:
         return self.source.choice(BAD_WIDTHS if self._wrong() else WIDTHS)
@@ -112,8 +119,7 @@ class RandomEvents:
 
     def _write(self) -> bytes:
         width = self._width()
-        bits = self.source.choice((8, 9, 16, 17, 32)) if self._wrong() else 8 * min(width, 4)
-        return self._line("W", self._address(), width, self.source.below(2**bits))
+        return self._line("W", self._address(), width, self._value(width))
 
     def _external(self) -> bytes:
         address = self._address()

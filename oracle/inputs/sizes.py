@@ -10,8 +10,8 @@ from .writer import EventFile
 
 TOO_LONG = HEADER + b"0\t12\t0\t0\n"
 
-# Leading zeros make for fewer rows.
-MIXED = Kind("size", 1, 0, "RRRRRRRRRRWWWWWWWWXXXXXXXXSSFCZ", wrong=0.02, zeros=0.9)
+# Leading zeros and many writes make for fewer rows.
+MIXED = Kind("size", 1, 0, "RRRRRRRRWWWWWWWWWWWWWWWWWWWWXXXXSFCZ", wrong=0.02, zeros=0.95)
 # More than a line takes, or a reset and the control call after it.
 MARGIN = 100
 

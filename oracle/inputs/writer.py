@@ -7,7 +7,7 @@ from typing import Any
 from unit486_model import directory as steps
 from unit486_model import events
 from unit486_model.access import Result
-from unit486_model.events import MALFORMED, program_unit
+from unit486_model.events import MALFORMED, NUMBER_LIMIT, VALUE_DIGITS, program_unit
 
 # The result of an event that is done with no value and no cycle.
 DONE = Result(0)
@@ -92,6 +92,9 @@ class EventFile:
         met["writes inside"] += letter == "W" and done and result.cycles == 0
         met["lines replaced"] += letter == "R" and before[1] != after[1] and before[0] == after[0]
         met["lines snooped"] += letter in "SX" and after[0] < before[0]
+        met["values above 32 bits"] += result.value > NUMBER_LIMIT
+        met["values of twenty digits"] += len(str(result.value)) == VALUE_DIGITS
+        met["writes of three doublewords"] += letter == "W" and result.cycles == 3
 
 
 def event_line(letter: str, *fields: str | int) -> bytes:

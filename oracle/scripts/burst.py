@@ -2,7 +2,7 @@
 
 from unit486_model import directory as steps
 from unit486_model.access import Result
-from unit486_model.bus import BS8, BS16, GROUP, KEN
+from unit486_model.bus import ANSWERS, BS8, BS16, GROUP, KEN
 from unit486_model.carried import CarriedWrite
 
 from checks.unit_calls import ALL_KEN, address_flags, answers_of, check
@@ -49,7 +49,7 @@ def _table(script: Script) -> None:
     line = 0
     for size in (0, BS16, BS8, BS8 + BS16):
         for order in BURST_ORDERS.values():
-            answers = [KEN + size] * (2 * GROUP)
+            answers = [KEN + size] * ANSWERS
             _check_order(script.read(line + order[0], 4, answers), line, order, answers)
             line += 16
 

@@ -105,7 +105,7 @@ def _order(script: Script) -> None:
     """After each of 1 to 7, and before each of 21 to 23 in the sets of the read and of a write."""
     bad = _writes(1, 0)
     lengths = {1: {"ram": 40, "parity": 10}, 2: {"ram": 32, "parity": 9}}
-    lengths |= {3: {"ram": 32, "data": DATA_BYTES - 1}, 7: {"ram": 32, "log": 95}}
+    lengths |= {3: {"ram": 32, "data": DATA_BYTES - 1}, 7: {"ram": 32, "log": 143}}
     for number, wrong in lengths.items():
         script.new(**wrong, cd=False)
         _refused(script, number, bad, address=0)
@@ -114,7 +114,7 @@ def _order(script: Script) -> None:
     _refused(script, 4, bad, width=3)
     _refused(script, 5, bad, address=RAM_BYTES - 2)
     _refused(script, 6, bad, answers=ALL_KEN[1:])
-    _refused(script, 6, bad, answers=[1] * 31 + [8])
+    _refused(script, 6, bad, answers=[1] * 47 + [8])
     for number in FAULTS:
         FAULTS[number](script, 0x10 + number)
         address = 16 * (0x10 + number)

@@ -4,7 +4,7 @@ numbers 3, 31 and 32, and the first victim after a flush."""
 from itertools import combinations, product
 
 from unit486_model.access import Result
-from unit486_model.bus import BS8
+from unit486_model.bus import ANSWERS, BS8
 from unit486_model.directory import LINE_BYTES, LRU_LIMIT, SETS, TAG_LIMIT, WAY_BYTES, WAYS
 from unit486_model.events import NUMBER_LIMIT
 from unit486_model.refusal import DATA_BYTES
@@ -152,7 +152,7 @@ def _write_hits(script: Script, nw: bool) -> None:
     script.new(ram=RAM_BYTES, cd=True, nw=nw)
     sixteen = _plants(script, 4, 2, 2)
     before = bytes(script.unit.ram)
-    result = script.write(THIRD + 5, 2, 0xBEEF, [BS8] * 32)
+    result = script.write(THIRD + 5, 2, 0xBEEF, [BS8] * ANSWERS)
     check("cycles", flags(result), [] if nw else [18, 84])
     written = sixteen[:5] + b"\xef\xbe" + sixteen[7:]
     _shows(script, 4, 2, 0, 2, True, 4, written)
@@ -306,7 +306,7 @@ def _limits(script: Script) -> None:
     for data in (0, 16, DATA_BYTES - 1, DATA_BYTES, DATA_BYTES + 1, DATA_BYTES + 16):
         script.new(ram=32, data=data)
         _tried(script, 0, 0, 0, 0 if data == DATA_BYTES else 3)
-    for ram, parity, log in ((0, 0, 96), (15, 4, 0), (24, 6, 95), (32, 7, 96)):
+    for ram, parity, log in ((0, 0, 144), (15, 4, 0), (24, 6, 143), (32, 7, 144)):
         script.new(ram=ram, parity=parity, log=log)
         _tried(script, 127, 3, 3, 0)
 

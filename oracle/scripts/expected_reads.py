@@ -1,4 +1,5 @@
-"""What a carrying read gives and leaves, worked out from its course as C-12's words have it.
+"""What a read gives and leaves, worked out from its course; of the writes that it carries as C-12's
+words have it.
 
 A course names, for each doubleword in turn, whether it hits or which records the source documents'
 tables give it, and in between the lines that a snoop ends. Nothing of the model has a part in it
@@ -140,7 +141,28 @@ def carries(
     expected = ExpectedRead(script, address, width, carried)
     expected.follow(course)
     result = script.read_carrying(address, width, carried, answers, pcd)
-    what = f"{width} at {address:x} with {carried}"
+    _took(f"{width} at {address:x} with {carried}", script, result, expected, parity)
+
+
+def reads(
+    script: Script,
+    address: int,
+    width: int,
+    course: Course,
+    answers: Sequence[int] = (KEN,) * ANSWERS,
+    pcd: bool = False,
+    parity: bytes = b"",
+) -> None:
+    """The same of a read that carries nothing."""
+    expected = ExpectedRead(script, address, width, ())
+    expected.follow(course)
+    result = script.read(address, width, answers, pcd)
+    _took(f"{width} at {address:x} with {answers}", script, result, expected, parity)
+
+
+def _took(
+    what: str, script: Script, result: Result, expected: ExpectedRead, parity: bytes
+) -> None:
     check(f"records of {what}", result.records, tuple(expected.records))
     value = int.from_bytes(expected.value, "little")
     check(what, result[:3], Result(0, value, len(expected.records))[:3])

@@ -83,7 +83,7 @@ def _crossing(script: Script) -> None:
             script.new(cd=False)
             lower = group_of([0] * GROUP, 3, lower_first, lower_last, 0)
             upper = group_of([0] * GROUP, 3, upper_first, upper_last, 0)
-            result = script.read(address, 4, lower + upper)
+            result = script.read(address, 4, answers_of(lower, upper))
             printed = _crossing_records(address, lower, upper)
             check(f"crossing at {address:x} {lower} {upper}", address_flags(result), printed)
             held = int.from_bytes(script.unit.ram[address : address + 4], "little")

@@ -3,7 +3,7 @@
 from itertools import product
 
 from unit486_model.access import Result
-from unit486_model.bus import BS8, BS16
+from unit486_model.bus import ANSWERS, BS8, BS16
 
 from checks.unit_calls import ALL_KEN, NO_KEN, answers_of, check, flags
 from checks.vectors import MODES
@@ -42,7 +42,7 @@ def _calls_of_a_mode(script: Script, cd: bool, nw: bool) -> None:
     check("write hit", flags(hit), [95] if through else [])
     check("write hit in RAM", bytes(script.unit.ram) != before, through)
     check("read back", script.read(HELD, 4).value, 0x55AA33CC)
-    check("write miss", flags(script.write(MISSED, 2, 0x1234, [BS8] * 32)), [17, 82])
+    check("write miss", flags(script.write(MISSED, 2, 0x1234, [BS8] * ANSWERS)), [17, 82])
     check("not filled", script.held(MISSED), None)
     missed = script.read(MISSED, 4)
     check("read miss", missed.cycles, 4 if fills else 1)

@@ -14,6 +14,10 @@ from .writer import Script
 BASE = 0x124
 PARITY_INDEX = BASE // 4
 
+# Width and start of accesses that want bytes of that doubleword: as the lower one or the upper, and
+# as the lowest, the middle and the highest of eight bytes.
+ACCESSES = (*product((1, 2, 4), range(4)), (8, 1), (8, -2), (8, -5))
+
 UPPER = 0xF0
 
 
@@ -41,11 +45,10 @@ def _faults_by_lane(script: Script) -> None:
     script.new(cd=False)
     for faults in (1, 2, 4, 8, 5, 10, 15):
         script.flip(PARITY_INDEX, faults)
-        for width, offset in product(WIDTHS, range(4)):
-            for size in (0, BS16, BS8):
-                result = script.read(BASE + offset, width, [size] * ANSWERS)
-                right = plain_records(BASE + offset, width, [size] * ANSWERS)
-                check("wrong lanes", address_flags(result), _with_wrong(right, {BASE: faults}))
+        for (width, start), size in product(ACCESSES, (0, BS16, BS8)):
+            result = script.read(BASE + start, width, [size] * ANSWERS)
+            right = plain_records(BASE + start, width, [size] * ANSWERS)
+            check("wrong lanes", address_flags(result), _with_wrong(right, {BASE: faults}))
         script.flip(PARITY_INDEX, faults)
     check("mended", memory.parity_agrees(script.unit.ram, script.unit.parity), True)
 
@@ -79,14 +82,14 @@ def _writes(script: Script) -> None:
     """A moved lane gets its bit and the upper four become 0; other lanes' bits stay."""
     for width, offset, size in product(WIDTHS, range(4), (0, BS8)):
         script.new(ram=32, cd=False)
-        for index in (1, 2):
+        for index in (1, 2, 3):
             script.flip(index, 0xFF)
         before = bytes(script.unit.parity)
-        value = 0x80C0F1E2 % 256**width
+        value = 0x7FC1_0E9B_80C0_F1E2 % 256**width
         script.write(4 + offset, width, value, [size] * ANSWERS)
         good = memory.parity_for(script.unit.ram)
         lanes = ((1 << width) - 1) << offset
-        for index, moved in ((1, lanes & 15), (2, lanes >> 4)):
+        for index, moved in ((1, lanes & 15), (2, lanes >> 4 & 15), (3, lanes >> 8)):
             kept = before[index] & 15 & ~moved if moved else before[index]
             bits = script.unit.parity[index]
             check("parity byte", bits, good[index] & moved | kept)

@@ -39,17 +39,17 @@ class Kind:
 
 
 KINDS = (
-    Kind("tiny", 16, 64, (16, 32), "RRRRRRWWWXSFCMV", wrong=0.06, faults=0.3, stored=True),
-    Kind("hot", 14, 80, (12_304, 16_400), "RRRRRRRRRRRRRRWWWWWWXSV", wrong=0.01),
-    Kind("masters", 14, 80, (2064, 4128), "RRRRRRRWWWWXXXXSSSFCCMMZVV", faults=0.05),
-    Kind("large", 10, 64, (65_536, 20_496), "RRRRRRWWWrrwXXSFCV", wrong=0.04, faults=0.002),
-    Kind("long", 2, 560, (2064, 16_400), "RRRRRRRRWWWWrwXXSV", wrong=0.02, stored=True),
+    Kind("tiny", 11, 64, (16, 32), "RRRRRRWWWXSFCMV", wrong=0.06, faults=0.3, stored=True),
+    Kind("hot", 10, 80, (12_304, 16_400), "RRRRRRRRRRRRRRWWWWWWXSV", wrong=0.01),
+    Kind("masters", 9, 80, (2064, 4128), "RRRRRRRWWWWXXXXSSSFCCMMZVV", faults=0.05),
+    Kind("large", 8, 64, (65_536, 20_496), "RRRRRRWWWrrwXXSFCV", wrong=0.04, faults=0.002),
+    Kind("long", 2, 420, (2064, 16_400), "RRRRRRRRWWWWrwXXSV", wrong=0.02, stored=True),
     Kind(
         "refused",
-        110,
+        88,
         11,
         (16, 32, 2064),
-        "RRRRRWWWWWXXXSSSCFrVV",
+        "RRRRRWWWWWXXXSSSCFrVVVV",
         wrong=0.08,
         stored=True,
         ill_formed=0.5,
@@ -57,7 +57,7 @@ KINDS = (
     ),
     Kind(
         "planted",
-        26,
+        22,
         36,
         (4128, 8224),
         "ppppppttttRRRRRRrrrWWwXSVVFFZC",
@@ -66,15 +66,15 @@ KINDS = (
     ),
     Kind(
         "carrying",
-        26,
-        4,
+        48,
+        3,
         (32, 64, 2080),
         "QQQQQQQQr",
-        wrong=0.02,
+        wrong=0.04,
         faults=0.08,
         stored=True,
         ill_formed=0.25,
-        wrong_lengths=0.2,
+        wrong_lengths=0.25,
     ),
 )
 
@@ -197,8 +197,7 @@ class RandomCalls:
     def _answers(self) -> list[int]:
         """Often such that fills are kept, else anything."""
         if self._wrong():
-            count = self.source.choice((0, 1, ANSWERS - 1, ANSWERS, ANSWERS + 1, 64))
-            return [self.source.choice((0, 1, 7, 8, 9)) for _ in range(count)]
+            return self._wrong_answers()
         chance = self.source.below(100)
         if chance < 35:
             return [KEN] * ANSWERS
@@ -207,9 +206,15 @@ class RandomCalls:
         ken = KEN if chance < 75 else 0
         return [self.source.below(8) | ken for _ in range(ANSWERS)]
 
+    def _wrong_answers(self) -> list[int]:
+        """Too few, too many, or one that is none."""
+        count = self.source.choice((0, 1, ANSWERS - 1, ANSWERS, ANSWERS + 1, 64))
+        return [self.source.choice((0, 1, 7, 8, 9)) for _ in range(count)]
+
     def _value(self, width: int) -> int:
-        bits = self.source.choice((8, 9, 16, 17, 32)) if self._wrong() else min(8 * width, 32)
-        return self.source.below(2**bits)
+        wrong = self._wrong()
+        bits = self.source.choice((8, 9, 16, 17, 32, 33, 64)) if wrong else min(8 * width, 64)
+        return self.source.bits(bits)
 
     # --- calls
 
@@ -240,7 +245,9 @@ class RandomCalls:
         """Mostly by doublewords, in cycles of which the numbers of the writes often fall."""
         address, width, pcd = self._address(), self._width(), self.source.chance(0.08)
         answers = [self.source.choice((1, 1, 1, 1, 5, 2))] * ANSWERS
-        if self.source.chance(0.2):
+        if self._wrong():
+            answers = self._wrong_answers() or [0]
+        elif self.source.chance(0.2):
             answers = self._answers() or [0]
         count = self.source.between(1, CARRIED_MOST)
         cycles = [self.source.choice((0, 0, 1, 2, 3, 4, 6, 2**32 - 1)) for _ in range(count)]
@@ -307,7 +314,8 @@ class RandomCalls:
         if use == 0:
             self.script.board_write(address, 1, self._value(1))
         if use < 3:
-            self.script.board_read(address, self.source.choice(WIDTHS))
+            width = self.source.choice(WIDTHS)
+            self.script.board_read(address - address % width, width)
         else:
             self.script.snoop(address)
 

@@ -20,6 +20,12 @@ class RandomSource:
     def below(self, limit: int) -> int:
         return int(self._random.random() * limit)
 
+    def bits(self, count: int) -> int:
+        """A number of so many bits, at most 64. `random()` has 53 bits, so the halves are drawn."""
+        if count <= 32:
+            return self.below(2**count)
+        return self.below(2 ** (count - 32)) << 32 | self.below(2**32)
+
     def between(self, least: int, most: int) -> int:
         return least + self.below(most - least + 1)
 

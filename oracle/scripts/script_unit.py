@@ -1,8 +1,8 @@
 """What the program `replay` does with a script line and prints for it, done on the model.
 
-A line is a letter and its fields, a blank before each. Numbers are decimal. The index of T and K
-is that of a line, set x 4 + way; the index of P is that of a parity byte. A mark, pcd, cd and nw
-are 0 or 1.
+A line is a letter and its fields, a blank before each. Numbers are decimal, of 32 bits; the value
+of W and w is of 64. The index of T and K is that of a line, set x 4 + way; the index of P is that
+of a parity byte. A mark, pcd, cd and nw are 0 or 1.
 
     N ram parity data log seed seed   a new unit: four lengths, the seeds of RAM and data array
     T index tag                       the directory's fields, stored without a call
@@ -55,7 +55,7 @@ LOG_PATTERN = 0xC0DE0000
 RAM_ROOM = 65_536
 PARITY_ROOM = 65_536
 DATA_ROOM = 65_536
-LOG_ROOM = 128
+LOG_ROOM = 192
 FIELD_ROOM = 64
 
 # The fields that are 0 or 1, by their place after the letter.

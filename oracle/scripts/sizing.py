@@ -3,7 +3,7 @@
 from collections.abc import Sequence
 from itertools import product
 
-from unit486_model.bus import ANSWER_LIMIT, ANSWERS, BS8, BS16, GROUP, KEN, WIDTHS, WRITE
+from unit486_model.bus import ANSWER_LIMIT, ANSWERS, BS8, BS16, KEN, WIDTHS, WRITE
 
 from checks.unit_calls import address_flags, answers_of, check, flags
 from checks.vectors import FLAG_TABLE
@@ -12,7 +12,8 @@ from .source_tables import plain_records
 from .writer import Script
 
 # Every set of neighbouring bytes is wanted somewhere among these: the lower doubleword of a
-# four-byte access wants 15, 14, 12 and 8, the upper one 1, 3 and 7, and so on.
+# four-byte access wants 15, 14, 12 and 8, the upper one 1, 3 and 7, and so on. The middle one of
+# eight bytes wants 15.
 ACCESSES = [(width, offset) for width in WIDTHS for offset in range(4)]
 
 # The base of the accesses, which leaves them in one line.
@@ -39,7 +40,7 @@ def _both(script: Script, offset: int, width: int, answers: Sequence[int]) -> No
     check(f"read {what}", address_flags(result), plain_records(address, width, answers))
     held = int.from_bytes(script.unit.ram[address : address + width], "little")
     check(f"value {what}", result.value, held)
-    value = (0x9D6B35C7 * (len(script.lines) + 1)) % 256**width
+    value = (0x9D6B35C7_5A0F1E2D * (len(script.lines) + 1)) % 256**width
     result = script.write(address, width, value, answers)
     check(f"write {what}", address_flags(result), plain_records(address, width, answers, WRITE))
     written = script.unit.ram[address : address + width]
@@ -59,11 +60,12 @@ def _constant_answers(script: Script) -> None:
 
 
 def _changing_answers(script: Script) -> None:
-    """Sizes are sampled anew for every cycle: each order of three sizes, in either doubleword."""
+    """Sizes are sampled anew for every cycle: each order of three sizes, in any doubleword."""
     script.new(cd=False)
     for sizes in product((0, BS16, BS8), repeat=3):
-        for offset in range(4):
-            _both(script, offset, 4, answers_of([*sizes, 0], [*sizes, 0]))
+        group = [*sizes, 0]
+        for width, offset in ((4, 1), (4, 2), (8, 0), (8, 3)):
+            _both(script, offset, width, answers_of(group, group, group))
 
 
 def _sizes_by_doubleword(script: Script) -> None:
@@ -71,7 +73,9 @@ def _sizes_by_doubleword(script: Script) -> None:
     script.new(cd=False)
     for lower, upper in product((0, BS8, BS16, BS8 + BS16), repeat=2):
         for width, offset in ((2, 3), (4, 1), (4, 2), (4, 3)):
-            _both(script, offset, width, [lower] * GROUP + [upper] * GROUP)
+            _both(script, offset, width, answers_of([lower], [upper]))
+    for sizes in product((0, BS8, BS16), repeat=3):
+        _both(script, 1 + sum(sizes) % 3, 8, answers_of(*([size] for size in sizes)))
 
 
 def _examples(script: Script) -> None:

@@ -34,7 +34,7 @@ def plain_records(address: int, width: int, answers: Sequence[int], kind: int = 
     made: AddressFlags = []
     lane, start = address % 4, address - address % 4
     wanted = (2**width - 1) << lane
-    for index, lanes in enumerate((wanted & 15, wanted >> 4)):
+    for index, lanes in enumerate((wanted & 15, wanted >> 4 & 15, wanted >> 8)):
         flags = [moved + kind for moved in moved_lanes(lanes, iter(answers[GROUP * index :]))]
         made += with_last([(start + 4 * index, flag) for flag in flags])
     return made

@@ -265,7 +265,7 @@ def _lengths(script: Script) -> None:
         _numbered(script, 16, number)
         script.store_line(0, 0, 0)
         _numbered(script, 0, number)
-    for parity, log in ((0, 96), (7, 96), (9, 96), (32, 96), (8, 0), (8, 95), (9, 95)):
+    for parity, log in ((0, 144), (7, 144), (9, 144), (32, 144), (8, 0), (8, 143), (9, 143)):
         script.new(ram=32, parity=parity, log=log)
         script.store_line(0, 3, 0)
         _shows_array(script, 15, 3)
@@ -328,7 +328,7 @@ def _order(script: Script) -> None:
         ram = 24 if 1 in present else 32
         # 2 and 7 are wrong in all of them, which a view does not see.
         data = DATA_BYTES - (3 in present)
-        script.new(ram=ram, parity=ram // 4 + 1, data=data, log=95)
+        script.new(ram=ram, parity=ram // 4 + 1, data=data, log=143)
         address = ram + 9 if 5 in present else 3
         script.store_line(set_of(address), 0, tag_of(address))
         for number in FAULTS:

@@ -9,7 +9,7 @@ from unit486_model.bus import FILL, LAST, LOG_WORDS, WRONG
 from unit486_model.carried import CARRIED_MOST, CarriedWrite
 from unit486_model.diagnostics import TestLine
 from unit486_model.directory import LINE_BYTES, Directory, line_index
-from unit486_model.events import Unit
+from unit486_model.events import NUMBER_LIMIT, Unit
 from unit486_model.memory import parity_length
 from unit486_model.refusal import DATA_BYTES
 
@@ -246,6 +246,9 @@ class Script:
         )
         met["lines snooped"] += letter in "SX" and before != after
         met["wrong parity"] += any(flag & WRONG for flag in flags)
+        met["values above 32 bits"] += result.value > NUMBER_LIMIT
+        missed = sum(1 for flag in flags if flag & LAST)
+        met[f"{missed} doublewords on the bus"] += result.number == 0 and letter in "RrWwQ"
 
 
 def _fields(letter: str, *fields: str | int) -> str:

@@ -13,10 +13,12 @@ def block_of(address: int) -> int:
 
 
 def answers(address: int, width: int) -> list[int]:
-    """Rule: "repeated 16 times for each doubleword; an absent upper doubleword takes the lower's"
+    """Rule: "repeated 16 times for each doubleword; an absent upper doubleword takes the lower's".
+    C-15: "the board table fills the third group from its own doubleword, or from the lowest where
+    there is none".
 
     The block is that of each doubleword's own address. A width that the access will answer
-    with 4 has no doubleword but the lower.
+    with 4 has no doubleword but the lowest.
     """
     touched = doublewords(address, width if width in WIDTHS else 1)
     given = [TABLE[block_of(doubleword.address)] for doubleword in touched]

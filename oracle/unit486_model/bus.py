@@ -6,12 +6,13 @@ from typing import NamedTuple
 from .directory import line_address
 from .memory import DOUBLEWORD_BYTES
 
-# "An access of 1, 2 or 4 bytes" and how many doublewords such an access can touch.
-WIDTHS = (1, 2, 4)
-DOUBLEWORDS = 2
+# "An access of 1, 2 or 4 bytes", and C-15: "Add width 8. An access then touches up to three
+# doublewords".
+WIDTHS = (1, 2, 4, 8)
+DOUBLEWORDS = 3
 
-# "The board gives 32 answers: 0 to 15 serve the cycles of the lower doubleword in turn, 16
-# to 31 those of the upper." A fill under BS8# needs all sixteen of a group.
+# "0 to 15 serve the cycles of the lower doubleword in turn, 16 to 31 those of the upper"; C-15:
+# "48 answers in groups of 16", whatever the width. A fill under BS8# needs all sixteen of a group.
 GROUP = 16
 ANSWERS = GROUP * DOUBLEWORDS
 
@@ -19,7 +20,8 @@ ANSWERS = GROUP * DOUBLEWORDS
 KEN, BS8, BS16 = 1, 2, 4
 ANSWER_LIMIT = KEN + BS8 + BS16
 
-# "Each cycle leaves three 32-bit words in the log"; there is room for one cycle per answer.
+# "Each cycle leaves three 32-bit words in the log"; there is room for one cycle per answer. C-15:
+# "needs a log of 144 words".
 RECORD_WORDS = 3
 LOG_WORDS = RECORD_WORDS * ANSWERS
 
@@ -62,7 +64,8 @@ class Record(NamedTuple):
 
 
 def doublewords(address: int, width: int) -> list[Doubleword]:
-    """Rule: "touches one or two aligned doublewords, the lower one completed first (H)"."""
+    """Rule: "touches one or two aligned doublewords, the lower one completed first (H)"; C-15: "up
+    to three", ascending."""
     lane = address % DOUBLEWORD_BYTES
     wanted = ((1 << width) - 1) << lane
     count = -(-(lane + width) // DOUBLEWORD_BYTES)

@@ -18,17 +18,31 @@ HEADER = b"event\tanswer\tvalue\tcycles\n"
 INPUT_LIMIT = 65_536
 LINE_LIMIT = 80
 RAM_BYTES = 65_536
+NUMBER_DIGITS = 10
 NUMBER_LIMIT = 4_294_967_295
+VALUE_DIGITS = 20
+VALUE_LIMIT = 18_446_744_073_709_551_615
 
 MALFORMED = Result(11)
 TOO_LONG = Result(12)
 
 
-def number(field: bytes) -> int | None:
-    """Rule: "Other numbers: 1 to 10 decimal digits, up to 4,294,967,295"; None if malformed."""
-    if not re.fullmatch(rb"[0-9]{1,10}", field) or int(field) > NUMBER_LIMIT:
+def _decimal(field: bytes, digits: int, limit: int) -> int | None:
+    """1 to `digits` decimal digits, up to the limit; None if malformed."""
+    if not re.fullmatch(rb"[0-9]+", field) or len(field) > digits or int(field) > limit:
         return None
     return int(field)
+
+
+def number(field: bytes) -> int | None:
+    """Rule: "Other numbers: 1 to 10 decimal digits, up to 4,294,967,295"."""
+    return _decimal(field, NUMBER_DIGITS, NUMBER_LIMIT)
+
+
+def value(field: bytes) -> int | None:
+    """Rule (C-15): "W's value field takes any 64-bit number, 1 to 20 digits", whatever the width;
+    one too large for its width is 8's."""
+    return _decimal(field, VALUE_DIGITS, VALUE_LIMIT)
 
 
 def bit(field: bytes) -> bool | None:
@@ -46,7 +60,7 @@ def pairs(field: bytes) -> bytes | None:
 # "R address width PCD; W address width value; X address bytes ...; S address; F; C CD NW; Z"
 FORMS: dict[bytes, tuple[Callable[[bytes], Any], ...]] = {
     b"R": (number, number, bit),
-    b"W": (number, number, number),
+    b"W": (number, number, value),
     b"X": (number, pairs),
     b"S": (number,),
     b"F": (),
@@ -62,7 +76,7 @@ def scan(line: bytes) -> tuple[str, list[Any]] | None:
     if len(line) > LINE_LIMIT or form is None or len(fields) != len(form):
         return None
     values = [reader(field) for reader, field in zip(form, fields)]
-    if any(value is None for value in values):
+    if any(read is None for read in values):
         return None
     return letter.decode("ascii"), values
 

@@ -37,17 +37,18 @@ def argument_number(
     log: int,
     value: int | None = None,
 ) -> int:
-    """Numbers 4 to 7 of a read, 4 to 8 of a write, which brings a value."""
+    """Numbers 4 to 7 of a read, 4 to 8 of a write, which brings a value. C-15: "Numbers 4, 6, 7 and
+    8 read with these sizes, for all widths"."""
     if width not in WIDTHS:
-        return 4  # "Width not 1, 2, 4."
+        return 4  # "Width not 1, 2, 4", nor C-15's 8.
     if address + width > ram:
         return 5  # "Address + width beyond RAM"; the sum does not wrap.
     if len(answers) != ANSWERS or max(answers) > ANSWER_LIMIT:
-        return 6  # "Not 32 answers, or one above 7", the unused ones too.
+        return 6  # Not 48 answers (C-15), "or one above 7", the unused ones too.
     if log < LOG_WORDS:
-        return 7  # "Log below 96 words", also where no cycle will be made.
+        return 7  # A log below 144 words (C-15), also where no cycle will be made.
     if value is not None and value >= 256**width:
-        return 8  # "Value too large for its width."
+        return 8  # "Value too large for its width": with width 8 no 64-bit value is.
     return 0
 
 
