@@ -47,7 +47,7 @@ fn run_unit(script: &[u8], at: usize, begin: usize) -> usize
     let r = at_most(ram_field.value, 65536);
     let p = at_most(parity_field.value, 65536);
     let d = at_most(data_field.value, 65536);
-    let l = at_most(log_field.value, 160);
+    let l = at_most(log_field.value, 192);
     run_calls(
         script,
         begin,
@@ -60,10 +60,10 @@ fn run_unit(script: &[u8], at: usize, begin: usize) -> usize
 }
 
 // The contract gives only the length, as io's buffers do: proofs would write all words out.
-fn log_buffer() -> [u32; 160]
-    ensures { λ r. ⌜ 160 ≡ length r ⌝ }
+fn log_buffer() -> [u32; 192]
+    ensures { λ r. ⌜ 192 ≡ length r ⌝ }
 {
-    [0u32; 160]
+    [0u32; 192]
 }
 
 // A new unit has the directory of a reset and parity that agrees.
