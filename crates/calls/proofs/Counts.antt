@@ -69,10 +69,10 @@ module _ {S : Type 0} (one : S → Doubleword → Done) (most : (s : S) (w : Dou
   each-most (suc g) xs a (suc n) place s =
       let k = min (suc n) (4 - a % 4) in
       let w : Doubleword = record { line = a / 16 * 16; wanted = run (byteOf a) k; place = place; answers = take groupSize xs } in
-      let ws = doublewordsOf g (drop 16 xs) (a + k) (suc n - k) (place + k) in
-      let h : length (one s w .records) ≤ length (take 16 xs) = most s w in
-      let t : length (take 16 xs) ≡ min 16 (length xs) = length-take 16 xs in
-      let r : length (all (rest s w) ws) ≤ groupSize * g = each-most g (drop 16 xs) (a + k) (suc n - k) (place + k) (rest s w) in
+      let ws = doublewordsOf g (drop groupSize xs) (a + k) (suc n - k) (place + k) in
+      let h : length (one s w .records) ≤ length (take groupSize xs) = most s w in
+      let t : length (take groupSize xs) ≡ min groupSize (length xs) = length-take groupSize xs in
+      let r : length (all (rest s w) ws) ≤ groupSize * g = each-most g (drop groupSize xs) (a + k) (suc n - k) (place + k) (rest s w) in
       rw (parted s w ws, length-append (one s w .records) (all (rest s w) ws)) (omega arith)
 
 pub reads-most : (pcd : Bool) (g : ℕ) (xs : List ℕ) (a n place : ℕ) (u : UnderWay) → length (readEach pcd u (doublewordsOf g xs a n place) .records) ≤ groupSize * g

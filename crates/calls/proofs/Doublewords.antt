@@ -24,7 +24,7 @@ pub record Proper (size : ℕ) (w : Doubleword) : Type 0 where
   pub aligned : w .line % 16 ≡ 0
   pub within : OneDoubleword (w .wanted)
   pub inside : w .line + 16 ≤ size
-  pub enough : 16 ≤ length (w .answers)
+  pub enough : groupSize ≤ length (w .answers)
 
 abbrev pub EachProper : ℕ → List Doubleword → Type 0
 EachProper size [] = Unit {0}
