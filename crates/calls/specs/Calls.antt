@@ -15,8 +15,8 @@ use Rattle.views.specs.View.{viewNumberIn, viewIn}
 use Rattle.diagnostics.specs.Diagnostics.{testWriteCall, testReadLine}
 
 -- "the calls' arguments except directory, RAM, parity and data array": "The log, the board's answers and an external write's bytes are each call's own and may be anything."
--- Numbers are ℕ, so that the claim covers lists that no caller can make too; the contracts tie steps with 32-bit arguments and
--- 8-bit bytes to the code. Document 02, C-12: "Let a read carry up to four external writes"; the call `read` carries none.
+-- Numbers are ℕ, so that the claim covers lists that no caller can make too; the contracts tie steps with 32-bit arguments, 64-bit
+-- values and 8-bit bytes to the code. Document 02, C-12: "Let a read carry up to four external writes"; the call `read` carries none.
 pub data Call : Type 0 where
   read : (address width : ℕ) → (pcd : Bool) → (answers log : List ℕ) → (writes : List Carried) → Call
   write : (address width value : ℕ) → (answers log : List ℕ) → Call
