@@ -34,10 +34,6 @@ stored-none first k answer l h =
     let e : groupSize - k ≡ 0 = omega arith in
     rw e
 
--- the groups from one on stored
-unfoldable pub filledFrom : ℕ → ℕ → ℕ → List ℕ → List ℕ
-filledFrom address width group l = sets l (groupSize * group) (groupsFrom address width group (groupCount - group))
-
 -- the lowest doubleword is always there
 either : (b : Bool) (x y z : ℕ) → x ≡ z → y ≡ z → cond b x y ≡ z
 either true x y z e f = e
@@ -47,20 +43,25 @@ lowest : (address width : ℕ) → groupAddress address width 0 ≡ address
 unfolding groupAddress
 lowest address width = either (badWidth width) _ _ address refl (either (ltb 0 (address % 4 + width)) _ _ address (add-zero address) refl)
 
-pub filled-lowest : (address width answer : ℕ) → answer ≡ answerAt address → filledFrom address width 1 (replicate (groupSize * groupCount) answer) ≡ boardAnswers address width
-unfolding filledFrom boardAnswers groupsFrom
-filled-lowest address width answer e = rw (lowest address width, e)
+module _ (table : List ℕ) (address width : ℕ) where
+  -- the groups from one on stored
+  unfoldable pub filledFrom : ℕ → List ℕ → List ℕ
+  filledFrom group l = sets l (groupSize * group) (groupsFrom table address width group (groupCount - group))
 
-pub filled-one : (address width group answer : ℕ) (l : List ℕ) → group < groupCount → answer ≡ answerAt (groupAddress address width group) → filledFrom address width (group + 1) (sets l (groupSize * group) (replicate groupSize answer)) ≡ filledFrom address width group l
-unfolding filledFrom groupsFrom
-filled-one address width group answer l h e =
-    let n : groupCount - group ≡ suc (groupCount - (group + 1)) = omega arith in
-    let f : groupSize * (group + 1) ≡ groupSize * group + groupSize = omega arith in
-    let rest = groupsFrom address width (group + 1) (groupCount - (group + 1)) in
-    rw (n, f, ← add-one group, ← e) (sym (sets-append l (groupSize * group) (replicate groupSize answer) rest))
+  pub filled-lowest : (answer : ℕ) → answer ≡ answerAt table address → filledFrom 1 (replicate (groupSize * groupCount) answer) ≡ boardAnswers table address width
+  unfolding filledFrom boardAnswers groupsFrom
+  filled-lowest answer e = rw (lowest address width, e)
 
-pub filled-none : (address width group : ℕ) (l : List ℕ) → groupCount ≤ group → filledFrom address width group l ≡ l
-unfolding filledFrom groupsFrom
-filled-none address width group l h =
-    let e : groupCount - group ≡ 0 = omega arith in
-    rw e
+  pub filled-one : (group answer : ℕ) (l : List ℕ) → group < groupCount → answer ≡ answerAt table (groupAddress address width group) → filledFrom (group + 1) (sets l (groupSize * group) (replicate groupSize answer)) ≡ filledFrom group l
+  unfolding filledFrom groupsFrom
+  filled-one group answer l h e =
+      let n : groupCount - group ≡ suc (groupCount - (group + 1)) = omega arith in
+      let f : groupSize * (group + 1) ≡ groupSize * group + groupSize = omega arith in
+      let rest = groupsFrom table address width (group + 1) (groupCount - (group + 1)) in
+      rw (n, f, ← add-one group, ← e) (sym (sets-append l (groupSize * group) (replicate groupSize answer) rest))
+
+  pub filled-none : (group : ℕ) (l : List ℕ) → groupCount ≤ group → filledFrom group l ≡ l
+  unfolding filledFrom groupsFrom
+  filled-none group l h =
+      let e : groupCount - group ≡ 0 = omega arith in
+      rw e

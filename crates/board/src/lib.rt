@@ -4,19 +4,26 @@ ghost use Prim.Native.Nat.{_*_, _<_};
 ghost use lib.ListN.{replicate};
 ghost use lib.Seq.{sets};
 ghost use Rattle.bus.specs.Groups.{groupCount, groupSize};
-ghost use Rattle.board.specs.Board.{answerAt, boardAnswers, groupAddress};
+ghost use Rattle.board.specs.Board.{answerAt, blockAnswers, boardAnswers, groupAddress};
 pub use bus::ANSWERS;
 use bus::GROUP_SIZE;
 use bus::GROUPS;
 use bus::bad_width;
 
-// The answer of each 1 MiB block.
-const BLOCK_ANSWERS: [u8; 16] = [1, 1, 1, 1, 1, 1, 1, 1, 5, 5, 5, 5, 4, 4, 2, 3];
+// The blocks of 1 MiB that a table has an answer for.
+pub const BLOCKS: usize = 16;
 
-fn answer_at(address: usize) -> u8
-    ensures { λ r. ⌜ r ≡ answerAt address ⌝ }
+// Our table, which the program uses.
+pub fn block_answers() -> [u8; BLOCKS]
+    ensures { λ r. ⌜ r ≡ blockAnswers ⌝ }
 {
-    BLOCK_ANSWERS[address / 1048576 % 16]
+    [1, 1, 1, 1, 1, 1, 1, 1, 5, 5, 5, 5, 4, 4, 2, 3]
+}
+
+fn answer_at(table: &[u8; BLOCKS], address: usize) -> u8
+    ensures { λ r. ⌜ r ≡ answerAt (now (table .entry)) address ⌝ }
+{
+    table[address / 1048576 % BLOCKS]
 }
 
 // The address of a group's doubleword, or of the access itself where there is none: an access of a refused width has only the lowest.
@@ -48,14 +55,14 @@ fn fill_group(answers: &mut [u8; ANSWERS], group: usize, answer: u8)
 }
 
 // The answers for an access, a group for each doubleword that one can touch.
-pub fn board_answers(address: u32, width: u32) -> [u8; ANSWERS]
-    ensures { λ r. ⌜ r ≡ boardAnswers address width ⌝ }
+pub fn board_answers(table: &[u8; BLOCKS], address: u32, width: u32) -> [u8; ANSWERS]
+    ensures { λ r. ⌜ r ≡ boardAnswers (now (table .entry)) address width ⌝ }
 {
-    let lowest = answer_at(address as usize);
+    let lowest = answer_at(table, address as usize);
     let mut answers = [lowest; ANSWERS];
     let mut group: usize = 1;
     while group < GROUPS {
-        let answer = answer_at(group_address(address, width, group));
+        let answer = answer_at(table, group_address(address, width, group));
         fill_group(&mut answers, group, answer);
         group += 1;
     }

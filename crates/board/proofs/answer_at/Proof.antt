@@ -4,12 +4,12 @@ use borrow.Author.Needs.{needs}
 use Rattle.board.proofs.answer_at.Statement.{statement}
 use Rattle.board.proofs.answer_at.Tie as tie
 
-array-read-result : tie.Need-array-read-result
-array-read-result c = search needs
+element-copy-out-result : tie.Need-element-copy-out-result
+element-copy-out-result c = search needs
 
 returns : tie.Need-returns
 unfolding answerAt
 returns c = refl
 
 pub answer-at-spec : {M : Type 1} → statement M
-answer-at-spec = tie.close (tie.spec array-read-result returns)
+answer-at-spec = tie.close (tie.spec element-copy-out-result returns)

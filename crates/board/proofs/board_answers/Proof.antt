@@ -8,16 +8,16 @@ use Rattle.board.proofs.board_answers.Statement.{statement}
 use Rattle.board.proofs.board_answers.Tie as tie
 
 abbrev Inv-loop : tie.InvT-loop
-Inv-loop address width lowest answers₀ group₀ answers group = (group ≤ groupCount) × (filledFrom address width group answers ≡ boardAnswers address width)
+Inv-loop table address width lowest answers₀ group₀ answers group = (group ≤ groupCount) × (filledFrom table address width group answers ≡ boardAnswers table address width)
 
 abbrev μ-loop : tie.MeasureT-loop
-μ-loop address width lowest answers₀ group₀ answers group = groupCount - group
+μ-loop table address width lowest answers₀ group₀ answers group = groupCount - group
 
 answer-at-requires : tie.Need-answer-at-requires Inv-loop μ-loop
 answer-at-requires c κs = tt
 
 loop-holds : tie.Need-loop-holds Inv-loop μ-loop
-loop-holds c = (omega arith, filled-lowest _ _ _ (c .answer-at .ensures))
+loop-holds c = (omega arith, filled-lowest _ _ _ _ (c .answer-at .ensures))
 
 group-address-requires : tie.Need-group-address-requires Inv-loop μ-loop
 group-address-requires c κs = omega arith
@@ -38,11 +38,11 @@ loop-again : tie.Need-loop-again Inv-loop μ-loop
 loop-again c =
     let at-group-address = c .before .before .before in
     let l = at-group-address .before .before .loop in
-    let answer = c .before .before .answer-at2 .ensures ∙ ap answerAt (at-group-address .group-address .ensures) in
-    (omega arith, rw (c .fill-group .ensures) (filled-one _ _ (l .group) _ (l .answers) (omega arith) answer) ∙ l .inv .1)
+    let answer = c .before .before .answer-at2 .ensures ∙ ap (answerAt _) (at-group-address .group-address .ensures) in
+    (omega arith, rw (c .fill-group .ensures) (filled-one _ _ _ (l .group) _ (l .answers) (omega arith) answer) ∙ l .inv .1)
 
 returns : tie.Need-returns Inv-loop μ-loop
-returns c = let l = c .before .loop in sym (filled-none _ _ (l .group) (l .answers) (omega arith)) ∙ l .inv .1
+returns c = let l = c .before .loop in sym (filled-none _ _ _ (l .group) (l .answers) (omega arith)) ∙ l .inv .1
 
 pub board-answers-spec : {M : Type 1} → statement M
 board-answers-spec =
