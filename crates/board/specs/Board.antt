@@ -1,11 +1,11 @@
 -- Document 01, 'Board table and program', with document 02, C-15 and C-16: the board's answers for an access. "Our sixteen constant answers suit one board":
 -- a table has the answer of each block.
-use Prim.Native.Nat.{ℕ, zero, suc, _+_, _*_, _/_, _%_}
+use Prim.Native.Nat.{ℕ, zero, suc, _+_, _*_, _/_, _%_, _≤_}
 use mathlib.Core.Bool.{cond}
 use mathlib.Core.List.{List, [], _∷_, _++_}
 use lib.Dec.{ltb}
 use lib.ListN.{getD, replicate}
-use Rattle.bus.specs.Groups.{badWidth, groupCount, groupSize}
+use Rattle.bus.specs.Groups.{badWidth, groupCount, groupSize, highestAnswer}
 
 -- "1 MiB block 0 to 15"
 abbrev pub blockCount : ℕ
@@ -14,6 +14,10 @@ blockCount = 16
 -- Our table: "The answer by 1 MiB block 0 to 15 is 1 1 1 1 1 1 1 1 5 5 5 5 4 4 2 3"
 abbrev pub blockAnswers : List ℕ
 blockAnswers = 1 ∷ 1 ∷ 1 ∷ 1 ∷ 1 ∷ 1 ∷ 1 ∷ 1 ∷ 5 ∷ 5 ∷ 5 ∷ 5 ∷ 4 ∷ 4 ∷ 2 ∷ 3 ∷ []
+
+-- A table whose answers are those that an access takes: C-16 loads no other, "36 for an answer above 7".
+abbrev pub GoodTable : List ℕ → Type 0
+GoodTable table = (block : ℕ) → getD table block 0 ≤ highestAnswer
 
 -- "The block is (address / 1,048,576) mod 16."
 unfoldable pub answerAt : List ℕ → ℕ → ℕ

@@ -8,7 +8,10 @@ mod thin;
 mod version;
 mod view;
 
+pub use answers::unit486_block_answers;
 pub use answers::unit486_board_answers;
+pub use answers::unit486_load_table;
+pub use answers::unit486_load_table_by_value;
 pub use by_value::unit486_control_by_value;
 pub use by_value::unit486_reset_by_value;
 pub use in_place::unit486_control_in_place;

@@ -74,6 +74,10 @@ digits-all (suc most) n =
     (λ _. all-snoc isDigit [] (48 + n % 10) refl (a-digit (48 + n % 10) (omega arith) (omega arith)))
     (λ _. all-snoc isDigit (digitsOf most (n / 10)) (48 + n % 10) (digits-all most (n / 10)) (a-digit (48 + n % 10) (omega arith) (omega arith)))
 
+pub decimal-digits : (n : ℕ) → allAre isDigit (decimal n) ≡ true
+unfolding decimal
+decimal-digits n = digits-all (suc n) n
+
 digits-most : (most k n : ℕ) → n < 10 ^ suc k → length (digitsOf most n) ≤ suc k
 unfolding digitsOf
 digits-most zero k n h = omega arith

@@ -1,3 +1,3 @@
 -- Laws that the proofs of several functions cite, and `printed-scanned` in `Decimal`.
-mod Decimal
+pub mod Decimal
 pub mod Printing
