@@ -100,14 +100,15 @@ module _ (text : List ℕ) where
 
   module _ (table : List ℕ) (number at block : ℕ) (inv : LoadInvariant table number at block) where
     -- the next line is scanned
-    pub load-next : (rest : List ℕ) (end next : ℕ) (entry : Entry)
+    pub load-next : (rest : List ℕ) (end next number′ : ℕ) (entry : Entry)
         → block < blockCount
         → rest ≡ take (length text - at) (drop at text)
         → end ≡ indexOf newline rest
         → entry ≡ entryOn block (take end rest)
+        → number′ ≡ orElse number (entry .number)
         → (next ≤ length text) × (drop next text ≡ drop (at + end + 1) text)
-        → LoadInvariant (set table block (entry .answer)) (orElse number (entry .number)) next (block + 1)
-    load-next rest end next entry h r i d (within, place) =
+        → LoadInvariant (set table block (entry .answer)) number′ next (block + 1)
+    load-next rest end next number′ entry h r i d n (within, place) =
         let l = drop at text in
         let whole : rest ≡ l = r ∙ drop-part at text in
         let line : entry ≡ entryOn block (firstLine l) = d ∙ rw (i, whole) in
@@ -117,9 +118,9 @@ module _ (text : List ℕ) where
         record {
           within = within;
           blocks = omega arith;
-          numbers = rw (left, line, add-one block) (or-grouped number _ _ ∙ ap (orElse number) (sym (number-next block (blockCount - suc block) l)) ∙ rw more at (inv .numbers));
+          numbers = rw (left, n, line, add-one block) (or-grouped number _ _ ∙ ap (orElse number) (sym (number-next block (blockCount - suc block) l)) ∙ rw more at (inv .numbers));
           answers = λ z.
-              let (zn, ze) = or-zero number (entry .number) z in
+              let (zn, ze) = or-zero number (entry .number) (sym n ∙ z) in
               rw (left, line, add-one block) (ap (sets table block) (sym (answer-next block l (rw line at ze))) ∙ inv .answers zn);
         }
 

@@ -89,8 +89,9 @@ pub fn load(given: &[u8; BLOCKS], text: &[u8]) -> LoadedTable
     }
     let whole = or_else(number, seventeenth(text, at));
     if whole != 0 {
+        let old = *given;
         return LoadedTable {
-            table: *given,
+            table: old,
             number: whole,
         };
     }

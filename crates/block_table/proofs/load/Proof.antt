@@ -61,8 +61,8 @@ loop-again c =
     let at-entry-on = c .before .before in
     let at-end-of = at-entry-on .before .before in
     let l = at-end-of .before .before .before .loop in
-    rw (c .before .or-else .ensures)
-    (load-next _ (l .table) (l .number) (l .at) (l .block) (l .inv) _ (at-end-of .end-of .result) _ _ (omega arith) refl (at-end-of .end-of .ensures .0) (at-entry-on .entry-on .ensures) (c .after-line .ensures))
+    load-next _ (l .table) (l .number) (l .at) (l .block) (l .inv) _ (at-end-of .end-of .result) _ _ _ (omega arith) refl (at-end-of .end-of .ensures .0) (at-entry-on .entry-on .ensures)
+    (c .before .or-else .ensures) (c .after-line .ensures)
 
 seventeenth-requires : tie.Need-seventeenth-requires Inv-loop μ-loop
 seventeenth-requires c κs = search needs
