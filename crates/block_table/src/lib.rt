@@ -48,10 +48,8 @@ fn entry_on(line: &[u8], block: usize) -> Entry
     if (HIGHEST_ANSWER as u64) < answer {
         return refused(36);
     }
-    Entry {
-        number: 0,
-        answer: answer as u8,
-    }
+    let answer = answer as u8;
+    Entry { number: 0, answer }
 }
 
 // The place after a line that ends at a place: after its newline, where it has one.

@@ -83,8 +83,8 @@ returns-4 : tie.Need-returns-4
 unfolding entryWith
 returns-4 c = c .refused4 .ensures ∙ sym (said (c .before .before .before) ∙ rw (eq-eqb _ _ (c .before .before .if1 .left), lt-ltb _ _ (c .before .if2 .taken)))
 
-cast-t14 : tie.Need-cast-t14
-cast-t14 c = search needs
+cast-answer : tie.Need-cast-answer
+cast-answer c = search needs
 
 returns-5 : tie.Need-returns-5
 unfolding entryWith
@@ -113,5 +113,5 @@ entry-on-spec =
     cast-if2
     refused-requires-4
     returns-4
-    cast-t14
+    cast-answer
     returns-5)
