@@ -1,2 +1,2 @@
--- The theorem is `columns`.
+-- The theorem is `every-table`; for the program, `columns`.
 pub mod Columns
