@@ -1,32 +1,27 @@
 -- Demand 3 carried to the program: the answer and value columns are the plain memory's, with every table of answers up to 7.
-use Prim.Native.Nat.{ℕ, zero, suc, _/_, _%_, _<_, _≤_}
-use mathlib.Core.Path.{_≡_, refl, sym, _∙_}
+use Prim.Native.Nat.{ℕ, suc, _/_, _%_, _<_, _≤_}
+use mathlib.Core.Path.{_≡_, refl, _∙_}
 use mathlib.Core.Bool.{Bool, true, false, true≢false}
 use mathlib.Core.List.{List, [], _∷_}
 use mathlib.Core.Option.{Option, none, some}
 use native.Mathlib.Omega.{arith}
-use lib.Dec.{ltb}
-use lib.ListN.{length, getD, replicate, length-replicate}
-use borrow.Author.Tests.{ltb-false, le-ltb}
+use lib.ListN.{replicate, length-replicate}
 use Rattle.laws.proofs.Below.{four}
-use Rattle.laws.proofs.Tests.{neither}
 use Rattle.words.proofs.Places.{zeros-at}
 use Rattle.memory.specs.Parity.{memory, Agrees, dpAt, laneBit, dpOf, onesOf}
-use Rattle.bus.specs.Groups.{highestAnswer}
 use Rattle.refusal.specs.Call.{State, nextState}
-use Rattle.calls.specs.Calls.{Call, read, write, step, recordsLeft}
-use Rattle.calls.specs.Plain.{someAbove, plainNumber, plainDone, plain}
+use Rattle.calls.specs.Calls.{Call, step, recordsLeft}
 use Rattle.calls.specs.Matches.{Kind, testWriting, testReading, emptying, reading, other, kindOf, testing, plants, SameResults}
-use Rattle.board.specs.Board.{blockAnswers, boardAnswers}
-use Rattle.board.proofs.Within.{board-length, board-within}
+use Rattle.board.specs.Board.{blockAnswers}
 use Rattle.fields.specs.Fields.{linesOf}
 use Rattle.lines.specs.declared.Event.{Event}
 use Rattle.lines.specs.declared.Event.the-variants.{Malformed, Read, Write, External, Snoop, Flush, Control, Reset}
 use Rattle.lines.specs.Scan.{scanned}
-use Rattle.performing.specs.Perform.{zeroLog, callOf, lineCall, callDone, lineDone}
+use Rattle.performing.specs.Perform.{callOf, lineCall, callDone, lineDone}
 use Rattle.events.specs.Output.{rowsOf, start, outputOf}
 use Rattle.agreement.specs.Agreement.{Legal}
 use Rattle.columns.specs.Program.{plainCall, plainLine, plainRows, countsOf, plainOutput, lineSetsNw, NoLineSetsNw, GoodTable, EveryTable, Columns}
+use Rattle.columns.proofs.Tables.{sets-same, plain-same, ours-good}
 use Rattle.calls.proofs.Kept.{call-kept}
 use Rattle.calls.proofs.Coherence.{Coherent}
 use Rattle.calls.proofs.Steps.{refused-matches, call-matches}
@@ -73,65 +68,6 @@ all-alone table line Flush = refl
 all-alone table line (Control cd nw) = refl
 all-alone table line Reset = refl
 
--- no table changes whether a line sets NW
-sets-same : (table line : List ℕ) (e : Event) → lineSetsNw (callOf table line e) ≡ lineSetsNw (callOf blockAnswers line e)
-unfolding callOf
-sets-same table line Malformed = refl
-sets-same table line (Read address width pcd) = refl
-sets-same table line (Write address width value) = refl
-sets-same table line (External address from) = refl
-sets-same table line (Snoop address) = refl
-sets-same table line Flush = refl
-sets-same table line (Control cd nw) = refl
-sets-same table line Reset = refl
-
--- THE PLAIN MEMORY WITH ANY TABLE
-
-none-above : (limit : ℕ) (xs : List ℕ) → ((i : ℕ) → getD xs i 0 ≤ limit) → someAbove limit xs ≡ false
-unfolding someAbove
-none-above limit [] h = refl
-none-above limit (x ∷ xs) h = rw (le-ltb limit x (h 0)) (none-above limit xs (λ i. h (suc i)))
-
-each-within : (limit : ℕ) (xs : List ℕ) → someAbove limit xs ≡ false → (i : ℕ) → getD xs i 0 ≤ limit
-unfolding someAbove
-each-within limit [] e i = omega arith
-each-within limit (x ∷ xs) e zero = ltb-false limit x (neither (ltb limit x) (someAbove limit xs) e .0)
-each-within limit (x ∷ xs) e (suc i) = each-within limit xs (neither (ltb limit x) (someAbove limit xs) e .1) i
-
-ours-good : GoodTable blockAnswers
-unfolding someAbove
-ours-good = each-within highestAnswer blockAnswers refl
-
--- answers that are as many, and none above 7, give the same
-module _ (m : List ℕ) (xs ys : List ℕ) (l : length xs ≡ length ys) (b : someAbove highestAnswer xs ≡ someAbove highestAnswer ys) where
-  read-same : (address width : ℕ) (pcd : Bool) → plain m (read address width pcd xs zeroLog []) [] ≡ plain m (read address width pcd ys zeroLog []) []
-  unfolding plain plainNumber plainDone
-  read-same address width pcd = rw (l, b)
-
-  write-same : (address width value : ℕ) → plain m (write address width value xs zeroLog) [] ≡ plain m (write address width value ys zeroLog) []
-  unfolding plain plainNumber plainDone
-  write-same address width value = rw (l, b)
-
-module _ (table : List ℕ) (good : GoodTable table) where
-  as-many : (address width : ℕ) → length (boardAnswers table address width) ≡ length (boardAnswers blockAnswers address width)
-  as-many address width = board-length table address width ∙ sym (board-length blockAnswers address width)
-
-  as-low : (address width : ℕ) → someAbove highestAnswer (boardAnswers table address width) ≡ someAbove highestAnswer (boardAnswers blockAnswers address width)
-  as-low address width =
-      none-above highestAnswer _ (board-within table address width highestAnswer good)
-      ∙ sym (none-above highestAnswer _ (board-within blockAnswers address width highestAnswer ours-good))
-
-  pub plain-same : (m line : List ℕ) (e : Event) → plainCall m (callOf table line e) ≡ plainCall m (callOf blockAnswers line e)
-  unfolding callOf plainCall
-  plain-same m line Malformed = refl
-  plain-same m line (Read address width pcd) = read-same m _ _ (as-many address width) (as-low address width) address width pcd
-  plain-same m line (Write address width value) = write-same m _ _ (as-many address width) (as-low address width) address width value
-  plain-same m line (External address from) = refl
-  plain-same m line (Snoop address) = refl
-  plain-same m line Flush = refl
-  plain-same m line (Control cd nw) = refl
-  plain-same m line Reset = refl
-
 -- a malformed line, and one that makes a call
 module _ (s : State) (m : List ℕ) (c : Coherent s m) where
   line-matches : (x : Option Call) → lineAlone x ≡ true → lineTests x ≡ false → lineSetsNw x ≡ false → SameResults (callDone s x) (plainCall m x)
@@ -156,8 +92,8 @@ module _ (table : List ℕ) (good : GoodTable table) where
       let x = lineCall table line in
       let t = no-test table line (scanned line) in
       let a = all-alone table line (scanned line) in
-      let q = sets-same table line (scanned line) ∙ n .0 in
-      let p : plainCall m x ≡ plainLine m line = plain-same table good m line (scanned line) in
+      let q = sets-same table line ∙ n .0 in
+      let p = plain-same table good m line in
       let g : SameResults (callDone s x) (plainLine m line) = rw p at (line-matches s m c x a t q) in
       let k : Coherent (nextState (callDone s x)) (plainLine m line .memory) = rw p at (line-coherent s m c x a t q) in
       rw (g .numbers, g .values, rows-agree lines (nextState (lineDone table s line)) (plainLine m line .memory) (suc event) k (n .1))

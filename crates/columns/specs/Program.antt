@@ -23,8 +23,8 @@ unfoldable pub plainCall : List ℕ → Option Call → Plain
 plainCall m none = plainRefused 11 m
 plainCall m (some c) = plain m c []
 
--- The plain memory has no table of answers, and looks at a call's answers for number 6 alone: any table of answers up to 7 gives the same (`plain-same`). Ours
--- is taken.
+-- The plain memory has no table, and looks at a call's answers for number 6 alone: every table of answers up to 7 gives the same (`plain-same`). Ours is
+-- taken.
 abbrev pub plainLine : List ℕ → List ℕ → Plain
 plainLine m line = plainCall m (lineCall blockAnswers line)
 
@@ -52,18 +52,18 @@ abbrev pub lineSetsNw : Option Call → Bool
 lineSetsNw none = false
 lineSetsNw (some c) = setsNw c
 
--- No line of an input is such a one. No control call asks for answers, so that it is the same with every table.
+-- No line of an input is such a one. A control line asks for no answers, so that every table gives the same (`sets-same`).
 abbrev pub NoLineSetsNw : List (List ℕ) → Type 0
 NoLineSetsNw [] = Unit {0}
 NoLineSetsNw (line ∷ lines) = (lineSetsNw (lineCall blockAnswers line) ≡ false) × NoLineSetsNw lines
 
--- With a table, for every input without such a line, the answer and value columns are those of the plain memory.
+-- For every input without such a line, the answer and value columns of the run with a table are those of the plain memory.
 abbrev pub ColumnsWith : List ℕ → Type 0
 ColumnsWith table =
     (input : List ℕ) → NoLineSetsNw (linesOf input) →
     outputOf table input ≡ plainOutput input (countsOf table start (linesOf input))
 
--- Document 02, C-16: "36 for an answer above 7". A table that no such answer is in.
+-- Document 02, C-16: "36 for an answer above 7": a table without such an answer.
 abbrev pub GoodTable : List ℕ → Type 0
 GoodTable table = (block : ℕ) → getD table block 0 ≤ highestAnswer
 
@@ -71,6 +71,6 @@ GoodTable table = (block : ℕ) → getD table block 0 ≤ highestAnswer
 abbrev pub EveryTable : Type 0
 EveryTable = (table : List ℕ) → GoodTable table → ColumnsWith table
 
--- The claim for the program: it "itself uses ours".
+-- The claim for the program, which "itself uses ours".
 abbrev pub Columns : Type 0
 Columns = ColumnsWith blockAnswers
