@@ -1,6 +1,6 @@
--- Demand 3 carried to the program: the answer and value columns are the plain memory's.
+-- Demand 3 carried to the program: the answer and value columns are the plain memory's, with every table of answers up to 7.
 use Prim.Native.Nat.{ℕ, suc, _/_, _%_, _<_, _≤_}
-use mathlib.Core.Path.{_≡_, refl}
+use mathlib.Core.Path.{_≡_, refl, _∙_}
 use mathlib.Core.Bool.{Bool, true, false, true≢false}
 use mathlib.Core.List.{List, [], _∷_}
 use mathlib.Core.Option.{Option, none, some}
@@ -12,6 +12,7 @@ use Rattle.memory.specs.Parity.{memory, Agrees, dpAt, laneBit, dpOf, onesOf}
 use Rattle.refusal.specs.Call.{State, nextState}
 use Rattle.calls.specs.Calls.{Call, step, recordsLeft}
 use Rattle.calls.specs.Matches.{Kind, testWriting, testReading, emptying, reading, other, kindOf, testing, plants, SameResults}
+use Rattle.board.specs.Board.{blockAnswers, GoodTable}
 use Rattle.fields.specs.Fields.{linesOf}
 use Rattle.lines.specs.declared.Event.{Event}
 use Rattle.lines.specs.declared.Event.the-variants.{Malformed, Read, Write, External, Snoop, Flush, Control, Reset}
@@ -19,7 +20,9 @@ use Rattle.lines.specs.Scan.{scanned}
 use Rattle.performing.specs.Perform.{callOf, lineCall, callDone, lineDone}
 use Rattle.events.specs.Output.{rowsOf, start, outputOf}
 use Rattle.agreement.specs.Agreement.{Legal}
-use Rattle.columns.specs.Program.{plainCall, plainLine, plainRows, countsOf, plainOutput, lineSetsNw, NoLineSetsNw, Columns}
+use Rattle.columns.specs.Program.{plainCall, plainLine, plainRows, countsOf, plainOutput, lineSetsNw, NoLineSetsNw, EveryTable, EveryLoaded, Columns}
+use Rattle.columns.proofs.Tables.{sets-same, plain-same, ours-good}
+use Rattle.block_table.proofs.Given.{loaded-gives}
 use Rattle.calls.proofs.Kept.{call-kept}
 use Rattle.calls.proofs.Coherence.{Coherent}
 use Rattle.calls.proofs.Steps.{refused-matches, call-matches}
@@ -31,16 +34,16 @@ abbrev lineTests : Option Call → Bool
 lineTests none = false
 lineTests (some c) = testing (kindOf c)
 
-no-test : (line : List ℕ) (e : Event) → lineTests (callOf line e) ≡ false
+no-test : (table line : List ℕ) (e : Event) → lineTests (callOf table line e) ≡ false
 unfolding callOf
-no-test line Malformed = refl
-no-test line (Read address width pcd) = refl
-no-test line (Write address width value) = refl
-no-test line (External address from) = refl
-no-test line (Snoop address) = refl
-no-test line Flush = refl
-no-test line (Control cd nw) = refl
-no-test line Reset = refl
+no-test table line Malformed = refl
+no-test table line (Read address width pcd) = refl
+no-test table line (Write address width value) = refl
+no-test table line (External address from) = refl
+no-test table line (Snoop address) = refl
+no-test table line Flush = refl
+no-test table line (Control cd nw) = refl
+no-test table line Reset = refl
 
 -- so none plants a line
 no-plant : (k : Kind) (number : ℕ) → testing k ≡ false → plants k number ≡ false
@@ -55,16 +58,16 @@ abbrev lineAlone : Option Call → Bool
 lineAlone none = true
 lineAlone (some c) = carriesNone c
 
-all-alone : (line : List ℕ) (e : Event) → lineAlone (callOf line e) ≡ true
+all-alone : (table line : List ℕ) (e : Event) → lineAlone (callOf table line e) ≡ true
 unfolding callOf
-all-alone line Malformed = refl
-all-alone line (Read address width pcd) = refl
-all-alone line (Write address width value) = refl
-all-alone line (External address from) = refl
-all-alone line (Snoop address) = refl
-all-alone line Flush = refl
-all-alone line (Control cd nw) = refl
-all-alone line Reset = refl
+all-alone table line Malformed = refl
+all-alone table line (Read address width pcd) = refl
+all-alone table line (Write address width value) = refl
+all-alone table line (External address from) = refl
+all-alone table line (Snoop address) = refl
+all-alone table line Flush = refl
+all-alone table line (Control cd nw) = refl
+all-alone table line Reset = refl
 
 -- a malformed line, and one that makes a call
 module _ (s : State) (m : List ℕ) (c : Coherent s m) where
@@ -82,14 +85,19 @@ module _ (s : State) (m : List ℕ) (c : Coherent s m) where
         beside = rw (told-alone m x a (recordsLeft (step s x))) at (call-matches s m c x q .beside (no-plant (kindOf x) _ t));
       }
 
-rows-agree : (lines : List (List ℕ)) (s : State) (m : List ℕ) (event : ℕ) → Coherent s m → NoLineSetsNw lines → rowsOf s event lines ≡ plainRows m event lines (countsOf s lines)
-unfolding rowsOf plainRows countsOf
-rows-agree [] s m event c n = refl
-rows-agree (line ∷ lines) s m event c n =
-    let t = no-test line (scanned line) in
-    let a = all-alone line (scanned line) in
-    let g = line-matches s m c (lineCall line) a t (n .0) in
-    rw (g .numbers, g .values, rows-agree lines (nextState (lineDone s line)) (plainLine m line .memory) (suc event) (line-coherent s m c (lineCall line) a t (n .0)) (n .1))
+module _ (table : List ℕ) (good : GoodTable table) where
+  rows-agree : (lines : List (List ℕ)) (s : State) (m : List ℕ) (event : ℕ) → Coherent s m → NoLineSetsNw lines → rowsOf table s event lines ≡ plainRows m event lines (countsOf table s lines)
+  unfolding rowsOf plainRows countsOf
+  rows-agree [] s m event c n = refl
+  rows-agree (line ∷ lines) s m event c n =
+      let x = lineCall table line in
+      let t = no-test table line (scanned line) in
+      let a = all-alone table line (scanned line) in
+      let q = sets-same table line ∙ n .0 in
+      let p = plain-same table good m line in
+      let g : SameResults (callDone s x) (plainLine m line) = rw p at (line-matches s m c x a t q) in
+      let k : Coherent (nextState (callDone s x)) (plainLine m line .memory) = rw p at (line-coherent s m c x a t q) in
+      rw (g .numbers, g .values, rows-agree lines (nextState (lineDone table s line)) (plainLine m line .memory) (suc event) k (n .1))
 
 -- zeros have parity that agrees
 no-bit : (lane : ℕ) → lane < 4 → laneBit 0 lane ≡ dpOf 0
@@ -115,8 +123,14 @@ zeros-legal ram parity array least most whole bits e =
       agrees = zeros-agree ram parity;
     }
 
-pub columns : Columns
+pub every-table : EveryTable
 unfolding outputOf plainOutput start
-columns input n =
+every-table table good input n =
     let c = start-coherent (memory (replicate 65536 0) (replicate 16384 0)) (replicate 8192 0) (zeros-legal 65536 16384 8192 (omega arith) (omega arith) refl refl refl) in
-    rw (rows-agree (linesOf input) start (replicate 65536 0) 1 c n)
+    rw (rows-agree table good (linesOf input) start (replicate 65536 0) 1 c n)
+
+pub every-loaded : EveryLoaded
+every-loaded given text z = every-table _ (loaded-gives given text z .good)
+
+pub columns : Columns
+columns = every-table blockAnswers ours-good

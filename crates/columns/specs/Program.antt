@@ -8,6 +8,8 @@ use lib.Dec.{ltb}
 use lib.ListN.{length, getD, drop, replicate}
 use Rattle.refusal.specs.Call.{State, nextState}
 use Rattle.calls.specs.Calls.{Call}
+use Rattle.board.specs.Board.{blockAnswers, GoodTable}
+use Rattle.block_table.specs.Load.{loadCall}
 use Rattle.fields.specs.Fields.{linesOf}
 use Rattle.rows.specs.Row.{header, rowOf}
 use Rattle.performing.specs.Perform.{lineCall, lineDone}
@@ -21,8 +23,10 @@ unfoldable pub plainCall : List ℕ → Option Call → Plain
 plainCall m none = plainRefused 11 m
 plainCall m (some c) = plain m c []
 
+-- The plain memory has no table, and looks at a call's answers for number 6 alone: every table of answers up to 7 gives the same (`plain-same`). Ours is
+-- taken.
 abbrev pub plainLine : List ℕ → List ℕ → Plain
-plainLine m line = plainCall m (lineCall line)
+plainLine m line = plainCall m (lineCall blockAnswers line)
 
 -- Rows whose answers and values are the plain memory's, and whose counts of cycles are given.
 unfoldable pub plainRows : List ℕ → ℕ → List (List ℕ) → List ℕ → List ℕ
@@ -31,10 +35,11 @@ plainRows m event (line ∷ lines) counts =
     rowOf event (plainLine m line .number) (plainLine m line .value) (getD counts 0 0)
     ++ plainRows (plainLine m line .memory) (suc event) lines (drop 1 counts)
 
--- The counts of cycles of the unit's own rows.
-unfoldable pub countsOf : State → List (List ℕ) → List ℕ
-countsOf s [] = []
-countsOf s (line ∷ lines) = lineDone s line .outcome .cycles ∷ countsOf (nextState (lineDone s line)) lines
+-- The counts of cycles of the unit's own rows, with a table.
+unfoldable pub countsOf : List ℕ → State → List (List ℕ) → List ℕ
+countsOf table s [] = []
+countsOf table s (line ∷ lines) =
+    lineDone table s line .outcome .cycles ∷ countsOf table (nextState (lineDone table s line)) lines
 
 -- The output of a program on the plain memory, whose 65,536 bytes are 0 at first.
 unfoldable pub plainOutput : List ℕ → List ℕ → List ℕ
@@ -47,12 +52,25 @@ abbrev pub lineSetsNw : Option Call → Bool
 lineSetsNw none = false
 lineSetsNw (some c) = setsNw c
 
--- No line of an input is such a one.
+-- No line of an input is such a one. A control line asks for no answers, so that every table gives the same (`sets-same`).
 abbrev pub NoLineSetsNw : List (List ℕ) → Type 0
 NoLineSetsNw [] = Unit {0}
-NoLineSetsNw (line ∷ lines) = (lineSetsNw (lineCall line) ≡ false) × NoLineSetsNw lines
+NoLineSetsNw (line ∷ lines) = (lineSetsNw (lineCall blockAnswers line) ≡ false) × NoLineSetsNw lines
 
--- For every input without such a line, the answer and value columns are those of the plain memory.
+-- For every input without such a line, the answer and value columns of the run with a table are those of the plain memory.
+abbrev pub ColumnsWith : List ℕ → Type 0
+ColumnsWith table =
+    (input : List ℕ) → NoLineSetsNw (linesOf input) →
+    outputOf table input ≡ plainOutput input (countsOf table start (linesOf input))
+
+-- The claim for every table whose answers are at most 7.
+abbrev pub EveryTable : Type 0
+EveryTable = (table : List ℕ) → GoodTable table → ColumnsWith table
+
+-- Document 02, C-16: so for every text that loads as a table.
+abbrev pub EveryLoaded : Type 0
+EveryLoaded = (given text : List ℕ) → loadCall given text .number ≡ 0 → ColumnsWith (loadCall given text .table)
+
+-- The claim for the program, which "itself uses ours".
 abbrev pub Columns : Type 0
-Columns =
-    (input : List ℕ) → NoLineSetsNw (linesOf input) → outputOf input ≡ plainOutput input (countsOf start (linesOf input))
+Columns = ColumnsWith blockAnswers

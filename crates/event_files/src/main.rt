@@ -33,7 +33,7 @@ fn run_file(argument: usize) {
 
 fn print_output(input: &[u8]) {
     let mut output = output_buffer();
-    let whole = events::run(input, &mut output);
+    let whole = events::run_program(input, &mut output);
     let n = within(whole, &output);
     io::write_all(STDOUT_FILENO, &output[..n]);
 }

@@ -20,35 +20,35 @@ use Rattle.performing.specs.Perform.{lineDone}
 use Rattle.events.specs.Output.{ramSize, rowFor, rowsOf, start, outputOf}
 
 -- The rows that are left at a place of the input, from a state and the number of the next event.
-abbrev pub rowsLeft : List ℕ → State → ℕ → ℕ → List ℕ
-rowsLeft input s event place = rowsOf s event (linesOf (drop place input))
+abbrev pub rowsLeft : List ℕ → List ℕ → State → ℕ → ℕ → List ℕ
+rowsLeft table input s event place = rowsOf table s event (linesOf (drop place input))
 
-rows-left-none : (input : List ℕ) (s : State) (event place : ℕ) → length input ≤ place → rowsLeft input s event place ≡ []
+rows-left-none : (table input : List ℕ) (s : State) (event place : ℕ) → length input ≤ place → rowsLeft table input s event place ≡ []
 unfolding rowsOf linesOf withoutEmptyEnd partsOf
-rows-left-none input s event place h = rw (drop-of-length-le input h)
+rows-left-none table input s event place h = rw (drop-of-length-le input h)
 
 -- The next line's row comes first.
-rows-left-next : (input : List ℕ) (s : State) (event place : ℕ) (rest : List ℕ) (e : ℕ) (done : Outcome) (m : Memory) (array log : List ℕ)
+rows-left-next : (table input : List ℕ) (s : State) (event place : ℕ) (rest : List ℕ) (e : ℕ) (done : Outcome) (m : Memory) (array log : List ℕ)
     → place < length input
     → rest ≡ take (length input - place) (drop place input)
     → e ≡ indexOf newline rest
-    → after done m array log ≡ lineDone s (take e rest)
-    → rowsLeft input s event place ≡ rowFor event done ++ rowsLeft input (state (done .directory) m array) (event + 1) (place + e + 1)
+    → after done m array log ≡ lineDone table s (take e rest)
+    → rowsLeft table input s event place ≡ rowFor event done ++ rowsLeft table input (state (done .directory) m array) (event + 1) (place + e + 1)
 unfolding rowsOf
-rows-left-next input s event place rest e done m array log h r i d =
+rows-left-next table input s event place rest e done m array log h r i d =
     let whole : rest ≡ drop place input = r ∙ drop-part place input in
     let some : 0 < length (drop place input) = omega (arith, length-drop place input) in
     let at : e ≡ indexOf newline (drop place input) = i ∙ ap (indexOf newline) whole in
     let sum : place + suc e ≡ place + e + 1 = omega arith in
     let far : drop (suc e) (drop place input) ≡ drop (place + e + 1) input = drop-drop (suc e) place input ∙ rw sum in
-    let line : lineDone s (take e (drop place input)) ≡ after done m array log = ap (λ l. lineDone s (take e l)) (sym whole) ∙ sym d in
+    let line : lineDone table s (take e (drop place input)) ≡ after done m array log = ap (λ l. lineDone table s (take e l)) (sym whole) ∙ sym d in
     rw (lines-next (drop place input) e some at, far, line, add-one event)
 
 -- What the loop over the lines keeps: the rows that are left, put here, give what all rows give.
-module _ (input out₀ : List ℕ) (from : ℕ) where
+module _ (table input out₀ : List ℕ) (from : ℕ) where
   pub record RunInvariant (s : State) (out : List ℕ) (event place at : ℕ) : Type 0 where
-    pub rows : at + length (rowsLeft input s event place) ≡ from + length (rowsOf start 1 (linesOf input))
-    pub printed : sets out at (rowsLeft input s event place) ≡ sets out₀ from (rowsOf start 1 (linesOf input))
+    pub rows : at + length (rowsLeft table input s event place) ≡ from + length (rowsOf table start 1 (linesOf input))
+    pub printed : sets out at (rowsLeft table input s event place) ≡ sets out₀ from (rowsOf table start 1 (linesOf input))
     pub events : event ≤ place + 1
     pub within : place ≤ length input + 1
     pub most : at + 54 ≤ from + 54 * event
@@ -78,14 +78,14 @@ module _ (input out₀ : List ℕ) (from : ℕ) where
         → place < length input
         → rest ≡ take (length input - place) (drop place input)
         → (e ≡ indexOf newline rest) × (e ≤ length rest)
-        → after done m array log ≡ lineDone s (take e rest)
+        → after done m array log ≡ lineDone table s (take e rest)
         → (length (m .ram) ≡ length (s .memory .ram)) × (length (m .parity) ≡ length (s .memory .parity)) × (length array ≡ length (s .array))
         → ((size ≡ length (rowFor event done)) × (out′ ≡ sets out at (rowFor event done))) × (size ≤ 54)
         → RunInvariant (state (done .directory) m array) out′ (event + 1) (place + e + 1) (at + size)
     run-next rest e done m array log out′ size h r (i, l) d (lr, lp, la) ((n, p), few) =
         let row = rowFor event done in
-        let left = rowsLeft input (state (done .directory) m array) (event + 1) (place + e + 1) in
-        let both = rows-left-next input s event place rest e done m array log h r i d in
+        let left = rowsLeft table input (state (done .directory) m array) (event + 1) (place + e + 1) in
+        let both = rows-left-next table input s event place rest e done m array log h r i d in
         let part : length rest ≡ length input - place = ap length (r ∙ drop-part place input) ∙ length-drop place input in
         record {
           rows = omega (arith, inv .rows, ap length both, length-append row left, n);
@@ -100,19 +100,19 @@ module _ (input out₀ : List ℕ) (from : ℕ) where
         }
 
     -- no line is left
-    pub run-end : length input ≤ place → (at ≡ from + length (rowsOf start 1 (linesOf input))) × (out ≡ sets out₀ from (rowsOf start 1 (linesOf input)))
+    pub run-end : length input ≤ place → (at ≡ from + length (rowsOf table start 1 (linesOf input))) × (out ≡ sets out₀ from (rowsOf table start 1 (linesOf input)))
     run-end h =
-        let none = rows-left-none input s event place h in
+        let none = rows-left-none table input s event place h in
         (omega (arith, inv .rows, ap length none), rw none at (inv .printed))
 
 -- the output of a long input, and of any other
-pub output-long : (input : List ℕ) → 65536 < length input → outputOf input ≡ header ++ rowOf 0 12 0 0
+pub output-long : (table input : List ℕ) → 65536 < length input → outputOf table input ≡ header ++ rowOf 0 12 0 0
 unfolding outputOf
-output-long input h = rw (lt-ltb 65536 (length input) h)
+output-long table input h = rw (lt-ltb 65536 (length input) h)
 
-pub output-lines : (input : List ℕ) → length input ≤ 65536 → outputOf input ≡ header ++ rowsOf start 1 (linesOf input)
+pub output-lines : (table input : List ℕ) → length input ≤ 65536 → outputOf table input ≡ header ++ rowsOf table start 1 (linesOf input)
 unfolding outputOf
-output-lines input h = rw (le-ltb 65536 (length input) h)
+output-lines table input h = rw (le-ltb 65536 (length input) h)
 
 -- the header and what stands after it
 pub after-header : (out rows o p : List ℕ) (at end : ℕ)

@@ -1,4 +1,4 @@
--- Document 01, 'Board table and program': the output of every input.
+-- Document 01, 'Board table and program', with document 02, C-16: the output of every input.
 use Prim.Native.Nat.{ℕ, suc, _/_}
 use mathlib.Core.Bool.{cond}
 use mathlib.Core.List.{List, [], _∷_, _++_}
@@ -28,16 +28,18 @@ longestOutput = 3539024
 abbrev pub rowFor : ℕ → Outcome → List ℕ
 rowFor event o = rowOf event (o .number) (o .value) (o .cycles)
 
--- The rows of lines, the first with this event number.
-unfoldable pub rowsOf : State → ℕ → List (List ℕ) → List ℕ
-rowsOf s event [] = []
-rowsOf s event (line ∷ lines) =
-    rowFor event (lineDone s line .outcome) ++ rowsOf (nextState (lineDone s line)) (suc event) lines
+-- The rows of lines, the first with this event number, with the board's answers by a table.
+unfoldable pub rowsOf : List ℕ → State → ℕ → List (List ℕ) → List ℕ
+rowsOf table s event [] = []
+rowsOf table s event (line ∷ lines) =
+    rowFor event (lineDone table s line .outcome) ++ rowsOf table (nextState (lineDone table s line)) (suc event) lines
 
 -- "The program has 65,536 zero RAM bytes, zero parity, a zero data array, a reset directory."
 unfoldable pub start : State
 start = state afterReset (memory (replicate ramSize 0) (replicate (ramSize / 4) 0)) (replicate dataSize 0)
 
--- "Output starts with the fixed header line"; "Number 12 prints the header and the one row 0, 12, 0, 0."
-unfoldable pub outputOf : List ℕ → List ℕ
-outputOf input = header ++ cond (ltb longestInput (length input)) (rowOf 0 12 0 0) (rowsOf start 1 (linesOf input))
+-- "Output starts with the fixed header line"; "Number 12 prints the header and the one row 0, 12, 0, 0." Document 02, C-16: "the run over event lines takes it",
+-- the table, "and the program itself uses ours", `blockAnswers`.
+unfoldable pub outputOf : List ℕ → List ℕ → List ℕ
+outputOf table input =
+    header ++ cond (ltb longestInput (length input)) (rowOf 0 12 0 0) (rowsOf table start 1 (linesOf input))

@@ -3,9 +3,12 @@ ghost use mathlib.Core.Path.{_≡_};
 ghost use Prim.Native.Nat.{_+_, _*_, _≤_};
 ghost use lib.ListN.{length};
 ghost use lib.Seq.{sets};
+ghost use Rattle.board.specs.Board.{blockAnswers};
 ghost use Rattle.fields.specs.Fields.{linesOf};
 ghost use Rattle.rows.specs.Row.{header};
 ghost use Rattle.events.specs.Output.{longestInput, longestOutput, outputOf, rowsOf, start};
+use board::BLOCKS;
+use board::block_answers;
 use directory::Directory;
 use fields::end_of;
 use performing::perform;
@@ -22,22 +25,30 @@ pub const LONGEST_INPUT: usize = 65536;
 // Bytes that are enough for every output.
 pub const LONGEST_OUTPUT: usize = 3539024;
 
-// Puts the output of the program for the input at the start of output, as far as output goes, and answers its length.
-pub fn run(input: &[u8], output: &mut [u8]) -> usize
-    ensures { λ r. ⌜ (r ≡ length (outputOf (now (input .entry)))) × (now (output .exit) ≡ sets (now (output .entry)) 0 (outputOf (now (input .entry)))) ⌝ }
+// Puts the output of a program with this table for the input at the start of output, as far as output goes, and answers its length.
+pub fn run(table: &[u8; BLOCKS], input: &[u8], output: &mut [u8]) -> usize
+    ensures { λ r. ⌜ (r ≡ length (outputOf (now (table .entry)) (now (input .entry)))) × (now (output .exit) ≡ sets (now (output .entry)) 0 (outputOf (now (table .entry)) (now (input .entry)))) ⌝ }
     ensures { λ r. ⌜ r ≤ longestOutput ⌝ }
 {
     let at = put_header(output);
     if LONGEST_INPUT < input.len() {
         return at + put_row(output, at, 0, 12, 0, 0);
     }
-    run_lines(input, output, at)
+    run_lines(table, input, output, at)
+}
+
+// The program's own run, with our table.
+pub fn run_program(input: &[u8], output: &mut [u8]) -> usize
+    ensures { λ r. ⌜ (r ≡ length (outputOf blockAnswers (now (input .entry)))) × (now (output .exit) ≡ sets (now (output .entry)) 0 (outputOf blockAnswers (now (input .entry)))) ⌝ }
+    ensures { λ r. ⌜ r ≤ longestOutput ⌝ }
+{
+    run(&block_answers(), input, output)
 }
 
 // Puts the rows of the input's lines at a place of output, as far as output goes, and answers the place after them.
-fn run_lines(input: &[u8], output: &mut [u8], from: usize) -> usize
+fn run_lines(table: &[u8; BLOCKS], input: &[u8], output: &mut [u8], from: usize) -> usize
     requires { ⌜ (length (now input) ≤ longestInput) × (from ≤ length header) ⌝ }
-    ensures { λ r. ⌜ (r ≡ from + length (rowsOf start 1 (linesOf (now (input .entry))))) × (now (output .exit) ≡ sets (now (output .entry)) from (rowsOf start 1 (linesOf (now (input .entry))))) ⌝ }
+    ensures { λ r. ⌜ (r ≡ from + length (rowsOf (now (table .entry)) start 1 (linesOf (now (input .entry))))) × (now (output .exit) ≡ sets (now (output .entry)) from (rowsOf (now (table .entry)) start 1 (linesOf (now (input .entry))))) ⌝ }
     ensures { λ r. ⌜ r ≤ from + 54 * (longestInput + 1) ⌝ }
 {
     let directory = Directory::reset();
@@ -56,6 +67,7 @@ fn run_lines(input: &[u8], output: &mut [u8], from: usize) -> usize
         let rest = &input[place..];
         let end = end_of(rest, b'\n');
         let done = perform(
+            table,
             &mut tags,
             &mut valid,
             &mut lru,

@@ -20,20 +20,21 @@ abbrev pub zeroLog : List ℕ
 zeroLog = replicate logSize 0
 
 -- "R address width PCD; W address width value; X address bytes ..; S address; F; C CD NW; Z (reset)": the call that an event of a line makes, a read
--- or a write with the board's answers; the read carries no writes. A malformed line makes none.
-unfoldable pub callOf : List ℕ → Event → Option Call
-callOf line Malformed = none
-callOf line (Read address width pcd) = some (read address width pcd (boardAnswers address width) zeroLog [])
-callOf line (Write address width value) = some (write address width value (boardAnswers address width) zeroLog)
-callOf line (External address from) = some (external address (pairBytes (drop from line)))
-callOf line (Snoop address) = some (snoop address)
-callOf line Flush = some flush
-callOf line (Control cd nw) = some (control cd nw)
-callOf line Reset = some reset
+-- or a write with the board's answers by a table (document 02, C-16: "the run over event lines takes it"); the read carries no writes. A malformed line
+-- makes none.
+unfoldable pub callOf : List ℕ → List ℕ → Event → Option Call
+callOf table line Malformed = none
+callOf table line (Read address width pcd) = some (read address width pcd (boardAnswers table address width) zeroLog [])
+callOf table line (Write address width value) = some (write address width value (boardAnswers table address width) zeroLog)
+callOf table line (External address from) = some (external address (pairBytes (drop from line)))
+callOf table line (Snoop address) = some (snoop address)
+callOf table line Flush = some flush
+callOf table line (Control cd nw) = some (control cd nw)
+callOf table line Reset = some reset
 
 -- The call of a line.
-abbrev pub lineCall : List ℕ → Option Call
-lineCall line = callOf line (scanned line)
+abbrev pub lineCall : List ℕ → List ℕ → Option Call
+lineCall table line = callOf table line (scanned line)
 
 -- "A malformed line .. gives its row with 11, 0, 0, changes nothing"; any other does what its call does.
 unfoldable pub callDone : State → Option Call → After
@@ -41,8 +42,8 @@ callDone s none = refused 11 s []
 callDone s (some c) = step s c
 
 -- What a line leaves.
-abbrev pub lineDone : State → List ℕ → After
-lineDone s line = callDone s (lineCall line)
+abbrev pub lineDone : List ℕ → State → List ℕ → After
+lineDone table s line = callDone s (lineCall table line)
 
 -- The program's call leaves this, with its answer and in this state. Its log is its own.
 abbrev pub Leaves : After → CallResult → State → Type 0

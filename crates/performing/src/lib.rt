@@ -14,6 +14,7 @@ ghost use Rattle.lines.specs.Scan.{longestLine};
 ghost use Rattle.performing.specs.Perform.{Leaves, lineDone, zeroLog};
 use access::CallResult;
 use access::number_only;
+use board::BLOCKS;
 use bus::LOG_WORDS;
 use fields::pair_bytes;
 use lines::Event;
@@ -29,8 +30,9 @@ use ways::LINES;
 use ways::SETS;
 use write_calls::write_in_place;
 
-// The line's event with the board's answers, on a directory whose fields are lent. A malformed line answers 11.
+// The line's event with the board's answers by a table, on a directory whose fields are lent. A malformed line answers 11.
 pub fn perform<'a>(
+    table: &[u8; BLOCKS],
     tags: &'a mut [u32; LINES],
     valid: &'a mut [bool; LINES],
     lru: &'a mut [u8; SETS],
@@ -41,17 +43,42 @@ pub fn perform<'a>(
     data: &mut [u8],
     line: &[u8],
 ) -> CallResult
-    ensures { λ r. ⌜ Leaves (lineDone (lentState (tags .entry) (valid .entry) (lru .entry) (now (cd .entry)) (now (nw .entry)) (ram .entry) (parity .entry) («data» .entry)) (now (line .entry)))
+    ensures { λ r. ⌜ Leaves (lineDone (now (table .entry)) (lentState (tags .entry) (valid .entry) (lru .entry) (now (cd .entry)) (now (nw .entry)) (ram .entry) (parity .entry) («data» .entry)) (now (line .entry)))
         r (lentState (tags .exit) (valid .exit) (lru .exit) (now (cd .exit)) (now (nw .exit)) (ram .exit) (parity .exit) («data» .exit)) ⌝ }
 {
     let event = scan(line);
     match event {
         Event::Malformed => number_only(11),
         Event::Read(at, width, pcd) => {
-            perform_read(tags, valid, lru, cd, ram, parity, data, at, width, pcd)
+            perform_read(
+                table,
+                tags,
+                valid,
+                lru,
+                cd,
+                ram,
+                parity,
+                data,
+                at,
+                width,
+                pcd,
+            )
         }
         Event::Write(at, size, value) => {
-            perform_write(tags, valid, lru, cd, nw, ram, parity, data, at, size, value)
+            perform_write(
+                table,
+                tags,
+                valid,
+                lru,
+                cd,
+                nw,
+                ram,
+                parity,
+                data,
+                at,
+                size,
+                value,
+            )
         }
         Event::External(at, from) => {
             perform_external(tags, valid, lru, nw, ram, parity, at, &line[from..])
@@ -71,6 +98,7 @@ pub fn perform<'a>(
 
 // A read with the board's answers and a log that is not shown.
 fn perform_read<'a>(
+    table: &[u8; BLOCKS],
     tags: &'a mut [u32; LINES],
     valid: &'a mut [bool; LINES],
     lru: &'a mut [u8; SETS],
@@ -82,10 +110,10 @@ fn perform_read<'a>(
     width: u32,
     pcd: bool,
 ) -> CallResult
-    ensures { λ r. ⌜ ((nw : Bool) → Leaves (step (lentState (tags .entry) (valid .entry) (lru .entry) (now (cd .entry)) nw (ram .entry) (parity .entry) («data» .entry)) (read address width pcd (boardAnswers address width) zeroLog []))
+    ensures { λ r. ⌜ ((nw : Bool) → Leaves (step (lentState (tags .entry) (valid .entry) (lru .entry) (now (cd .entry)) nw (ram .entry) (parity .entry) («data» .entry)) (read address width pcd (boardAnswers (now (table .entry)) address width) zeroLog []))
         r (lentState (tags .exit) (valid .exit) (lru .exit) (now (cd .entry)) nw (ram .entry) (parity .entry) («data» .exit))) ⌝ }
 {
-    let answers = board::board_answers(address, width);
+    let answers = board::board_answers(table, address, width);
     let mut log = [0u32; LOG_WORDS];
     read_in_place(
         tags,
@@ -105,6 +133,7 @@ fn perform_read<'a>(
 
 // A write with the board's answers and a log that is not shown.
 fn perform_write<'a>(
+    table: &[u8; BLOCKS],
     tags: &'a [u32; LINES],
     valid: &'a [bool; LINES],
     lru: &'a mut [u8; SETS],
@@ -117,10 +146,10 @@ fn perform_write<'a>(
     width: u32,
     value: u64,
 ) -> CallResult
-    ensures { λ r. ⌜ Leaves (step (lentState (tags .entry) (valid .entry) (lru .entry) (now (cd .entry)) (now (nw .entry)) (ram .entry) (parity .entry) («data» .entry)) (write address width value (boardAnswers address width) zeroLog))
+    ensures { λ r. ⌜ Leaves (step (lentState (tags .entry) (valid .entry) (lru .entry) (now (cd .entry)) (now (nw .entry)) (ram .entry) (parity .entry) («data» .entry)) (write address width value (boardAnswers (now (table .entry)) address width) zeroLog))
         r (lentState (tags .entry) (valid .entry) (lru .exit) (now (cd .entry)) (now (nw .entry)) (ram .exit) (parity .exit) («data» .exit)) ⌝ }
 {
-    let answers = board::board_answers(address, width);
+    let answers = board::board_answers(table, address, width);
     let mut log = [0u32; LOG_WORDS];
     write_in_place(
         tags,

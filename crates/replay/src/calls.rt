@@ -66,7 +66,7 @@ pub fn fresh_log(log: &mut [u32]) {
 fn board_line(line: &[u8]) {
     let address = number(line, 1);
     let width = number(line, address.next);
-    board_row(&board::board_answers(address.value, width.value));
+    board_row(&board::board_answers(&board::block_answers(), address.value, width.value));
 }
 
 fn read_line(
@@ -192,7 +192,10 @@ fn answers_of(line: &[u8], a: Access, answers: &mut [u8]) -> usize
     if letter_of(line) < b'a' {
         return digits(line, a.next, answers);
     }
-    copy(&board::board_answers(a.address, a.width), answers)
+    copy(
+        &board::board_answers(&board::block_answers(), a.address, a.width),
+        answers,
+    )
 }
 
 // As many bytes as both have.

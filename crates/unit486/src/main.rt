@@ -41,7 +41,7 @@ fn read_input(buffer: &mut [u8]) -> isize
 
 fn print_output(input: &[u8]) {
     let mut output = output_buffer();
-    let n = events::run(input, &mut output);
+    let n = events::run_program(input, &mut output);
     io::write_all(STDOUT_FILENO, &output[..n]);
 }
 

@@ -32,7 +32,7 @@ returns c =
     let a = at-put-header .before .before .before .before .args in
     let h = at-put-header .put-header .ensures in
     let ((size, put), few) = at-put-row .put-row .ensures in (
-      rw (output-long (a .input .now) (at-if1 .if1 .taken))
+      rw (output-long (a .table .now) (a .input .now) (at-if1 .if1 .taken))
           (after-header (a .output .now) _ _ _ _ _ h (ap (λ (n : ℕ). at-put-header .put-header .result + n) size, put)),
       omega (arith, h .0, header-length, few),
     )
@@ -44,7 +44,7 @@ same-length-2 : tie.Need-same-length-2
 same-length-2 c =
     let at-run-lines = c .before .before in
     let at-put-header = at-run-lines .before .before .before .before .before in
-    at-run-lines .run-lines .kept .1 .0 ∙ at-put-header .put-header .kept .0
+    at-run-lines .run-lines .kept .1 .1 .0 ∙ at-put-header .put-header .kept .0
 
 returns-2 : tie.Need-returns-2
 returns-2 c =
@@ -53,7 +53,7 @@ returns-2 c =
     let a = at-put-header .before .before .before .before .args in
     let h = at-put-header .put-header .ensures in
     let (put, most) = at-run-lines .run-lines .ensures in
-    (rw (output-lines (a .input .now) (omega arith)) (after-header (a .output .now) _ _ _ _ _ h put), omega (arith, h .0, header-length, most))
+    (rw (output-lines (a .table .now) (a .input .now) (omega arith)) (after-header (a .output .now) _ _ _ _ _ h put), omega (arith, h .0, header-length, most))
 
 pub run-spec : {M : Type 1} → statement M
 run-spec =

@@ -14,18 +14,18 @@ use Rattle.events.proofs.run_lines.Statement.{statement}
 use Rattle.events.proofs.run_lines.Tie as tie
 
 abbrev Inv-loop : tie.InvT-loop
-Inv-loop input output₀ from tags₀ valid₀ lru₀ cd₀ nw₀ ram₀ parity₀ data₀ event₀ place₀ at₀ output tags valid lru cd nw ram parity «data» event place at =
-    RunInvariant input output₀ from (state (directoryOf tags valid lru cd nw) (memory ram parity) «data») output event place at
+Inv-loop table input output₀ from tags₀ valid₀ lru₀ cd₀ nw₀ ram₀ parity₀ data₀ event₀ place₀ at₀ output tags valid lru cd nw ram parity «data» event place at =
+    RunInvariant table input output₀ from (state (directoryOf tags valid lru cd nw) (memory ram parity) «data») output event place at
 
 abbrev μ-loop : tie.MeasureT-loop
-μ-loop input output₀ from tags₀ valid₀ lru₀ cd₀ nw₀ ram₀ parity₀ data₀ event₀ place₀ at₀ output tags valid lru cd nw ram parity «data» event place at = length input + 1 - place
+μ-loop table input output₀ from tags₀ valid₀ lru₀ cd₀ nw₀ ram₀ parity₀ data₀ event₀ place₀ at₀ output tags valid lru cd nw ram parity «data» event place at = length input + 1 - place
 
 reset-requires : tie.Need-reset-requires Inv-loop μ-loop
 reset-requires c κs = search needs
 
 loop-holds : tie.Need-loop-holds Inv-loop μ-loop
 unfolding start
-loop-holds c = let at-reset = c .before .before .before in rw (at-reset .reset .ensures) (run-begin _ _ _)
+loop-holds c = let at-reset = c .before .before .before in rw (at-reset .reset .ensures) (run-begin _ _ _ _)
 
 sub-rest : tie.Need-sub-rest Inv-loop μ-loop
 sub-rest c = omega arith
@@ -87,8 +87,8 @@ loop-less c = omega (arith, at-end-of c .end-of .ensures .1)
 
 loop-again : tie.Need-loop-again Inv-loop μ-loop
 loop-again c =
-    let kept = at-perform c .perform .kept .1 .1 .1 .1 .1 in
-    run-next _ _ _ _ _ _ _ _ (at-loop c .loop .inv) _ _ _ _ _ _ _ _ (omega arith) refl (at-end-of c .end-of .ensures) (at-perform c .perform .ensures)
+    let kept = at-perform c .perform .kept .1 .1 .1 .1 .1 .1 in
+    run-next _ _ _ _ _ _ _ _ _ (at-loop c .loop .inv) _ _ _ _ _ _ _ _ (omega arith) refl (at-end-of c .end-of .ensures) (at-perform c .perform .ensures)
     (kept .0, kept .1 .0, kept .1 .1 .0) (c .before .before .put-row .ensures)
 
 same-length : tie.Need-same-length Inv-loop μ-loop
@@ -99,7 +99,7 @@ returns c =
     let at-loop = c .before in
     let start = at-loop .before .before .before .before .before .before .before in
     let k = at-loop .loop .inv in
-    (run-end _ _ _ _ _ _ _ _ k (omega arith), omega (arith, k .events, k .within, k .most, start .pre))
+    (run-end _ _ _ _ _ _ _ _ _ k (omega arith), omega (arith, k .events, k .within, k .most, start .pre))
 
 pub run-lines-spec : {M : Type 1} → statement M
 run-lines-spec =

@@ -8,11 +8,11 @@ use Rattle.unit486.proofs.print_output.Tie as tie
 output-buffer-requires : tie.Need-output-buffer-requires
 output-buffer-requires c κs = search needs
 
-slice-aggregate-run : tie.Need-slice-aggregate-run
-slice-aggregate-run c = search needs
+slice-aggregate-run-program : tie.Need-slice-aggregate-run-program
+slice-aggregate-run-program c = search needs
 
-run-requires : tie.Need-run-requires
-run-requires c κs = search needs
+run-program-requires : tie.Need-run-program-requires
+run-program-requires c κs = search needs
 
 array-share-prefix-output : tie.Need-array-share-prefix-output
 array-share-prefix-output c = search needs
@@ -31,8 +31,8 @@ print-output-spec =
     tie.close
     (tie.spec
     output-buffer-requires
-    slice-aggregate-run
-    run-requires
+    slice-aggregate-run-program
+    run-program-requires
     array-share-prefix-output
     slice-aggregate-write-all
     write-all-requires
