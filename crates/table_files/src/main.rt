@@ -23,26 +23,25 @@ fn load_all(input: &[u8]) {
     let mut table = board::block_answers();
     let count = os::arg_count();
     for i in 2..count {
-        table = load_file(i, table, input);
+        load_file(i, &mut table, input);
     }
 }
 
-// The table in force after a file.
-fn load_file(argument: usize, given: [u8; BLOCKS], input: &[u8]) -> [u8; BLOCKS] {
+fn load_file(argument: usize, table: &mut [u8; BLOCKS], input: &[u8]) {
     file_name(argument);
     let mut space = text_buffer();
     let n = read_file(argument, &mut space);
     let text = &space[..n];
-    let done = block_table::load(&given, text);
-    let table = done.table;
-    table_row(b"load", done.number, &table);
+    let done = block_table::load(table, text);
+    let in_force = done.table;
+    *table = in_force;
+    table_row(b"load", done.number, table);
     let mut other = junk_table();
     let number = block_table::load_in_place(&mut other, text);
     table_row(b"junk", number, &other);
-    board_rows(&table);
-    run_rows(&table, input);
+    board_rows(table);
+    run_rows(table, input);
     run_rows(&other, input);
-    table
 }
 
 // Puts the bytes of the file that an argument names at the start of a buffer, and answers how many there are.
@@ -54,6 +53,7 @@ fn read_file(argument: usize, buffer: &mut [u8]) -> usize
     let file = os::open_read(&name[..length]);
     if file < 0 {
         os::fail(&name[..length]);
+        return 0;
     }
     let n = io::read_full(file, buffer);
     libc::close(file);
@@ -70,6 +70,21 @@ fn text_buffer() -> [u8; 131072]
 // A table that no load has made: no answer is one that an access takes.
 fn junk_table() -> [u8; BLOCKS] {
     [
-        255, 254, 253, 252, 251, 250, 249, 248, 247, 246, 245, 244, 243, 242, 241, 240,
+        255,
+        254,
+        253,
+        252,
+        251,
+        250,
+        249,
+        248,
+        247,
+        246,
+        245,
+        244,
+        243,
+        242,
+        241,
+        240,
     ]
 }

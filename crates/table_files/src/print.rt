@@ -1,4 +1,5 @@
 // Rows on standard output: a label, fields with a tab before each, and a newline.
+ghost use Prim.Native.Nat.{_<_};
 use board::BLOCKS;
 use libc::STDOUT_FILENO;
 
@@ -9,6 +10,10 @@ fn label(text: &[u8]) {
 fn number(n: u64) {
     label(b"\t");
     io::print_decimal(STDOUT_FILENO, n);
+}
+
+fn answer(a: u8) {
+    number(a as u64);
 }
 
 pub fn file_name(argument: usize) {
@@ -23,25 +28,31 @@ pub fn table_row(load: &[u8], answered: u32, table: &[u8; BLOCKS]) {
     label(load);
     number(answered as u64);
     for block in 0..BLOCKS {
-        number(table[block] as u64);
+        answer(table[block]);
     }
     label(b"\n");
 }
 
-// An access of eight bytes from the last three of each block, with the first and the last answer of each group.
 pub fn board_rows(table: &[u8; BLOCKS]) {
     for block in 0..16u32 {
-        let answers = board::board_answers(table, (block + 1) * 1048576 - 3, 8);
-        label(b"board");
-        number(block as u64);
-        number(answers[0] as u64);
-        number(answers[15] as u64);
-        number(answers[16] as u64);
-        number(answers[31] as u64);
-        number(answers[32] as u64);
-        number(answers[47] as u64);
-        label(b"\n");
+        board_row(table, block);
     }
+}
+
+// An access of eight bytes from the last three of a block on: the first and the last answer of each group.
+fn board_row(table: &[u8; BLOCKS], block: u32)
+    requires { ⌜ block < 16 ⌝ }
+{
+    let answers = board::board_answers(table, (block + 1) * 1048576 - 3, 8);
+    label(b"board");
+    number(block as u64);
+    answer(answers[0]);
+    answer(answers[15]);
+    answer(answers[16]);
+    answer(answers[31]);
+    answer(answers[32]);
+    answer(answers[47]);
+    label(b"\n");
 }
 
 // The output of the run over event lines, which is short.
