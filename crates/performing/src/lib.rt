@@ -49,22 +49,10 @@ pub fn perform<'a>(
     let event = scan(line);
     match event {
         Event::Malformed => number_only(11),
-        Event::Read(at, width, pcd) => {
-            perform_read(
-                table,
-                tags,
-                valid,
-                lru,
-                cd,
-                ram,
-                parity,
-                data,
-                at,
-                width,
-                pcd,
-            )
+        Event::Read(a, size, pcd) => {
+            perform_read(table, tags, valid, lru, cd, ram, parity, data, a, size, pcd)
         }
-        Event::Write(at, size, value) => {
+        Event::Write(a, size, value) => {
             perform_write(
                 table,
                 tags,
@@ -75,15 +63,15 @@ pub fn perform<'a>(
                 ram,
                 parity,
                 data,
-                at,
+                a,
                 size,
                 value,
             )
         }
-        Event::External(at, from) => {
-            perform_external(tags, valid, lru, nw, ram, parity, at, &line[from..])
+        Event::External(a, from) => {
+            perform_external(tags, valid, lru, nw, ram, parity, a, &line[from..])
         }
-        Event::Snoop(at) => number_only(snoop_in_place(tags, valid, lru, *nw, at)),
+        Event::Snoop(a) => number_only(snoop_in_place(tags, valid, lru, *nw, a)),
         Event::Flush => {
             flush_in_place(valid, lru);
             number_only(0)
