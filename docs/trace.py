@@ -111,7 +111,7 @@ def reach(starts: list[str], nodes: dict[str, Node]) -> set[str]:
 
 def is_test(reference: str) -> bool:
     program, name = reference.split("/", 1)
-    if program in ("replay", "event_files"):
+    if program in ("replay", "event_files", "table_files"):
         return any((CRATES / program / "data").glob(name + ".txt"))
     if program == "directory_tables":
         return name in re.findall(r"^\w+", (CRATES / program / "stdout").read_text(), re.M)
