@@ -11,25 +11,40 @@ from pathlib import Path
 
 import event_files
 import replay
+import table_files
 import tables
 from checks.unit_calls import run_script
-from unit486_model import events
+from unit486_model import block_table, events
+from unit486_model.board import TABLE
 
 ROOT = Path(__file__).resolve().parent.parent
 
 
+def sample(name: str) -> bytes:
+    return (ROOT / "samples" / name).read_bytes()
+
+
 def sample_rows() -> bytes:
     """What the program prints for README's sample."""
-    return events.run((ROOT / "samples/batch.events").read_bytes())
+    return events.run_program(sample("batch.events"))
+
+
+def plant_rows() -> bytes:
+    """The same events, served by the plant's table."""
+    table = block_table.load(TABLE, sample("plant.table")).table
+    return events.run(table, sample("batch.events"))
 
 
 def expectations() -> list[tuple[str, Callable[[], str | bytes]]]:
-    """The stored files, each with what it must hold: any bytes in an event file, text elsewhere."""
+    """The stored files, each with what it must hold: any bytes in an event file or a table file,
+    text elsewhere."""
     return [
         ("crates/directory_tables/stdout", tables.directory_tables),
         *replay.expectations(),
         *event_files.expectations(),
+        *table_files.expectations(),
         ("samples/batch.rows", sample_rows),
+        ("samples/plant.rows", plant_rows),
     ]
 
 

@@ -1,5 +1,5 @@
 """The papers' tables and examples, run against the model; random lists of calls; call scripts;
-event files.
+event files; table files.
 
 Prints one line per group and `ok` at the end; stops with exit 1 at the first mismatch.
 """
@@ -10,6 +10,8 @@ from collections.abc import Callable
 from checks import (
     altered,
     altered_sizes,
+    altered_tables,
+    block_table,
     carried,
     diagnostics,
     eight_bytes,
@@ -18,6 +20,7 @@ from checks import (
     random_lists,
     readings,
     replays,
+    table_files,
     vectors,
 )
 from checks.unit_calls import Mismatch, done
@@ -39,6 +42,7 @@ GROUPS: list[tuple[str, Callable[[], None]]] = [
     ("readings of C-11", diagnostics.readings),
     ("readings of C-12, and its timing", carried.readings),
     ("readings of C-15", eight_bytes.readings),
+    ("readings of C-16", block_table.readings),
     ("first victims under either flush rule", flush_rules.first_victims),
     ("random lists against the plain memory", random_lists.random_lists),
     ("random lists with test calls", random_lists.lists_with_test_calls),
@@ -46,9 +50,11 @@ GROUPS: list[tuple[str, Callable[[], None]]] = [
     ("wrong flush rules", flush_rules.wrong_rules),
     ("altered carrying reads", altered.altered_models),
     ("altered sizes", altered_sizes.altered_models),
+    ("altered tables", altered_tables.altered_models),
     ("refused calls", random_lists.refused_calls),
     ("call scripts", replays.replays),
     ("event files", event_files.event_file_checks),
+    ("table files", table_files.table_file_checks),
 ]
 
 

@@ -119,20 +119,21 @@ def _a_byte_short(ram: int, address: int, width: int, *rest: Any) -> int:
 # --- the board table
 
 
-def _third_from_the_middle(address: int, width: int) -> list[int]:
-    given = _board_answers(address, width)
+def _third_from_the_middle(table: Any, address: int, width: int) -> list[int]:
+    given = _board_answers(table, address, width)
     present = (address % 4 + width + 3) // 4 if width in (1, 2, 4, 8) else 1
     return given if present == 3 else [*given[: 2 * GROUP], *given[GROUP : 2 * GROUP]]
 
 
-def _third_from_the_lowest(address: int, width: int) -> list[int]:
-    given = _board_answers(address, width)
+def _third_from_the_lowest(table: Any, address: int, width: int) -> list[int]:
+    given = _board_answers(table, address, width)
     return [*given[: 2 * GROUP], *given[:GROUP]]
 
 
-def _groups_of_any_width(address: int, width: int) -> list[int]:
+def _groups_of_any_width(table: Any, address: int, width: int) -> list[int]:
     """A refused width has as many doublewords as its bytes touch, three at most."""
-    return _board_answers(address, width if width in (1, 2, 4, 8) else min(max(width, 1), 8))
+    taken = width if width in (1, 2, 4, 8) else min(max(width, 1), 8)
+    return _board_answers(table, address, taken)
 
 
 class Altered(NamedTuple):
@@ -185,11 +186,15 @@ def _made(maker: Callable[[], object]) -> None:
         list(made)
 
 
-def altered_models() -> None:
-    for owner, name, altered, told_by in ALTERED:
+def told(models: Iterable[Altered], readings: Callable[[], None]) -> None:
+    """Each model is told by the readings, and by all that it names."""
+    for owner, name, altered, told_by in models:
         what = f"{name}: {getattr(altered, '__name__', altered)}"
         with patch.object(owner, name, altered, create=name == "enumerate"):
-            check(f"{what}: readings tell", tells(eight_bytes.readings), True)
+            check(f"{what}: readings tell", tells(readings), True)
             for maker in told_by:
-                told = tells(lambda: _made(maker))
-                check(f"{what}: {maker.__name__} tells", told, True)
+                check(f"{what}: {maker.__name__} tells", tells(lambda: _made(maker)), True)
+
+
+def altered_models() -> None:
+    told(ALTERED, eight_bytes.readings)

@@ -280,9 +280,9 @@ def board_table() -> None:
         (0xFFFFFFFC, 8, "313"),
     ):
         expected = [int(answer) for answer in given for _ in range(GROUP)]
-        check(f"{width} at {address:x}", board.answers(address, width), expected)
+        check(f"{width} at {address:x}", board.answers(board.TABLE, address, width), expected)
     for width in (0, 3, 5, 6, 7, 9, 12, 16, NUMBER_LIMIT):
-        check(f"width {width}", board.answers(0x7FFFFE, width), [1] * 48)
+        check(f"width {width}", board.answers(board.TABLE, 0x7FFFFE, width), [1] * 48)
 
 
 # --- fills and hits
@@ -518,7 +518,7 @@ def carried_before_lookups() -> None:
 def _rows(*lines: bytes) -> list[bytes]:
     """What the last columns show for these lines, after C 0 0."""
     text = b"C\t0\t0\n" + b"\n".join(lines)
-    return [row.split(b"\t", 1)[1] for row in events.run(text).splitlines()[2:]]
+    return [row.split(b"\t", 1)[1] for row in events.run_program(text).splitlines()[2:]]
 
 
 def value_field() -> None:

@@ -257,7 +257,7 @@ def view_examples() -> None:
 
 def board_examples() -> None:
     def pair(address: int, width: int) -> tuple[int, int]:
-        given = board.answers(address, width)
+        given = board.answers(board.TABLE, address, width)
         lowest, second = given[0], given[GROUP]
         check("answers", given, [lowest] * GROUP + [second] * GROUP + [lowest] * GROUP)
         return lowest, second
@@ -267,7 +267,7 @@ def board_examples() -> None:
     check("7FFFFE, two bytes", pair(0x7FFFFE, 2), (1, 1))
     check("bad width", pair(0x7FFFFE, 3), (1, 1))
     check("over the top", pair(0xFFFFFFFD, 4), (3, 1))
-    by_block = [board.answers(block << 20, 4)[0] for block in range(32)]
+    by_block = [board.answers(board.TABLE, block << 20, 4)[0] for block in range(32)]
     check("table", by_block, [1] * 8 + [5] * 4 + [4, 4, 2, 3] + [1] * 8 + [5] * 4 + [4, 4, 2, 3])
 
 
@@ -319,20 +319,20 @@ LINE_ANSWERS = [
 
 def program_examples() -> None:
     header = events.HEADER
-    check("empty input", events.run(b""), header)
-    check("one newline", events.run(b"\n"), header + b"1\t11\t0\t0\n")
-    check("two rows", events.run(b"Z\n\n"), header + b"1\t0\t0\t0\n2\t11\t0\t0\n")
+    check("empty input", events.run_program(b""), header)
+    check("one newline", events.run_program(b"\n"), header + b"1\t11\t0\t0\n")
+    check("two rows", events.run_program(b"Z\n\n"), header + b"1\t0\t0\t0\n2\t11\t0\t0\n")
     for line, answer in LINE_ANSWERS:
-        last = events.run(b"C\t0\t0\n" + line + b"\n").splitlines()[2].split(b"\t")
+        last = events.run_program(b"C\t0\t0\n" + line + b"\n").splitlines()[2].split(b"\t")
         check(f"line {line!r}", last[:2], [b"2", b"%d" % answer])
         if answer:
             check("its zeros", last[2:], [b"0", b"0"])
     check("80 bytes", len(b"X\t0\t" + b"AA" * 38), 80)
-    full = events.run(b"\n" * 65536)
+    full = events.run_program(b"\n" * 65536)
     check("65,536 bytes", (full.count(b"\n"), len(full)), (65537, 840888))
-    check("65,537 bytes", events.run(b"\n" * 65537), header + b"0\t12\t0\t0\n")
+    check("65,537 bytes", events.run_program(b"\n" * 65537), header + b"0\t12\t0\t0\n")
     text = b"C\t0\t0\nW\t0\t1\t9\nZ\nR\t0\t1\t0\n"
-    check("Z keeps RAM", events.run(text).splitlines()[-1], b"4\t0\t9\t1")
+    check("Z keeps RAM", events.run_program(text).splitlines()[-1], b"4\t0\t9\t1")
 
 
 def the_invalid_pair() -> None:

@@ -341,10 +341,10 @@ def program_start() -> None:
     check("data array", bytes(unit.data), bytes(8192))
     check("directory", unit.directory, steps.reset())
     check("header", events.HEADER, b"event\tanswer\tvalue\tcycles\n")
-    check("empty input", events.run(b""), events.HEADER)
-    check("number 12", events.run(bytes(65_537)), events.HEADER + b"0\t12\t0\t0\n")
+    check("empty input", events.run_program(b""), events.HEADER)
+    check("number 12", events.run_program(bytes(65_537)), events.HEADER + b"0\t12\t0\t0\n")
 
 
 def program_example() -> None:
-    check("without a last newline", events.run(PROGRAM_INPUT), PROGRAM_OUTPUT)
-    check("with it", events.run(PROGRAM_INPUT + b"\n"), PROGRAM_OUTPUT)
+    check("without a last newline", events.run_program(PROGRAM_INPUT), PROGRAM_OUTPUT)
+    check("with it", events.run_program(PROGRAM_INPUT + b"\n"), PROGRAM_OUTPUT)

@@ -4,8 +4,8 @@ from collections import Counter
 from functools import cache
 from typing import Any
 
+from unit486_model import board, events
 from unit486_model import directory as steps
-from unit486_model import events
 from unit486_model.access import Result
 from unit486_model.events import MALFORMED, NUMBER_LIMIT, VALUE_DIGITS, program_unit
 
@@ -45,7 +45,7 @@ class EventFile:
 
     def _performed(self, letter: str, values: list[Any]) -> Result:
         before = self._lines_held()
-        result = self.unit.perform(letter, values)._replace(records=())
+        result = self.unit.perform(board.TABLE, letter, values)._replace(records=())
         self._count(letter, result, before, self._lines_held())
         return result
 
@@ -104,4 +104,4 @@ def event_line(letter: str, *fields: str | int) -> bytes:
 
 @cache
 def _printed(text: bytes) -> bytes:
-    return events.run(text)
+    return events.run_program(text)

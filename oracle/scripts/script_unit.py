@@ -131,7 +131,8 @@ class ScriptUnit:
         letter, *fields = line.split(" ")
         if letter == "B":
             address, width = (int(field) for field in fields)
-            return None, _row(letter, "".join(str(a) for a in board.answers(address, width)))
+            answers = board.answers(board.TABLE, address, width)
+            return None, _row(letter, "".join(str(answer) for answer in answers))
         if letter in "TKLMP":
             self._store(letter, *(int(field) for field in fields))
             return None, ""
@@ -201,7 +202,7 @@ class ScriptUnit:
         lent = (unit.directory, unit.ram, unit.parity, unit.data, address, width)
         answers = _answers("".join(given))
         if letter in "rw":
-            answers = board.answers(address, width)
+            answers = board.answers(board.TABLE, address, width)
         if letter in "Rr":
             return access.read(*lent, third == 1, answers, self.log)
         return access.write(*lent, third, answers, self.log)

@@ -2,7 +2,7 @@
 
 import re
 import sys
-from collections.abc import Callable
+from collections.abc import Callable, Sequence
 from dataclasses import dataclass
 from typing import Any
 
@@ -90,12 +90,12 @@ class Unit:
     parity: bytearray
     data: bytearray
 
-    def perform(self, letter: str, values: list[Any]) -> Result:
-        """One well-formed event, served by the board table and a log of its own."""
+    def perform(self, table: Sequence[int], letter: str, values: list[Any]) -> Result:
+        """One well-formed event, served by the board with this table and a log of its own."""
         if letter == "R":
-            return self._read(*values)
+            return self._read(table, *values)
         if letter == "W":
-            return self._write(*values)
+            return self._write(table, *values)
         if letter == "X":
             return access.external_write(self.directory, self.ram, self.parity, *values)
         if letter == "S":
@@ -107,13 +107,13 @@ class Unit:
         result, self.directory = access.reset()
         return result
 
-    def _read(self, address: int, width: int, pcd: bool) -> Result:
-        answers, log = board.answers(address, width), [0] * LOG_WORDS
+    def _read(self, table: Sequence[int], address: int, width: int, pcd: bool) -> Result:
+        answers, log = board.answers(table, address, width), [0] * LOG_WORDS
         lent = (self.directory, self.ram, self.parity, self.data)
         return access.read(*lent, address, width, pcd, answers, log)
 
-    def _write(self, address: int, width: int, value: int) -> Result:
-        answers, log = board.answers(address, width), [0] * LOG_WORDS
+    def _write(self, table: Sequence[int], address: int, width: int, value: int) -> Result:
+        answers, log = board.answers(table, address, width), [0] * LOG_WORDS
         lent = (self.directory, self.ram, self.parity, self.data)
         return access.write(*lent, address, width, value, answers, log)
 
@@ -135,8 +135,9 @@ def row(event: int, result: Result) -> bytes:
     return b"%d\t%d\t%d\t%d\n" % (event, result.number, result.value, result.cycles)
 
 
-def run(text: bytes) -> bytes:
-    """Rule: "Output starts with the fixed header line ... Each line gives one tab-parted row"."""
+def run(table: Sequence[int], text: bytes) -> bytes:
+    """Rule: "Output starts with the fixed header line ... Each line gives one tab-parted row".
+    C-16: "the run over event lines takes" the table in force."""
     if len(text) > INPUT_LIMIT:
         return HEADER + row(0, TOO_LONG)
     unit = program_unit()
@@ -145,9 +146,14 @@ def run(text: bytes) -> bytes:
         # "A malformed line ... gives its row with 11, 0, 0, changes nothing, and the next
         # line is read."
         scanned = scan(line)
-        rows.append(row(event, unit.perform(*scanned) if scanned else MALFORMED))
+        rows.append(row(event, unit.perform(table, *scanned) if scanned else MALFORMED))
     return b"".join(rows)
 
 
+def run_program(text: bytes) -> bytes:
+    """Rule (C-16): "the program itself uses ours"."""
+    return run(board.TABLE, text)
+
+
 if __name__ == "__main__":
-    sys.stdout.buffer.write(run(sys.stdin.buffer.read(INPUT_LIMIT + 1)))
+    sys.stdout.buffer.write(run_program(sys.stdin.buffer.read(INPUT_LIMIT + 1)))
