@@ -29,12 +29,13 @@ out=target/host
 mkdir -p $out
 # The header must be C too.
 echo '#include "unit486.h"' | $cxx -x c -std=c11 -Wall -Wextra -Wpedantic -Werror -Ihost/include -fsyntax-only -
-for part in unit carrying program; do
+for part in unit carrying board program; do
     $cxx $flags ${CXXFLAGS_BASELINE:--O2} -c host/baseline/$part.cpp -o $out/baseline_$part.o
 done
-baseline="$out/baseline_unit.o $out/baseline_carrying.o $out/baseline_program.o"
+baseline="$out/baseline_unit.o $out/baseline_carrying.o $out/baseline_board.o $out/baseline_program.o"
 $cxx $flags -O2 host/example/example.cpp "$calls" -o $out/example
+$cxx $flags -O2 host/example/table.cpp "$calls" "$program" -o $out/table_example
 $cxx $flags -O2 host/differential.cpp $baseline "$calls" "$program" -o $out/differential
 $cxx $flags -O2 host/benchmark.cpp $baseline "$calls" "$program" -o $out/benchmark
 $cxx $flags -O2 host/rows.cpp $baseline -o $out/rows
-echo "built example, differential, benchmark and rows in $out/"
+echo "built example, table_example, differential, benchmark and rows in $out/"

@@ -45,10 +45,13 @@ int main(int argc, char **argv)
     series.carried_limits();
     series.carrying();
     series.carrying_byte_fills();
+    series.board();
+    series.table_limits();
     while (coverage.calls < calls) {
         series.hot(3000);
         series.refused(1500);
         series.planted(1000);
+        series.tables(50);
         series.events(100);
     }
     const bool met = coverage.report();

@@ -1,8 +1,10 @@
-// Holds the baseline to the model's stored rows: prints what crates/event_files and crates/replay must
-// print for the same files, so that the output can be compared with their file stdout.
+// Holds the baseline to the model's stored rows: prints what crates/event_files, crates/replay and
+// crates/table_files must print for the same files, so that the output can be compared with their file stdout.
 //
-//     rows events FILE..     each file's name, then the program's output for it
-//     rows calls FILE..      each file's name, then the row of each line of the call script
+//     rows events FILE..             each file's name, then the program's output for it
+//     rows calls FILE..              each file's name, then the row of each line of the call script
+//     rows tables EVENTS TABLE..     each table's name, then its loads, the board's answers and two runs over
+//                                    the event file, with the table in force and with the one of the junk row
 //
 // The lines of a script, and what a row has, are described in oracle/scripts/script_unit.py. A file that
 // cannot be read, and a line that is no script line, end the program with 2.
@@ -33,12 +35,58 @@ Bytes file_bytes(const std::string &name)
     return Bytes(std::istreambuf_iterator<char>(file), {});
 }
 
-void print_events(const std::string &name)
+// A block table: document 01's at first.
+struct Table {
+    uint8_t answers[UNIT486_BLOCKS];
+
+    Table() { baseline::block_answers(answers); }
+};
+
+void print_run(const Table &table, const Bytes &input)
 {
-    const Bytes input = file_bytes(name);
     Bytes output(UNIT486_OUTPUT_MOST);
-    const size_t length = baseline::run(input.data(), input.size(), output.data(), output.size());
+    const size_t length =
+        baseline::run(table.answers, input.data(), input.size(), output.data(), output.size());
     std::fwrite(output.data(), 1, length, stdout);
+}
+
+void print_events(const std::string &name) { print_run(Table(), file_bytes(name)); }
+
+void print_load(const char *row, Table &table, const Bytes &text)
+{
+    const uint32_t number = baseline::load_table(table.answers, text.data(), text.size());
+    std::printf("%s\t%" PRIu32, row, number);
+    for (const uint8_t answer : table.answers)
+        std::printf("\t%d", answer);
+    std::printf("\n");
+}
+
+// An access in three doublewords, the first of them the block's last: the first and the last of each sixteen
+// answers.
+void print_blocks(const Table &table)
+{
+    for (uint32_t block = 0; block < UNIT486_BLOCKS; ++block) {
+        uint8_t answers[UNIT486_ANSWERS];
+        baseline::board_answers(table.answers, (block + 1) * 1048576 - 3, 8, answers);
+        std::printf("board\t%" PRIu32, block);
+        for (const size_t k : {0, 15, 16, 31, 32, 47})
+            std::printf("\t%d", answers[k]);
+        std::printf("\n");
+    }
+}
+
+// A text loaded over the table in force, and over junk, which a refused load leaves.
+void print_table(Table &in_force, const std::string &name, const Bytes &events)
+{
+    const Bytes text = file_bytes(name);
+    print_load("load", in_force, text);
+    Table junk;
+    for (size_t block = 0; block < UNIT486_BLOCKS; ++block)
+        junk.answers[block] = static_cast<uint8_t>(255 - block);
+    print_load("junk", junk, text);
+    print_blocks(in_force);
+    print_run(in_force, events);
+    print_run(junk, events);
 }
 
 uint32_t adler32(const void *start, size_t count)
@@ -215,7 +263,7 @@ struct ScriptUnit {
             answer = static_cast<uint8_t>(answer - '0');
         if (letter == 'r' || letter == 'w') {
             answers.resize(UNIT486_ANSWERS);
-            baseline::board_answers(address, width, answers.data());
+            baseline::board_answers(Table().answers, address, width, answers.data());
         }
         unit486_buffers buffers = lent();
         if (letter == 'Q') {
@@ -317,7 +365,7 @@ struct ScriptUnit {
         uint32_t address = 0, width = 0;
         line >> address >> width;
         uint8_t answers[UNIT486_ANSWERS];
-        baseline::board_answers(address, width, answers);
+        baseline::board_answers(Table().answers, address, width, answers);
         std::printf("B\t");
         for (const uint8_t answer : answers)
             std::printf("%d", answer);
@@ -341,21 +389,34 @@ void print_calls(const std::string &name)
     }
 }
 
+void require_readable(const char *name)
+{
+    if (std::ifstream(name))
+        return;
+    std::fprintf(stderr, "rows: cannot read %s\n", name);
+    std::exit(2);
+}
+
 } // namespace
 
 int main(int argc, char **argv)
 {
-    if (argc < 3 || (std::strcmp(argv[1], "events") && std::strcmp(argv[1], "calls"))) {
-        std::fprintf(stderr, "usage: rows events FILE.. | rows calls FILE..\n");
+    const std::string mode = argc > 2 ? argv[1] : "";
+    const bool tables = mode == "tables" && argc > 3;
+    if (mode != "events" && mode != "calls" && !tables) {
+        std::fprintf(stderr, "usage: rows events FILE.. | rows calls FILE.. | rows tables EVENTS TABLE..\n");
         return 2;
     }
-    for (int k = 2; k < argc; ++k) {
+    for (int k = 2; k < argc; ++k)
+        require_readable(argv[k]);
+    const Bytes events = tables ? file_bytes(argv[2]) : Bytes();
+    Table in_force;
+    for (int k = tables ? 3 : 2; k < argc; ++k) {
         const std::string name = argv[k];
-        if (!std::ifstream(name)) {
-            std::fprintf(stderr, "rows: cannot read %s\n", name.c_str());
-            return 2;
-        }
         std::printf("%s\n", name.substr(name.rfind('/') + 1).c_str());
-        std::strcmp(argv[1], "events") == 0 ? print_events(name) : print_calls(name);
+        if (tables)
+            print_table(in_force, name, events);
+        else
+            mode == "events" ? print_events(name) : print_calls(name);
     }
 }

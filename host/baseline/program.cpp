@@ -4,6 +4,7 @@
 #include <limits>
 #include <memory>
 
+#include "fields.h"
 #include "unit.h"
 
 namespace baseline {
@@ -22,77 +23,6 @@ struct Event {
     bool second = false; // NW
     uint8_t bytes[pairs_limit];
     size_t count = 0; // of the bytes
-};
-
-// The fields of one line, read from left to right. A field takes what it can; whatever is left then
-// fails where a tab or the end of the line is asked for.
-struct Scanner {
-    const uint8_t *at;
-    const uint8_t *end;
-
-    bool done() const { return at == end; }
-
-    bool tab() { return at != end && *at++ == '\t'; }
-
-    // The number of at most `most` decimal digits, of which 19 always have one of 64 bits.
-    uint64_t digits(unsigned most)
-    {
-        uint64_t sum = 0;
-        for (; most > 0 && is_digit(); --most)
-            sum = sum * 10 + (*at++ - '0');
-        return sum;
-    }
-
-    bool is_digit() const { return at != end && *at >= '0' && *at <= '9'; }
-
-    // "1 to 10 decimal digits, up to 4,294,967,295"
-    bool number(uint32_t &number)
-    {
-        const uint8_t *first = at;
-        const uint64_t sum = digits(10);
-        number = static_cast<uint32_t>(sum);
-        return at != first && sum <= UINT32_MAX;
-    }
-
-    // Document 02: "any 64-bit number, 1 to 20 digits".
-    bool value(uint64_t &value)
-    {
-        const uint8_t *first = at;
-        value = digits(19);
-        if (at - first < 19 || !is_digit())
-            return at != first;
-        const uint64_t last = *at++ - uint64_t{'0'};
-        return !__builtin_mul_overflow(value, 10, &value) && !__builtin_add_overflow(value, last, &value);
-    }
-
-    // "one digit 0 or 1"
-    bool bit(bool &bit)
-    {
-        if (at == end || (*at != '0' && *at != '1'))
-            return false;
-        bit = *at++ == '1';
-        return true;
-    }
-
-    static int hex_digit(uint8_t c)
-    {
-        if (c >= '0' && c <= '9')
-            return c - '0';
-        return c >= 'A' && c <= 'F' ? c - 'A' + 10 : -1;
-    }
-
-    // "uppercase hex pairs; an empty field is well formed and gets 10"
-    bool pairs(uint8_t *bytes, size_t &count)
-    {
-        for (count = 0; end - at >= 2; at += 2) {
-            const int high = hex_digit(at[0]);
-            const int low = hex_digit(at[1]);
-            if (high < 0 || low < 0)
-                return false;
-            bytes[count++] = static_cast<uint8_t>(high * 16 + low);
-        }
-        return true;
-    }
 };
 
 // "R address width PCD; W address width value; X address bytes ...; S address; F; C CD NW; Z (reset)"
@@ -116,12 +46,11 @@ static bool fields_of(Scanner &scan, Event &event)
 }
 
 // "A malformed line, also an empty or overlong one"
-static void scan_line(const uint8_t *line, const uint8_t *end, Event &event)
+static void scan_line(Scanner scan, Event &event)
 {
     event.letter = 0;
-    if (line == end || static_cast<size_t>(end - line) > line_limit)
+    if (scan.done() || static_cast<size_t>(scan.end - scan.at) > line_limit)
         return;
-    Scanner scan{line, end};
     event.letter = static_cast<char>(*scan.at++);
     if (!fields_of(scan, event) || !scan.done())
         event.letter = 0;
@@ -129,6 +58,7 @@ static void scan_line(const uint8_t *line, const uint8_t *end, Event &event)
 
 // "The program has 65,536 zero RAM bytes, zero parity, a zero data array, a reset directory."
 struct Unit {
+    const uint8_t *table; // of the board
     Directory directory;
     uint8_t ram[ram_bytes];
     uint8_t parity[ram_bytes / 4];
@@ -139,7 +69,7 @@ struct Unit {
         unit486_buffers lent{ram, sizeof ram, parity, sizeof parity, data, sizeof data};
         uint8_t answers[UNIT486_ANSWERS];
         uint32_t log[UNIT486_LOG_WORDS];
-        board_answers(event.address, event.width, answers);
+        board_answers(table, event.address, event.width, answers);
         if (event.letter == 'R')
             return read(directory, lent, event.address, event.width, event.first, answers, UNIT486_ANSWERS,
                 log, UNIT486_LOG_WORDS);
@@ -200,7 +130,9 @@ struct Text {
     }
 };
 
-size_t run(const uint8_t *input, size_t input_length, uint8_t *output, size_t output_length)
+// Document 02: "the run over event lines takes it", the table in force.
+size_t run(
+    const uint8_t *table, const uint8_t *input, size_t input_length, uint8_t *output, size_t output_length)
 {
     static constexpr char header[] = "event\tanswer\tvalue\tcycles\n";
     Text text{output, output_length};
@@ -211,16 +143,13 @@ size_t run(const uint8_t *input, size_t input_length, uint8_t *output, size_t ou
         return text.length;
     }
     const auto unit = std::make_unique<Unit>();
+    unit->table = table;
     reset(unit->directory);
-    const uint8_t *end = input + input_length;
+    TextLines lines{input, input + input_length};
     Event event;
-    uint32_t row = 0;
-    for (const uint8_t *line = input; line != end;) {
-        const void *newline = std::memchr(line, '\n', static_cast<size_t>(end - line));
-        const uint8_t *stop = newline ? static_cast<const uint8_t *>(newline) : end;
-        scan_line(line, stop, event);
-        text.put_row(++row, unit->perform(event));
-        line = newline ? stop + 1 : end; // "the last newline optional"
+    for (uint32_t row = 1; !lines.done(); ++row) {
+        scan_line(lines.next(), event);
+        text.put_row(row, unit->perform(event));
     }
     return text.length;
 }

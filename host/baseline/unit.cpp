@@ -186,22 +186,4 @@ unit486_test_line test_read(
     return line;
 }
 
-// "The block is (address / 1,048,576) mod 16."
-static uint8_t answer_at(uint64_t address)
-{
-    static constexpr uint8_t table[16] = {1, 1, 1, 1, 1, 1, 1, 1, 5, 5, 5, 5, 4, 4, 2, 3};
-    return table[address / 1048576 % 16];
-}
-
-// "repeated 16 times for each doubleword"; document 02: "the third group from its own doubleword, or from the
-// lowest where there is none", and so is the second. A width that will be refused has the lowest alone.
-void board_answers(uint32_t address, uint32_t width, uint8_t *answers)
-{
-    const uint64_t lowest = address;
-    const uint32_t end = good_width(width) ? address % 4 + width : 4;
-    std::memset(answers, answer_at(lowest), group_answers);
-    std::memset(answers + group_answers, answer_at(end > 4 ? lowest + 4 : lowest), group_answers);
-    std::memset(answers + 2 * group_answers, answer_at(end > 8 ? lowest + 8 : lowest), group_answers);
-}
-
 } // namespace baseline

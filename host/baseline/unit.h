@@ -30,9 +30,12 @@ uint32_t test_write(Directory &directory, unit486_buffers &lent, uint32_t set, u
 unit486_test_line test_read(
     const Directory &directory, const unit486_buffers &lent, uint32_t set, uint32_t way);
 
-void board_answers(uint32_t address, uint32_t width, uint8_t *answers);
+void block_answers(uint8_t *table);
+uint32_t load_table(uint8_t *table, const uint8_t *text, size_t length);
+void board_answers(const uint8_t *table, uint32_t address, uint32_t width, uint8_t *answers);
 
 // The event program: puts as much of the output as fits, answers its whole length.
-size_t run(const uint8_t *input, size_t input_length, uint8_t *output, size_t output_length);
+size_t run(
+    const uint8_t *table, const uint8_t *input, size_t input_length, uint8_t *output, size_t output_length);
 
 } // namespace baseline

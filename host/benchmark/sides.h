@@ -98,8 +98,10 @@ struct Library {
     static uint32_t control(Side &side, bool cd, bool nw) { return unit486_control(&side.directory, cd, nw); }
     static size_t run(const std::string &text, std::vector<uint8_t> &output)
     {
+        uint8_t table[UNIT486_BLOCKS];
+        unit486_block_answers(table);
         return unit486_run(
-            reinterpret_cast<const uint8_t *>(text.data()), text.size(), output.data(), output.size());
+            table, reinterpret_cast<const uint8_t *>(text.data()), text.size(), output.data(), output.size());
     }
 };
 
@@ -140,7 +142,9 @@ struct Baseline {
     }
     static size_t run(const std::string &text, std::vector<uint8_t> &output)
     {
+        uint8_t table[UNIT486_BLOCKS];
+        baseline::block_answers(table);
         return baseline::run(
-            reinterpret_cast<const uint8_t *>(text.data()), text.size(), output.data(), output.size());
+            table, reinterpret_cast<const uint8_t *>(text.data()), text.size(), output.data(), output.size());
     }
 };

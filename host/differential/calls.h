@@ -24,15 +24,19 @@ enum class Kind {
     view_number,
     test_write,
     test_read,
+    block_answers,
+    load_table,
+    load_table_by_value,
     board_answers,
     run,
 };
 
-constexpr size_t kinds = 18;
+constexpr size_t kinds = 21;
 
 constexpr const char *kind_names[kinds] = {"reset", "reset_by_value", "control", "control_by_value", "flush",
     "snoop", "drop_line", "external_write", "read", "read_carrying", "read_carrying_none", "write", "view",
-    "view_number", "test_write", "test_read", "board_answers", "run"};
+    "view_number", "test_write", "test_read", "block_answers", "load_table", "load_table_by_value",
+    "board_answers", "run"};
 
 // The arguments that are not lent; each call takes those that it receives.
 struct Call {
@@ -106,7 +110,7 @@ inline unit486_result call_library(Side &side, const Call &call)
         side.line = unit486_test_read(directory, &lent, call.set, call.way);
         return number_only(side.line.number);
     default:
-        unit486_board_answers(call.address, call.width, side.answers.start());
+        unit486_board_answers(side.table.start(), call.address, call.width, side.answers.start());
         return number_only(UNIT486_DONE);
     }
 }
@@ -146,7 +150,7 @@ inline unit486_result call_baseline(Side &side, const Call &call)
         side.line = baseline::test_read(directory, lent, call.set, call.way);
         return number_only(side.line.number);
     default:
-        baseline::board_answers(call.address, call.width, side.answers.start());
+        baseline::board_answers(side.table.start(), call.address, call.width, side.answers.start());
         return number_only(UNIT486_DONE);
     }
 }
@@ -184,6 +188,7 @@ inline void print_call(const Call &call, const Side &side)
     std::printf("  RAM %zu bytes, parity %zu, data array %zu, log %zu words\n", side.ram.length,
         side.parity.length, side.data.length, side.log.length);
     print_bytes("answers", side.answers);
+    print_bytes("block table", side.table);
     print_bytes("bytes of an external write or a test write", side.bytes);
     print_carried(call.carried);
 }

@@ -3,6 +3,7 @@
 
 #include <string>
 
+#include "fields.h"
 #include "random.h"
 
 class EventText {
@@ -39,7 +40,7 @@ private:
         case 0: return "";
         case 1: return overlong();
         case 2: return wrong_field();
-        default: return changed(well_formed());
+        default: return changed(random, well_formed());
         }
     }
 
@@ -65,7 +66,7 @@ private:
         const uint32_t bytes = width();
         const bool fits = random.percent(90) && bytes >= 1 && bytes <= 8;
         return "W\t" + number(address()) + "\t" + number(bytes) + "\t" +
-               padded(random.of_bytes(fits ? bytes : random.between(1, 8)), 20);
+               padded(random, random.of_bytes(fits ? bytes : random.between(1, 8)), 20);
     }
 
     // A value of 1 to 21 digits, many of them near the limit of 64 bits.
@@ -100,16 +101,7 @@ private:
 
     std::string bit() { return random.percent(70) ? "0" : "1"; }
 
-    std::string number(uint32_t value) { return padded(value, 10); }
-
-    // Sometimes with leading zeros, up to so many digits.
-    std::string padded(uint64_t value, size_t most)
-    {
-        std::string digits = std::to_string(value);
-        while (digits.size() < most && random.percent(5))
-            digits.insert(0, "0");
-        return digits;
-    }
+    std::string number(uint32_t value) { return padded(random, value, 10); }
 
     std::string pairs(uint32_t count)
     {
@@ -144,18 +136,5 @@ private:
         case 4: return std::string("X\t0") + random.pick({"", "\tA", "\taa", "\tAG", "\tAA\t", "\t AA"});
         default: return std::string("R\t0\t4\t") + random.pick({"", "2", "00", "1\r", "1\t"});
         }
-    }
-
-    // One byte put in, taken out or replaced. What comes out may be well formed.
-    std::string changed(std::string made)
-    {
-        const char byte = random.pick({'\t', ' ', '0', '9', 'A', 'a', 'R', '\r', '\0', '\xff', '-', '\n'});
-        const uint32_t at = random.below(static_cast<uint32_t>(made.size()));
-        switch (random.below(3)) {
-        case 0: made.insert(at, 1, byte); break;
-        case 1: made.erase(at, 1); break;
-        default: made[at] = byte;
-        }
-        return made;
     }
 };

@@ -122,7 +122,7 @@ private:
         }
     }
 
-    // ---- the board table ----
+    // ---- the board ----
 
     void note_board()
     {
@@ -132,7 +132,10 @@ private:
         coverage.note(board_with_own_third_group, third && !second);
         coverage.note(board_with_own_second_and_third, second && third);
         uint8_t next[UNIT486_ANSWERS];
-        baseline::board_answers(call.address + 4, 1, next);
+        baseline::board_answers(side.table.start(), call.address + 4, 1, next);
         coverage.note(board_of_refused_width, !baseline::good_width(call.width) && next[0] != answers[0]);
+        const uint32_t block = call.address / 1048576 % UNIT486_BLOCKS;
+        coverage.note(board_from_last_block_to_first, second && block == UNIT486_BLOCKS - 1);
+        coverage.note(board_answer_above_7, answers[0] > 7);
     }
 };

@@ -8,7 +8,9 @@
 
 #include "calls.h"
 #include "coverage.h"
+#include "fields.h"
 #include "sides.h"
+#include "table_text.h"
 
 class Runs {
 public:
@@ -17,17 +19,19 @@ public:
     }
 
     // One run, into a buffer that may be too short.
-    void check(const std::string &text)
+    void check(const BlockTable &table, const std::string &text)
     {
         Texts baseline;
+        baseline.table.make_of(table, random);
         lend(text, baseline);
         Texts library = baseline;
-        library.whole = unit486_run(
-            library.input.start(), library.input.length, library.output.start(), library.output.length);
-        baseline.whole = baseline::run(
-            baseline.input.start(), baseline.input.length, baseline.output.start(), baseline.output.length);
+        library.whole = unit486_run(library.table.start(), library.input.start(), library.input.length,
+            library.output.start(), library.output.length);
+        baseline.whole = baseline::run(baseline.table.start(), baseline.input.start(), baseline.input.length,
+            baseline.output.start(), baseline.output.length);
         ++coverage.calls;
         compare(library, baseline);
+        note_table(table);
         note(text, baseline);
     }
 
@@ -38,14 +42,13 @@ private:
 
     // What one side is lent, and the length of its whole output.
     struct Texts {
-        Lent<uint8_t> input, output;
+        Lent<uint8_t> table, input, output;
         size_t whole = 0;
     };
 
     void lend(const std::string &text, Texts &texts)
     {
-        texts.input.make(text.size(), random);
-        std::memcpy(texts.input.start(), text.data(), text.size());
+        texts.input.make_of(text, random);
         const size_t lines = static_cast<size_t>(std::count(text.begin(), text.end(), '\n')) + 1;
         const size_t enough = 26 + 54 * lines; // the header and the longest rows
         texts.output.make(enough, random);
@@ -59,15 +62,27 @@ private:
         std::string found = library.output.difference(baseline.output);
         if (found.empty())
             found = library.input.difference(baseline.input);
+        if (found.empty())
+            found = library.table.difference(baseline.table);
         if (found.empty() && library.whole == baseline.whole)
             return;
         print_mismatch(coverage.calls, seed, "events", found.empty() ? "length of the output" : found);
         std::printf("  whole output: library %zu, baseline %zu; lent %zu bytes\n", library.whole,
             baseline.whole, baseline.output.length);
+        print_bytes("block table", baseline.table);
         std::printf("  input of %zu bytes:\n", baseline.input.length);
         std::fwrite(baseline.input.start(), 1, baseline.input.length, stdout);
         std::printf("\n");
         std::exit(1);
+    }
+
+    // RAM is in block 0: its answer decides alone, and the rows have 6 where it is above 7.
+    void note_table(const BlockTable &table)
+    {
+        const bool good = table[0] <= 7;
+        coverage.note(run_with_our_table, table == our_table());
+        coverage.note(run_with_other_block_0, good && table[0] != our_table()[0]);
+        coverage.note(run_with_junk_past_block_0, good && *std::max_element(table.begin(), table.end()) > 7);
     }
 
     void note(const std::string &text, const Texts &baseline)
@@ -86,11 +101,6 @@ private:
             std::getline(lines, line);
             note_row(line, row);
         }
-    }
-
-    static bool are_digits(const std::string &field, size_t most)
-    {
-        return !field.empty() && field.size() <= most && field.find_first_not_of("0123456789") == field.npos;
     }
 
     void note_row(const std::string &line, const std::string &row)

@@ -12,9 +12,11 @@
 #include "carried_notes.h"
 #include "coverage.h"
 #include "event_text.h"
+#include "loads.h"
 #include "operand_notes.h"
 #include "runs.h"
 #include "sides.h"
+#include "table_text.h"
 
 class Series {
 public:
@@ -204,12 +206,47 @@ public:
         }
     }
 
-    // The event program on random lines.
+    // The board's answers for every width, on either side of the start of each block. That of block 0 is
+    // also where addresses end.
+    void board()
+    {
+        name = "board";
+        make_sides(2048);
+        for (uint32_t block = 0; block <= UNIT486_BLOCKS; ++block)
+            for (uint32_t back = 0; back < 12; ++back)
+                for (const uint32_t width : {0u, 1u, 2u, 3u, 4u, 5u, 7u, 8u, 9u, 16u, UINT32_MAX}) {
+                    Call call = next_call(Kind::board_answers);
+                    call.address = block * 1048576 - back;
+                    call.width = width;
+                    check(call);
+                }
+    }
+
+    // Texts of block tables on either side of every limit.
+    void table_limits()
+    {
+        Loads made(seed, random, coverage);
+        made.check_good_lines();
+        made.check_wrong_lines();
+        made.check_counts();
+        made.check_long_texts();
+    }
+
+    // Random texts of block tables.
+    void tables(uint32_t loads)
+    {
+        Loads made(seed, random, coverage);
+        made.check_block_answers();
+        for (uint32_t k = 0; k < loads; ++k)
+            made.check(random_table_text(random));
+    }
+
+    // The event program on random lines, with a table of its own for each run.
     void events(uint32_t runs)
     {
         Runs made(seed, random, coverage);
         for (uint32_t k = 0; k < runs; ++k)
-            made.check(EventText(random).text());
+            made.check(random_table(random), EventText(random).text());
     }
 
 private:
@@ -239,6 +276,7 @@ private:
         side.parity.make(parity_length + 32, random);
         side.data.make(UNIT486_DATA_BYTES + 32, random);
         side.answers.make(64, random);
+        side.table.make_of(random_table(random), random);
         side.bytes.make(64, random);
         side.shown.make(16, random);
         side.log.make(176, random);
@@ -458,11 +496,8 @@ private:
         call.pcd = random.percent(15);
         call.cd = random.percent(25);
         call.nw = random.percent(call.cd ? 50 : 10);
-        // The table changes at the ends of blocks only, and no width is refused here.
-        if (call.kind == Kind::board_answers && random.percent(70)) {
-            call.address = random.below(4097) * 1048576 + random.below(16) - 12;
-            call.width = random.pick({0u, 1u, 2u, 3u, 4u, 5u, 6u, 7u, 8u, 8u, 9u, 16u, UINT32_MAX});
-        }
+        if (kind == Kind::board_answers)
+            choose_block(call);
         choose_line(call);
         if (kind == Kind::read_carrying || kind == Kind::read_carrying_none)
             call.carried = none_carried(random);
@@ -470,6 +505,18 @@ private:
             carry(call, random.below(UNIT486_CARRIED_MOST + 1));
         lend_contents(call);
         return call;
+    }
+
+    // A table, which is in force from here on. The answer changes at the ends of blocks only, and no width is
+    // refused here.
+    void choose_block(Call &call)
+    {
+        const BlockTable table = random_table(random);
+        sides.both([&](Side &side) { std::copy(table.begin(), table.end(), side.table.start()); });
+        if (!random.percent(70))
+            return;
+        call.address = random.below(4097) * 1048576 + random.below(16) - 12;
+        call.width = random.pick({0u, 1u, 2u, 3u, 4u, 5u, 6u, 7u, 8u, 8u, 9u, 16u, UINT32_MAX});
     }
 
     // Writes in cycle order: half of them in the lines of the access.
@@ -586,7 +633,7 @@ private:
             for (uint32_t k = 0; k < 64; ++k)
                 answers[k] = static_cast<uint8_t>((k % 16 == 0) | (answers[k] & 6));
         else if (roll >= 80)
-            baseline::board_answers(call.address, call.width, answers);
+            baseline::board_answers(sides.baseline.table.start(), call.address, call.width, answers);
     }
 
     // ---- calls on both sides ----

@@ -1,6 +1,7 @@
 // All that calls are lent, twice: once for the library, once for the baseline.
 #pragma once
 
+#include <algorithm>
 #include <cstring>
 #include <string>
 #include <vector>
@@ -26,6 +27,13 @@ public:
             element = static_cast<T>(random.word());
     }
 
+    // As long as these elements, and with them.
+    template <class Elements> void make_of(const Elements &elements, Random &random)
+    {
+        make(elements.size(), random);
+        std::copy(elements.begin(), elements.end(), start());
+    }
+
     // The index of the first element that differs, counted from the lent start; empty if none does.
     std::string difference(const Lent &other) const
     {
@@ -47,7 +55,7 @@ private:
 
 struct Side {
     unit486_directory directory;
-    Lent<uint8_t> ram, parity, data, answers, bytes, shown;
+    Lent<uint8_t> ram, parity, data, answers, table, bytes, shown;
     Lent<uint32_t> log;
     unit486_test_line line{}; // of the last test read
 
@@ -113,7 +121,8 @@ struct Sides {
             const char *name;
             Lent<uint8_t> Side::*buffer;
         } buffers[] = {{"RAM", &Side::ram}, {"parity array", &Side::parity}, {"data array", &Side::data},
-            {"answers", &Side::answers}, {"bytes", &Side::bytes}, {"view", &Side::shown}};
+            {"answers", &Side::answers}, {"block table", &Side::table}, {"bytes", &Side::bytes},
+            {"view", &Side::shown}};
         for (const auto &[name, buffer] : buffers) {
             const std::string differs = (library.*buffer).difference(baseline.*buffer);
             if (!differs.empty())

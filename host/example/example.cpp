@@ -1,9 +1,10 @@
 // A host's first steps: compare versions, fill a line, hit it, let another master write, read the new byte;
-// then a floating-point number of eight bytes, a fieldbus card that writes during a fill, and a diagnostic
-// disk's test of the cache. Ends with 1 if a step is not as unit486.h says.
+// then a floating-point number of eight bytes, a fieldbus card that writes during a fill, a plant's own block
+// table, and a diagnostic disk's test of the cache. Ends with 1 if a step is not as unit486.h says.
 #include <cinttypes>
 #include <cstdio>
 #include <cstring>
+#include <string>
 #include <vector>
 
 #include "unit486.h"
@@ -27,15 +28,18 @@ static void expect_number(const char *step, uint32_t seen, unit486_number docume
         std::printf("  refused: %s\n", unit486_number_text(seen));
 }
 
-// All that the unit works on is the host's: here 64 KB of zero bytes, with which zero parity agrees.
+// All that the unit works on is the host's: here 64 KB of zero bytes, with which zero parity agrees, and a
+// board with document 01's answers.
 struct Host {
     std::vector<uint8_t> ram, parity, data;
+    uint8_t table[UNIT486_BLOCKS];
     uint32_t log[UNIT486_LOG_WORDS];
     unit486_directory directory;
     unit486_buffers lent;
 
     Host() : ram(65536), parity(65536 / 4), data(UNIT486_DATA_BYTES)
     {
+        unit486_block_answers(table);
         unit486_reset(&directory);
         lent = {ram.data(), ram.size(), parity.data(), parity.size(), data.data(), data.size()};
     }
@@ -44,7 +48,7 @@ struct Host {
     unit486_result read(uint32_t address, uint32_t width)
     {
         uint8_t answers[UNIT486_ANSWERS];
-        unit486_board_answers(address, width, answers);
+        unit486_board_answers(table, address, width, answers);
         return unit486_read(
             &directory, &lent, address, width, false, answers, UNIT486_ANSWERS, log, UNIT486_LOG_WORDS);
     }
@@ -53,7 +57,7 @@ struct Host {
     unit486_result read_carrying(uint32_t address, uint32_t width, const unit486_carried_writes &carried)
     {
         uint8_t answers[UNIT486_ANSWERS];
-        unit486_board_answers(address, width, answers);
+        unit486_board_answers(table, address, width, answers);
         return unit486_read_carrying(&directory, &lent, address, width, false, answers, UNIT486_ANSWERS, log,
             UNIT486_LOG_WORDS, &carried);
     }
@@ -61,7 +65,7 @@ struct Host {
     unit486_result write(uint32_t address, uint32_t width, uint64_t value)
     {
         uint8_t answers[UNIT486_ANSWERS];
-        unit486_board_answers(address, width, answers);
+        unit486_board_answers(table, address, width, answers);
         return unit486_write(
             &directory, &lent, address, width, value, answers, UNIT486_ANSWERS, log, UNIT486_LOG_WORDS);
     }
@@ -181,6 +185,27 @@ static void card_writes_during_fill(Host &host)
         host.read_carrying(batch_address, 1, carried).number, UNIT486_WRONG_CARRIED_WRITES);
 }
 
+// A board whose memory is eight bits wide: block 0 answers KEN# and BS8#, so that a fill has sixteen cycles.
+// A text of which only the first line has come is refused and leaves the table.
+static void plant_table(Host &host)
+{
+    std::string text = "0\t3\n";
+    for (uint32_t block = 1; block < UNIT486_BLOCKS; ++block)
+        text += std::to_string(block) + "\t1\n";
+    const uint8_t *bytes = reinterpret_cast<const uint8_t *>(text.data());
+    expect_number("load of the plant's table: number", unit486_load_table(host.table, bytes, text.size()),
+        UNIT486_DONE);
+    expect("  the answer of block 0", host.table[0], UNIT486_KEN | UNIT486_BS8);
+    unit486_flush(&host.directory);
+    expect("read with this table, a fill: cycles", host.read(address, 4).cycles, 16);
+
+    expect_number("load of its first line alone: number", unit486_load_table(host.table, bytes, 4),
+        UNIT486_WRONG_TABLE_LINE);
+    expect("  the answer of block 0, as it was", host.table[0], UNIT486_KEN | UNIT486_BS8);
+    unit486_block_answers(host.table);
+    expect("document 01's table: the answer of block 0", host.table[0], UNIT486_KEN);
+}
+
 // A line planted and read back, as a diagnostic disk does it. Its tag and set are those of an address in RAM,
 // where other bytes stand: reads there differ from RAM until the flush ends what was planted.
 static void cache_test(Host &host)
@@ -227,6 +252,7 @@ int main(int argc, char **)
     another_master(host);
     eight_bytes(host);
     card_writes_during_fill(host);
+    plant_table(host);
     cache_test(host);
     std::printf(all_as_documented ? "all as documented\n" : "NOT as documented\n");
     return all_as_documented ? 0 : 1;

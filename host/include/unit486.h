@@ -1,6 +1,6 @@
 /* The 486 cache and bus unit, for a host in C (C11) or C++ (C++17). The rules are document 01's; those of
-   the test calls, of carried writes, of a flush and of eight-byte operands are document 02's, requests C-11,
-   C-12, C-14 and C-15.
+   the test calls, of carried writes, of a flush, of eight-byte operands and of loaded block tables are
+   document 02's, requests C-11, C-12, C-14, C-15 and C-16.
 
    Link with target/staticlib/libhost.a, which `rt staticlib host` writes for x86-64; a host that calls
    unit486_run links target/staticlib/libprogram.a too, which `rt staticlib program` writes. The unit
@@ -12,7 +12,9 @@
 
    NAMES. unit486_X is the call X on a whole directory, which it changes in place. unit486_X_in_place is
    the same call on the directory's arrays; unit486_X makes it, inline. unit486_X_by_value takes and
-   gives whole directories, as copies.
+   gives whole directories, as copies. A call that is lent no directory has its plain name.
+   unit486_load_table changes the table that it is lent; unit486_load_table_by_value leaves that as it is and
+   gives the table in force, as a copy.
 
    WHO OWNS WHAT. All of it is the caller's:
 
@@ -25,6 +27,8 @@
      answers     48 bytes, one for each cycle: 1 for KEN# + 2 for BS8# + 4 for BS16#; 0 to 15 serve the
                  lowest doubleword of an access, 16 to 31 the next one, 32 to 47 the third. All are lent,
                  and tested, for every width; those of a doubleword that is not touched serve no cycle
+     table       16 bytes, the board's answer for each block of 1 MiB: that of an address is number
+                 (address / 1,048,576) mod 16. A host begins with unit486_block_answers
      log         144 words or more for every width; each cycle leaves three: doubleword address, flags, and
                  data, where byte k of the doubleword stands in bits 8k to 8k + 7 and unmoved bytes are 0.
                  Words from 3 * cycles on are unchanged
@@ -41,7 +45,8 @@
    nothing lent has changed, the directory is as it was given, and value and count are 0. Lowest first, but
    33 comes after 10 and before 21: 1 to 10, 33, 21 to 23. Where several sets are touched, all of one comes
    before the next: the access's own sets, the lower address's first, then those of carried writes in list
-   order. Each only from calls that receive the thing. A test call answers 3, 31 or 32, lowest first.
+   order. Each only from calls that receive the thing. A test call answers 3, 31 or 32, lowest first; a load
+   34, 35 or 36, as told below.
 
    CARRIED WRITES, for fieldbus cards, which write while a line is coming in. unit486_read_carrying is
    unit486_read with up to four external writes that land during it, each numbered by the cycle before which
@@ -62,6 +67,15 @@
    number, and what is left at the end: a wanted byte is what that memory holds at the cycle that moves it,
    or at the lookup for a hit. The records tell where the cycles fall: each doubleword that missed has a
    group of them, which ends with UNIT486_FLAG_LAST and starts at the doubleword's own address.
+
+   BLOCK TABLES, for plants whose board does not answer as document 01's does. A load reads the plant's table
+   from a text of sixteen lines, each a block and its answer, parted by a tab, blocks ascending from 0. A
+   number has 1 to 10 decimal digits, up to 4,294,967,295; the newline of the last line is optional. The text
+   may have any length, and is checked whole before the table changes. 34 to 36, which only a load answers,
+   are of the earliest bad line, and the lowest of them there: 36 in line 3 comes before 34 in line 5. A
+   missing line is bad in its place, after the lines that are there; any seventeenth, also an empty one, is
+   bad. Loaded: each block has exactly the answer on its line. Refused: the table is as it was, whatever bytes
+   it holds.
 
    TEST CALLS, for diagnostic disks, which load cache lines by hand and read them back. Both work only with
    CD = 1 and look at no state of a set, so that a disk sees what the directory holds, ill formed or not.
@@ -84,7 +98,7 @@ extern "C" {
 #endif
 
 /* Of this header's layout and calls. */
-#define UNIT486_VERSION 9
+#define UNIT486_VERSION 10
 
 enum {
     UNIT486_SETS = 128,
@@ -97,6 +111,7 @@ enum {
     UNIT486_RAM_MOST = 16777216,
     UNIT486_ANSWERS = 48,
     UNIT486_LOG_WORDS = 144,
+    UNIT486_BLOCKS = 16,          /* answers of a block table */
     UNIT486_CARRIED_MOST = 4,     /* external writes that a read may carry */
     UNIT486_INPUT_MOST = 65536,   /* bytes of event lines that unit486_run runs */
     UNIT486_OUTPUT_MOST = 3539024 /* bytes that are enough for the output of every input */
@@ -121,7 +136,10 @@ enum unit486_number {
     UNIT486_LARGE_LRU = 23,            /* the LRU number of a touched set is above 7 */
     UNIT486_TEST_WITH_CD_0 = 31,       /* this and the next from test calls only */
     UNIT486_WRONG_TEST_LINE = 32,      /* set above 127, way above 3, or a test write's tag above 2,097,151 */
-    UNIT486_WRONG_CARRIED_WRITES = 33  /* more than four, not in cycle order, or one that 10 would refuse */
+    UNIT486_WRONG_CARRIED_WRITES = 33, /* more than four, not in cycle order, or one that 10 would refuse */
+    UNIT486_WRONG_TABLE_LINE = 34,     /* malformed, missing, seventeenth; this and the next two from loads */
+    UNIT486_WRONG_TABLE_BLOCK = 35,    /* of a line: not its place from 0, as a repeated one is not */
+    UNIT486_LARGE_TABLE_ANSWER = 36    /* of a line: above 7 */
 };
 
 /* Bits of an answer. */
@@ -185,6 +203,13 @@ typedef struct unit486_carried_writes {
     uint8_t bytes[4][16];
 } unit486_carried_writes;
 
+/* What a load by value answers: the table in force, which is the given one where the load was refused, and
+   the number. */
+typedef struct unit486_loaded_table {
+    uint8_t table[16];
+    uint32_t number;
+} unit486_loaded_table;
+
 static_assert(sizeof(bool) == 1, "a valid mark is one byte");
 static_assert(offsetof(unit486_directory, tags) == 0, "layout of the directory");
 static_assert(offsetof(unit486_directory, valid) == 2048, "layout of the directory");
@@ -212,11 +237,14 @@ static_assert(offsetof(unit486_carried_writes, addresses) == 20, "layout of carr
 static_assert(offsetof(unit486_carried_writes, lengths) == 36, "layout of carried writes");
 static_assert(offsetof(unit486_carried_writes, bytes) == 52, "layout of carried writes");
 static_assert(sizeof(unit486_carried_writes) == 116, "layout of carried writes");
+static_assert(offsetof(unit486_loaded_table, table) == 0, "layout of a loaded table");
+static_assert(offsetof(unit486_loaded_table, number) == 16, "layout of a loaded table");
+static_assert(sizeof(unit486_loaded_table) == 20, "layout of a loaded table");
 
 /* A pointer and its length stand together below. */
 /* clang-format off */
 
-/* ---- The libraries' functions. tags and valid have 512 elements each, lru has 128. ---- */
+/* ---- The libraries' functions. tags and valid have 512 elements each, lru has 128, table has 16. ---- */
 
 /* The UNIT486_VERSION of libhost.a. Every version has this call. */
 uint32_t unit486_version(void);
@@ -303,16 +331,32 @@ unit486_outcome unit486_reset_by_value(void);
 /* The same snoop as unit486_snoop, by way of copies of the directory: document 01's thin call. */
 uint32_t unit486_drop_line(unit486_directory *directory, uint32_t address);
 
-/* The board table's 48 answers for an access, into answers, which has room for 48: for each doubleword
-   sixteen times that of its block. Where the access has no second or no third doubleword, those sixteen are
-   the lowest's. Never refused; for a width other than 1, 2, 4 and 8 all 48 are the answer of the address's
-   own block. */
-void unit486_board_answers(uint32_t address, uint32_t width, uint8_t *answers);
+/* Document 01's sixteen answers into table, which has room for 16: those of the program unit486. Never
+   refused. */
+void unit486_block_answers(uint8_t *table);
 
-/* The event program on lines in memory, in libprogram.a: puts as much of the output as fits, answers its
-   whole length (at most UNIT486_OUTPUT_MOST). Bytes past the output are unchanged. The program's own RAM,
-   parity, data array and directory are on the stack, some 93 KB: give a thread 128 KB or more. */
-size_t unit486_run(const uint8_t *input, size_t input_length, uint8_t *output, size_t output_length);
+/* The sixteen answers of a text into table, or 34 to 36 and table as it was. */
+uint32_t unit486_load_table(uint8_t *table, const uint8_t *text, size_t text_length);
+
+/* The same load, which gives the table in force: the sixteen answers of the text or, refused, those of
+   table. */
+unit486_loaded_table unit486_load_table_by_value(
+    const uint8_t *table, const uint8_t *text, size_t text_length);
+
+/* The 48 answers that a board with this table has for an access, into answers, which has room for 48: for
+   each doubleword sixteen times that of its block. Where the access has no second or no third doubleword,
+   those sixteen are the lowest's. Never refused; for a width other than 1, 2, 4 and 8 all 48 are the answer
+   of the address's own block. What stands in the table is given as it is: an access that gets an answer
+   above 7 answers 6. */
+void unit486_board_answers(const uint8_t *table, uint32_t address, uint32_t width, uint8_t *answers);
+
+/* The event program on lines in memory and on a board with this table, in libprogram.a: puts as much of the
+   output as fits, answers its whole length (at most UNIT486_OUTPUT_MOST). Bytes past the output are
+   unchanged. Its RAM is in block 0: where the table's answer there is above 7, each R and W line that meets
+   neither 4 nor 5 has 6. The program's own RAM, parity, data array and directory are on the stack, some
+   93 KB: give a thread 128 KB or more. */
+size_t unit486_run(
+    const uint8_t *table, const uint8_t *input, size_t input_length, uint8_t *output, size_t output_length);
 
 #ifdef __cplusplus
 }
@@ -455,6 +499,9 @@ static inline const char *unit486_number_text(uint32_t number)
         return "test call with a set above 127, a way above 3 or a tag above 2,097,151";
     case UNIT486_WRONG_CARRIED_WRITES:
         return "over 4 carried writes, out of cycle order, or one that 10 would refuse";
+    case UNIT486_WRONG_TABLE_LINE: return "a line of the table is malformed, missing or the seventeenth";
+    case UNIT486_WRONG_TABLE_BLOCK: return "a block of the table is wrong or repeated";
+    case UNIT486_LARGE_TABLE_ANSWER: return "an answer of the table is above 7";
     default: return "no number of this unit";
     }
 }
