@@ -1,13 +1,13 @@
 -- A loaded table gives each block the answer on its line; a rejected one leaves the given table.
 use Prim.Native.Nat.{ℕ, zero, suc, _+_, _≤_, _<_}
 use mathlib.Core.Path.{_≡_, refl, sym, ap, _∙_}
-use mathlib.Core.Bool.{Bool, true, false, cond}
+use mathlib.Core.Bool.{true, false, cond}
 use mathlib.Core.List.{List, [], _∷_}
 use native.Mathlib.Nat.{zero-add}
 use native.Mathlib.Omega.{arith}
 use lib.Dec.{eqb, ltb}
 use lib.ListN.{length, getD}
-use borrow.Author.Tests.{eqb-true, ltb-false, eq-eqb, ne-eqb}
+use borrow.Author.Tests.{eqb-true, ltb-false, ne-eqb}
 use Rattle.laws.proofs.Tests.{by-test}
 use Rattle.bus.specs.Groups.{highestAnswer}
 use Rattle.refusal.proofs.Accepted.{or-zero}

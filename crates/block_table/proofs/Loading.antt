@@ -1,14 +1,12 @@
 -- What the loop over a table's lines keeps.
 use Prim.Native.Nat.{ℕ, zero, suc, _+_, _-_, _≤_, _<_}
 use mathlib.Core.Path.{_≡_, refl, sym, ap, _∙_}
-use mathlib.Core.Bool.{cond}
 use mathlib.Core.List.{List, [], _∷_, append-nil}
 use native.Mathlib.Numerals.{add-one}
 use native.Mathlib.Omega.{arith}
-use lib.ListN.{length, take, drop, set, replicate, length-drop, drop-of-length-le}
+use lib.ListN.{length, take, drop, set, replicate, drop-of-length-le}
 use lib.Seq.{sets, sets-eq, drop-drop}
 use borrow.Author.Tests.{ne-eqb}
-use Rattle.laws.proofs.Tests.{same-or}
 use Rattle.bytes.specs.Bytes.{indexOf}
 use Rattle.refusal.specs.Refusal.{orElse}
 use Rattle.refusal.proofs.Accepted.{or-zero, or-grouped}

@@ -1,6 +1,6 @@
 -- The text of a table loads as that table.
 use Prim.Native.Nat.{ℕ, suc, _+_, _≤_}
-use mathlib.Core.Path.{_≡_, refl, sym, ap, _∙_}
+use mathlib.Core.Path.{_≡_, refl, ap}
 use mathlib.Core.Bool.{true, false}
 use mathlib.Core.List.{List, [], _∷_, _++_, append-nil}
 use native.Mathlib.Omega.{arith}
@@ -16,7 +16,7 @@ use Rattle.fields.specs.Fields.{tab, newline, inFront, partsOf, fieldsOf, witho
 use Rattle.fields.proofs.Parts.{parts-some}
 use Rattle.rows.specs.Decimal.{decimal}
 use Rattle.rows.proofs.Decimal.{decimal-digits, printed-scanned}
-use Rattle.block_table.specs.Load.{answering, entryWith, entryOf, entryOn, numberFrom, tableNumber, answersFrom, tableOf, loadCall}
+use Rattle.block_table.specs.Load.{answering, entryWith, entryOf, entryOn, numberFrom, tableNumber, answersFrom, loadCall}
 use Rattle.block_table.specs.Table.{printedFrom, PrintedLoads}
 
 -- digits stand in the first part of a text, where no digit parts it

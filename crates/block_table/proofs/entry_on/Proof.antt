@@ -1,10 +1,8 @@
 use mathlib.Core.Path.{_≡_, sym, _∙_}
-use native.Mathlib.Omega.{arith}
 use borrow.Author.Needs.{needs}
 use borrow.Author.Tests.{eq-eqb, ne-eqb, lt-ltb, le-ltb}
 use Rattle.fields.specs.declared.numbers.Number.the-variants.{Value}
-use Rattle.fields.specs.Number.{numberOf}
-use Rattle.fields.proofs.Leading.{Led, restFrom, led}
+use Rattle.fields.proofs.Leading.{Led, led}
 use Rattle.block_table.specs.Load.{entryOn, entryWith}
 use Rattle.block_table.proofs.Entries.{entry-led, entry-unled}
 use Rattle.block_table.proofs.entry_on.Statement.{statement}

@@ -1,12 +1,11 @@
 use Prim.Native.Nat.{_-_}
 use mathlib.Core.Path.{refl, sym, ap, _∙_}
 use native.Mathlib.Omega.{arith}
-use lib.ListN.{length, length-drop}
+use lib.ListN.{length}
 use lib.Seq.{length-take-le}
 use borrow.Author.Needs.{needs}
 use Rattle.board.specs.Board.{blockCount}
 use Rattle.refusal.specs.Refusal.{orElse}
-use Rattle.fields.proofs.Parts.{drop-part}
 use Rattle.block_table.proofs.Loading.{LoadInvariant, load-begin, load-next, load-refused, load-loaded}
 use Rattle.block_table.proofs.load.Statement.{statement}
 use Rattle.block_table.proofs.load.Tie as tie
