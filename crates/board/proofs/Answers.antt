@@ -1,17 +1,18 @@
 -- The board's answers as loops fill them: what is left to store, put in, gives what all of it gives.
-use Prim.Native.Nat.{ℕ, suc, _+_, _*_, _-_, _%_, _<_, _≤_}
-use mathlib.Core.Path.{_≡_, refl, sym}
+use Prim.Native.Nat.{ℕ, zero, suc, _+_, _*_, _-_, _/_, _%_, _<_, _≤_}
+use mathlib.Core.Path.{_≡_, refl, sym, _∙_}
 use mathlib.Core.Bool.{Bool, true, false, cond}
 use mathlib.Core.List.{List}
 use native.Mathlib.Nat.{add-zero}
 use native.Mathlib.Numerals.{add-one}
 use native.Mathlib.Omega.{arith}
 use lib.Dec.{ltb}
-use lib.ListN.{set, replicate}
+use lib.ListN.{set, replicate, replicate-append-replicate}
 use lib.Seq.{sets}
 use Rattle.laws.proofs.Lists.{sets-append}
+use Rattle.laws.proofs.Tests.{by-test}
 use Rattle.bus.specs.Groups.{badWidth, groupCount, groupSize}
-use Rattle.board.specs.Board.{answerAt, groupAddress, groupsFrom, boardAnswers}
+use Rattle.board.specs.Board.{blockSize, answerAt, groupAddress, groupsFrom, boardAnswers}
 
 -- a group with an answer stored from its k-th place on
 unfoldable pub storedFrom : ℕ → ℕ → ℕ → List ℕ → List ℕ
@@ -65,3 +66,28 @@ module _ (table : List ℕ) (address width : ℕ) where
   filled-none group l h =
       let e : groupCount - group ≡ 0 = omega arith in
       rw e
+
+  -- far enough from the end of its block each group has the lowest's answer
+  module _ (near : address % blockSize < blockSize - 4 * groupCount) where
+    same-block : (group : ℕ) → group < groupCount → groupAddress address width group / blockSize ≡ address / blockSize
+    unfolding groupAddress
+    same-block group h =
+        by-test (λ b. cond b address (cond (ltb (4 * group) (address % 4 + width)) (address + 4 * group) address) / blockSize ≡ address / blockSize) (badWidth width)
+        (λ _. refl)
+        (λ _. by-test (λ b. cond b (address + 4 * group) address / blockSize ≡ address / blockSize) (ltb (4 * group) (address % 4 + width)) (λ _. omega arith) (λ _. refl))
+
+    same-answer : (group : ℕ) → group < groupCount → answerAt table (groupAddress address width group) ≡ answerAt table address
+    unfolding answerAt
+    same-answer group h = rw (same-block group h)
+
+    groups-same : (group more : ℕ) → group + more ≤ groupCount → groupsFrom table address width group more ≡ replicate (groupSize * more) (answerAt table address)
+    unfolding groupsFrom
+    groups-same group zero h = refl
+    groups-same group (suc more) h =
+        let answer = answerAt table address in
+        let sum : groupSize + groupSize * more ≡ groupSize * suc more = omega arith in
+        rw (same-answer group (omega (arith, h)), groups-same (suc group) more (omega (arith, h))) (replicate-append-replicate groupSize (groupSize * more) answer ∙ rw sum)
+
+    pub board-same : (answer : ℕ) → answer ≡ answerAt table address → replicate (groupSize * groupCount) answer ≡ boardAnswers table address width
+    unfolding boardAnswers
+    board-same answer e = rw e (sym (groups-same 0 groupCount (omega arith)))

@@ -8,6 +8,9 @@ use lib.ListN.{getD, replicate}
 use Rattle.bus.specs.Groups.{badWidth, groupCount, groupSize, highestAnswer}
 
 -- "1 MiB block 0 to 15"
+abbrev pub blockSize : ℕ
+blockSize = 1048576
+
 abbrev pub blockCount : ℕ
 blockCount = 16
 
@@ -21,7 +24,7 @@ GoodTable table = (block : ℕ) → getD table block 0 ≤ highestAnswer
 
 -- "The block is (address / 1,048,576) mod 16."
 unfoldable pub answerAt : List ℕ → ℕ → ℕ
-answerAt table address = getD table (address / 1048576 % blockCount) 0
+answerAt table address = getD table (address / blockSize % blockCount) 0
 
 -- "an absent upper doubleword takes the lower's."; C-15: "the board table fills the third group from its own doubleword, or from the lowest where there is
 -- none." So a group has the address of its doubleword, or the access's own. A refused width has only the lowest.
