@@ -28,8 +28,8 @@ entryWith block (Value b) (Value a) =
 entryWith block (Value b) NotANumber = refused 34
 entryWith block NotANumber a = refused 34
 
--- "tab-parted lines, block number and answer, written as the program's". Two such numbers and a tab are at most 21 bytes: the program's limit of 80
--- refuses no line that is well formed without it.
+-- "tab-parted lines, block number and answer, written as the program's". No line of more than the program's 80 bytes is well formed by this alone
+-- (`long-refused`).
 unfoldable pub entryOf : ℕ → List (List ℕ) → Entry
 entryOf block [] = refused 34
 entryOf block (b ∷ []) = refused 34

@@ -8,7 +8,7 @@ use Rattle.fields.specs.declared.numbers.Number.the-variants.{Value}
 use Rattle.fields.specs.Number.{numberOf}
 use Rattle.fields.specs.Fields.{tab, newline, fieldsOf, linesOf}
 use Rattle.rows.specs.Row.{column}
-use Rattle.block_table.specs.Load.{loaded, loadCall}
+use Rattle.block_table.specs.Load.{refused, entryOn, loaded, loadCall}
 
 -- "tab-parted lines, block number and answer": a line of two fields that say these.
 pub record Says (line : List ℕ) (block answer : ℕ) : Type 0 where
@@ -17,6 +17,10 @@ pub record Says (line : List ℕ) (block answer : ℕ) : Type 0 where
   pub fields : fieldsOf line ≡ blockField ∷ answerField ∷ []
   pub saysBlock : numberOf blockField ≡ Value block
   pub saysAnswer : numberOf answerField ≡ Value answer
+
+-- "written as the program's", whose lines have "at most 80 bytes before the newline": two numbers and a tab are never longer.
+abbrev pub LongRefused : Type 0
+LongRefused = (block : ℕ) (line : List ℕ) → 80 < length line → entryOn block line ≡ refused 34
 
 -- "a loaded one gives each block exactly the answer on its line", and a good table of sixteen is loaded.
 pub record Gives (text table : List ℕ) : Type 0 where

@@ -28,6 +28,22 @@ parts-some separator (c ∷ cs) =
     (λ _. ([], partsOf separator cs, refl))
     (λ _. (c ∷ part, parts, rw e))
 
+-- the bytes of parts and what parts them
+abbrev pub total : List (List ℕ) → ℕ
+total [] = 0
+total (part ∷ parts) = suc (length part) + total parts
+
+pub parts-total : (separator : ℕ) (l : List ℕ) → total (partsOf separator l) ≡ suc (length l)
+unfolding partsOf inFront
+parts-total separator [] = omega arith
+parts-total separator (c ∷ cs) =
+    let (part, parts, e) = parts-some separator cs in
+    let t : suc (length part) + total parts ≡ suc (length cs) = rw e at (parts-total separator cs) in
+    by-test (λ b. total (cond b ([] ∷ partsOf separator cs) (inFront c (partsOf separator cs))) ≡ suc (suc (length cs)))
+    (eqb c separator)
+    (λ _. omega (arith, parts-total separator cs))
+    (λ _. rw e (omega (arith, t)))
+
 -- a text without a separator is one part
 pub parts-end : (separator : ℕ) (l : List ℕ) → indexOf separator l ≡ length l → partsOf separator l ≡ l ∷ []
 unfolding partsOf inFront indexOf indexAfter

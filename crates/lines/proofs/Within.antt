@@ -11,7 +11,7 @@ use Rattle.laws.proofs.Tests.{by-test}
 use Rattle.fields.specs.declared.numbers.Number.{Number}
 use Rattle.fields.specs.declared.numbers.Number.the-variants.{Value, NotANumber}
 use Rattle.fields.specs.Fields.{tab, fieldsOf, partsOf, inFront, isPairs}
-use Rattle.fields.proofs.Parts.{parts-some}
+use Rattle.fields.proofs.Parts.{total, parts-total}
 use Rattle.lines.specs.declared.Event.{Event}
 use Rattle.lines.specs.declared.Event.the-variants.{Malformed, Read, Write, External, Snoop, Flush, Control, Reset}
 use Rattle.lines.specs.Scan.{with, ofNone, ofOne, ofTwo, ofThree, readWith, readOf, writeWith, writeOf, externalOf, snoopOf, controlOf, formOf, eventOf, scanned}
@@ -75,13 +75,8 @@ control-within : (n : ℕ) (c w : List ℕ) → Within n (controlOf c w)
 unfolding controlOf
 control-within n c w = by-with n _ _ (λ cd. by-with n _ _ (λ nw. control (eqb cd 1) (eqb nw 1)))
 
--- the bytes of parts and what parts them
-total : List (List ℕ) → ℕ
-total [] = 0
-total (part ∷ parts) = suc (length part) + total parts
-
 external-within : (n : ℕ) (fields : List (List ℕ)) → 2 + total fields ≤ suc n → Within n (ofTwo externalOf fields)
-unfolding ofTwo ofOne ofNone externalOf total
+unfolding ofTwo ofOne ofNone externalOf
 external-within n [] h = malformed
 external-within n (a ∷ []) h = malformed
 external-within n (a ∷ b ∷ []) h = by-with n _ _ (λ address. by-cond n (isPairs b) _ _ (external address (length a + 3) (omega (arith, h))) malformed)
@@ -99,22 +94,11 @@ form-within n letter fields h =
     (by-cond n (eqb letter 90) _ _ (by-none n Reset fields resetting) malformed))))))
 
 event-within : (n : ℕ) (fields : List (List ℕ)) → total fields ≤ suc n → Within n (eventOf fields)
-unfolding eventOf total
+unfolding eventOf
 event-within n [] h = malformed
 event-within n ([] ∷ fields) h = malformed
 event-within n ((letter ∷ []) ∷ fields) h = form-within n letter fields (omega (arith, h))
 event-within n ((c ∷ d ∷ cs) ∷ fields) h = malformed
-
-parts-total : (separator : ℕ) (l : List ℕ) → total (partsOf separator l) ≡ suc (length l)
-unfolding total partsOf inFront
-parts-total separator [] = omega arith
-parts-total separator (c ∷ cs) =
-    let (part, parts, e) = parts-some separator cs in
-    let t : suc (length part) + total parts ≡ suc (length cs) = rw e at (parts-total separator cs) in
-    by-test (λ b. total (cond b ([] ∷ partsOf separator cs) (inFront c (partsOf separator cs))) ≡ suc (suc (length cs)))
-    (eqb c separator)
-    (λ _. omega (arith, parts-total separator cs))
-    (λ _. rw e (omega (arith, t)))
 
 -- the two facts of an external write's line
 pub external-line : (line : List ℕ) (address from : ℕ) → scanned line ≡ External address from → (from ≤ length line) × (length line ≤ 80)
