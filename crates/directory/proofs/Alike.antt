@@ -13,12 +13,13 @@ use Rattle.ways.specs.declared.ways.Found.the-variants.{At, Nothing}
 use Rattle.ways.specs.Address.{lineCount, setOf}
 use Rattle.ways.specs.LruBits.{SameBits}
 use Rattle.ways.specs.State.{firstNumber, stateNumberIn}
-use Rattle.directory.specs.Steps.{directoryOf, tagAt, lruAt, lookupOf, victimOf, stateNumberOf, afterUse, withLine, afterFill, afterReset, afterControl, afterFlush, invalidated, afterSnoop}
+use Rattle.directory.specs.Steps.{directoryOf, tagAt, lruAt, lookupOf, victimOf, stateNumberOf, afterUse, withLine, afterFill, withRanges, resetKeeping, afterControl, afterFlush, invalidated, afterSnoop}
 use Rattle.directory.specs.WellFormed.{Held, Same}
 use Rattle.directory.specs.Alike.{withLru, SameLines, Alike}
+use Rattle.ranges.specs.declared.Ranges.{Ranges}
 use Rattle.laws.proofs.Tests.{by-test, same-or}
 use Rattle.ways.proofs.LruBits.{use-bits, victim-bits}
-use Rattle.directory.proofs.Laws.{reset-none, reset-limits, use-held, use-lru, use-lru-other, use-lru-below, use-sized, line-lru, line-sized, line-held, control-sized, flush-none, flush-lru, flush-sized, snoop-held, snoop-lru, snoop-sized}
+use Rattle.directory.proofs.Laws.{reset-none, reset-limits, use-held, use-lru, use-lru-other, use-lru-below, use-sized, line-lru, line-sized, line-held, control-sized, ranges-sized, flush-none, flush-lru, flush-sized, snoop-held, snoop-lru, snoop-sized}
 
 -- WHAT IS ASKED
 
@@ -28,6 +29,9 @@ module _ (d e : Directory) (a : Alike d e) where
 
   pub alike-control : (e .cd ≡ d .cd) × (e .nw ≡ d .nw)
   alike-control = (ap (λ (x : Directory). x .cd) (a .lines .same), ap (λ (x : Directory). x .nw) (a .lines .same))
+
+  pub alike-ranges : e .ranges ≡ d .ranges
+  alike-ranges = ap (λ (x : Directory). x .ranges) (a .lines .same)
 
   module _ (s : ℕ) (sl : s < 128) where
     pub alike-victim : victimOf e s ≡ victimOf d s
@@ -47,12 +51,12 @@ module _ (d e : Directory) (a : Alike d e) where
 none-alike : (d e : Directory) → SameLines d e → ((s w tag : ℕ) → s < 128 → w < 4 → Held d s w tag → ⊥) → Alike d e
 none-alike d e z none = record { lines = z; bits = λ s w tag sl wl h. absurd (none s w tag sl wl h) }
 
-pub reset-alike : Alike afterReset afterReset
-reset-alike =
-    let g = reset-limits in
-    none-alike afterReset afterReset
+pub reset-alike : (ranges : Ranges) → Alike (resetKeeping ranges) (resetKeeping ranges)
+reset-alike ranges =
+    let g = reset-limits ranges in
+    none-alike (resetKeeping ranges) (resetKeeping ranges)
     (record { same = refl; sized = (g .sized, g .sized); lru = λ s l. (g .sets s l .lru, g .sets s l .lru) })
-    reset-none
+    (reset-none ranges)
 
 -- where each line but one has these bits, a use of that one gives them to all
 module _ (d e : Directory) (z : SameLines d e) (s w : ℕ) (sl : s < 128) (wl : w < 4) where
@@ -115,14 +119,28 @@ module _ (d e : Directory) (a : Alike d e) where
         bits = a .bits;
       }
 
+  pub ranges-alike : (ranges : Ranges) → Alike (withRanges d ranges) (withRanges e ranges)
+  unfolding withRanges
+  ranges-alike ranges =
+      let z = a .lines in
+      record {
+        lines =
+            record {
+              same = ap (λ (x : Directory). withRanges x ranges) (z .same);
+              sized = (ranges-sized d ranges (z .sized .0), ranges-sized e ranges (z .sized .1));
+              lru = z .lru;
+            };
+        bits = a .bits;
+      }
+
 -- a flush beside one that clears the valid marks and nothing else
-pub flush-alike : (d e : Directory) → Alike d e → Alike (afterFlush d) (directoryOf (e .tags) (replicate lineCount false) (e .lru) (e .cd) (e .nw))
+pub flush-alike : (d e : Directory) → Alike d e → Alike (afterFlush d) (directoryOf (e .tags) (replicate lineCount false) (e .lru) (e .cd) (e .nw) (e .ranges))
 unfolding afterFlush
 flush-alike d e a =
     let z = a .lines in
     none-alike (afterFlush d) _
     (record {
-      same = ap (λ (x : Directory). directoryOf (x .tags) (replicate lineCount false) (x .lru) (x .cd) (x .nw)) (z .same);
+      same = ap (λ (x : Directory). directoryOf (x .tags) (replicate lineCount false) (x .lru) (x .cd) (x .nw) (x .ranges)) (z .same);
       sized = (flush-sized d (z .sized .0), record { tags = z .sized .1 .tags; valid = refl; lru = z .sized .1 .lru });
       lru = λ s l. let n = flush-lru d s l in (omega arith, z .lru s l .1);
     })

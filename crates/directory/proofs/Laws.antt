@@ -1,7 +1,7 @@
 -- The laws that the layer above works from: what a lookup finds before and after each step, and what each step keeps.
 use Prim.Native.Nat.{ℕ, _^_, _≤_, _<_}
 use mathlib.Core.Path.{_≡_, refl, sym, _∙_, ap}
-use mathlib.Core.Bool.{Bool, true, false, not, _&&_}
+use mathlib.Core.Bool.{Bool, true, false, cond, not, _&&_}
 use mathlib.Core.Logic.{_⊎_, inl, inr, ⊎-elim}
 use native.Mathlib.Omega.{arith}
 use lib.Dec.{eqb}
@@ -16,8 +16,9 @@ use Rattle.ways.specs.Lru.{lruAfter}
 use Rattle.ways.specs.Ways.{holds, lookupIn}
 use Rattle.directory.specs.declared.steps.Outcome.{Outcome}
 use Rattle.directory.specs.Outcome.{outcome}
-use Rattle.directory.specs.Steps.{validAt, tagAt, lruAt, lookupOf, stateNumberOf, afterUse, withLine, afterFill, afterReset, afterControl, controlRefused, controlCall, afterFlush, invalidated, afterSnoop, snoopCall}
+use Rattle.directory.specs.Steps.{validAt, tagAt, lruAt, lookupOf, stateNumberOf, afterUse, withLine, afterFill, withRanges, resetKeeping, afterControl, controlRefused, controlCall, afterFlush, invalidated, afterSnoop, snoopCall}
 use Rattle.directory.specs.WellFormed.{Held, Same, SetApart, Sized, WithinLimits, Apart}
+use Rattle.ranges.specs.declared.Ranges.{Ranges}
 use Rattle.laws.proofs.Tests.{both, refuted, differ, cond-true, cond-false, by-test, same-or}
 use Rattle.ways.proofs.FourWays.{lru-after-below, lowest-at, lowest-nothing, none-lowest, one-lowest}
 use Rattle.directory.proofs.Lines.{same-line, stored-line, stored-other, fewer-limits, fewer-apart, none-limits, none-apart}
@@ -59,25 +60,70 @@ module _ (d : Directory) (a : ℕ) where
 
 -- RESET
 
-pub reset-none : (s w tag : ℕ) → s < 128 → w < 4 → Held afterReset s w tag → ⊥
-unfolding afterReset
-reset-none s w tag sl wl h = differ (h .0) (getD-replicate 512 (lineIndex s w) false false (omega arith))
+module _ (ranges : Ranges) where
+  pub reset-none : (s w tag : ℕ) → s < 128 → w < 4 → Held (resetKeeping ranges) s w tag → ⊥
+  unfolding resetKeeping
+  reset-none s w tag sl wl h = differ (h .0) (getD-replicate 512 (lineIndex s w) false false (omega arith))
 
-pub reset-lookup : (a : ℕ) → lookupOf afterReset a ≡ Nothing
-reset-lookup a = none-lookup afterReset a λ w l. reset-none (setOf a) w (tagOf a) (omega arith) l
+  pub reset-lookup : (a : ℕ) → lookupOf (resetKeeping ranges) a ≡ Nothing
+  reset-lookup a = none-lookup (resetKeeping ranges) a λ w l. reset-none (setOf a) w (tagOf a) (omega arith) l
 
-pub reset-control : (afterReset .cd ≡ true) × (afterReset .nw ≡ true)
-unfolding afterReset
-reset-control = (refl, refl)
+  pub reset-control : (resetKeeping ranges .cd ≡ true) × (resetKeeping ranges .nw ≡ true)
+  unfolding resetKeeping
+  reset-control = (refl, refl)
 
-pub reset-limits : WithinLimits afterReset
-unfolding afterReset
-reset-limits =
-    none-limits afterReset reset-none (record { tags = refl; valid = refl; lru = refl })
-    (λ s l. let e : lruAt afterReset s ≡ 0 = getD-replicate {A = ℕ} 128 s 0 0 l in omega arith)
+  pub reset-ranges : resetKeeping ranges .ranges ≡ ranges
+  unfolding resetKeeping
+  reset-ranges = refl
 
-pub reset-apart : Apart afterReset
-reset-apart = none-apart afterReset reset-none
+  pub reset-limits : WithinLimits (resetKeeping ranges)
+  unfolding resetKeeping
+  reset-limits =
+      none-limits (resetKeeping ranges) reset-none (record { tags = refl; valid = refl; lru = refl })
+      (λ s l. let e : lruAt (resetKeeping ranges) s ≡ 0 = getD-replicate {A = ℕ} 128 s 0 0 l in omega arith)
+
+  pub reset-apart : Apart (resetKeeping ranges)
+  reset-apart = none-apart (resetKeeping ranges) reset-none
+
+-- RANGES: setting them changes nothing else
+
+module _ (d : Directory) (ranges : Ranges) where
+  pub ranges-set : withRanges d ranges .ranges ≡ ranges
+  unfolding withRanges
+  ranges-set = refl
+
+  pub ranges-control : (withRanges d ranges .cd ≡ d .cd) × (withRanges d ranges .nw ≡ d .nw)
+  unfolding withRanges
+  ranges-control = (refl, refl)
+
+  pub ranges-lru : (r : ℕ) → lruAt (withRanges d ranges) r ≡ lruAt d r
+  unfolding withRanges
+  ranges-lru r = refl
+
+  pub ranges-held : (r v tag : ℕ) → Held (withRanges d ranges) r v tag → Held d r v tag
+  unfolding withRanges
+  ranges-held r v tag h = h
+
+  pub ranges-kept : (r v tag : ℕ) → Held d r v tag → Held (withRanges d ranges) r v tag
+  unfolding withRanges
+  ranges-kept r v tag h = h
+
+  pub ranges-lookup : (a : ℕ) → lookupOf (withRanges d ranges) a ≡ lookupOf d a
+  unfolding withRanges
+  ranges-lookup a = refl
+
+  pub ranges-sized : Sized d → Sized (withRanges d ranges)
+  unfolding withRanges
+  ranges-sized z = record { tags = z .tags; valid = z .valid; lru = z .lru }
+
+  pub ranges-limits : WithinLimits d → WithinLimits (withRanges d ranges)
+  ranges-limits g =
+      fewer-limits d _ (λ r v tag rl vl. ranges-held r v tag) (ranges-sized (g .sized))
+      (λ r rl. rw (ranges-lru r) (g .sets r rl .lru))
+      g
+
+  pub ranges-apart : Apart d → Apart (withRanges d ranges)
+  ranges-apart = fewer-apart d (withRanges d ranges) (λ r v tag rl vl. ranges-held r v tag)
 
 -- USE: no line changes, and one LRU number
 
@@ -108,6 +154,10 @@ module _ (d : Directory) (s w : ℕ) where
   unfolding afterUse
   use-control = (refl, refl)
 
+  pub use-ranges : afterUse d s w .ranges ≡ d .ranges
+  unfolding afterUse
+  use-ranges = refl
+
 pub use-sized : (d : Directory) → Sized d → (s w : ℕ) → Sized (afterUse d s w)
 unfolding afterUse
 use-sized d z s w = record { tags = z .tags; valid = z .valid; lru = rw length-set (z .lru) }
@@ -127,6 +177,10 @@ module _ (d : Directory) (s w tag : ℕ) (mark : Bool) where
   pub line-control : (withLine d s w tag mark .cd ≡ d .cd) × (withLine d s w tag mark .nw ≡ d .nw)
   unfolding withLine
   line-control = (refl, refl)
+
+  pub line-ranges : withLine d s w tag mark .ranges ≡ d .ranges
+  unfolding withLine
+  line-ranges = refl
 
   pub line-lru : (r : ℕ) → lruAt (withLine d s w tag mark) r ≡ lruAt d r
   unfolding withLine
@@ -178,6 +232,10 @@ module _ (d : Directory) (s w tag : ℕ) where
       let u = use-control (withLine d s w tag true) s w in
       let k = line-control d s w tag true in
       (u .0 ∙ k .0, u .1 ∙ k .1)
+
+  pub fill-ranges : afterFill d s w tag .ranges ≡ d .ranges
+  unfolding afterFill
+  fill-ranges = use-ranges (withLine d s w tag true) s w ∙ line-ranges d s w tag true
 
   -- a kept fill is a use
   pub fill-lru : (r : ℕ) → lruAt (afterFill d s w tag) r ≡ lruAt (afterUse d s w) r
@@ -253,6 +311,10 @@ module _ (d : Directory) (cd nw : Bool) where
   unfolding afterControl
   control-set = (refl, refl)
 
+  pub control-ranges : afterControl d cd nw .ranges ≡ d .ranges
+  unfolding afterControl
+  control-ranges = refl
+
   pub control-lru : (r : ℕ) → lruAt (afterControl d cd nw) r ≡ lruAt d r
   unfolding afterControl
   control-lru r = refl
@@ -297,6 +359,10 @@ module _ (d : Directory) where
   unfolding afterFlush
   flush-control = (refl, refl)
 
+  pub flush-ranges : afterFlush d .ranges ≡ d .ranges
+  unfolding afterFlush
+  flush-ranges = refl
+
   pub flush-lru : (s : ℕ) → s < 128 → lruAt (afterFlush d) s ≡ 0
   unfolding afterFlush
   flush-lru s l = getD-replicate {A = ℕ} 128 s 0 0 l
@@ -322,6 +388,18 @@ snoop-off d a e = cond-true (d .nw) _ _ e
 pub snoop-on : (d : Directory) (a : ℕ) → d .nw ≡ false → afterSnoop d a ≡ invalidated d (setOf a) (lookupOf d a)
 unfolding afterSnoop
 snoop-on d a e = cond-false (d .nw) _ _ e
+
+found-ranges : (d : Directory) (s : ℕ) (f : Found) → invalidated d s f .ranges ≡ d .ranges
+unfolding invalidated
+found-ranges d s (At w) = refl
+found-ranges d s Nothing = refl
+
+pub snoop-ranges : (d : Directory) (a : ℕ) → afterSnoop d a .ranges ≡ d .ranges
+unfolding afterSnoop
+snoop-ranges d a =
+    by-test (λ b. cond b d (invalidated d (setOf a) (lookupOf d a)) .ranges ≡ d .ranges) (d .nw)
+    (λ _. refl)
+    (λ _. found-ranges d (setOf a) (lookupOf d a))
 
 module _ (d : Directory) (z : Sized d) (a : ℕ) where
   abbrev dropped : Found → Directory

@@ -10,9 +10,9 @@ use Rattle.directory.specs.WellFormed.{Held, Sized}
 
 -- A directory with other LRU numbers.
 abbrev pub withLru : Directory → List ℕ → Directory
-withLru d lru = directoryOf (d .tags) (d .valid) lru (d .cd) (d .nw)
+withLru d lru = directoryOf (d .tags) (d .valid) lru (d .cd) (d .nw) (d .ranges)
 
--- Tags, valid marks, CD and NW are the same, and no LRU number is above 7.
+-- Tags, valid marks, CD, NW and ranges are the same, and no LRU number is above 7.
 pub record SameLines (d e : Directory) : Type 0 where
   pub same : e ≡ withLru d (e .lru)
   pub sized : Sized d × Sized e

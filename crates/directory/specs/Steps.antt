@@ -14,14 +14,17 @@ use Rattle.ways.specs.Address.{setCount, lineCount, setOf, lineIndex}
 use Rattle.ways.specs.Lru.{lruAfter}
 use Rattle.ways.specs.Ways.{validIn, tagIn, lookupIn, victimIn}
 use Rattle.ways.specs.State.{stateNumberIn}
+use Rattle.ranges.specs.declared.Ranges.{Ranges}
 
--- "The directory holds 512 tags, 512 valid marks and 128 LRU numbers, with CD and NW.": a directory of these.
-abbrev pub directoryOf : List ℕ → List Bool → List ℕ → Bool → Bool → Directory
-directoryOf tags valid lru cd nw = record { tags = tags; valid = valid; lru = lru; cd = cd; nw = nw }
+-- "The directory holds 512 tags, 512 valid marks and 128 LRU numbers, with CD and NW."; document 02, C-17: "up to eight read-only ranges ..; the
+-- directory keeps them": a directory of these.
+abbrev pub directoryOf : List ℕ → List Bool → List ℕ → Bool → Bool → Ranges → Directory
+directoryOf tags valid lru cd nw ranges =
+    record { tags = tags; valid = valid; lru = lru; cd = cd; nw = nw; ranges = ranges }
 
 -- The directory that lent references hold.
-abbrev pub lentDirectory : RefT (List ℕ) → RefT (List Bool) → RefT (List ℕ) → Bool → Bool → Directory
-lentDirectory tags valid lru cd nw = directoryOf (now tags) (now valid) (now lru) cd nw
+abbrev pub lentDirectory : RefT (List ℕ) → RefT (List Bool) → RefT (List ℕ) → Bool → Bool → Ranges → Directory
+lentDirectory tags valid lru cd nw ranges = directoryOf (now tags) (now valid) (now lru) cd nw ranges
 
 -- What a directory has of a line and of a set, and the questions asked of it.
 abbrev pub validAt : Directory → ℕ → ℕ → Bool
@@ -51,6 +54,7 @@ afterUse d s w =
       lru = set (d .lru) s (lruAfter (lruAt d s) w);
       cd = d .cd;
       nw = d .nw;
+      ranges = d .ranges;
     }
 
 -- Document 02, C-11: "a test write, which puts a tag, a valid mark and sixteen bytes in a given set and way"; the bytes are the data array's. It is no
@@ -63,27 +67,44 @@ withLine d s w tag mark =
       lru = d .lru;
       cd = d .cd;
       nw = d .nw;
+      ranges = d .ranges;
     }
 
 -- "A kept fill writes the victim's bytes, tag and valid mark", and is a use; the bytes are the data array's.
 unfoldable pub afterFill : Directory → ℕ → ℕ → ℕ → Directory
 afterFill d s w tag = afterUse (withLine d s w tag true) s w
 
--- "After reset all 512 lines are invalid, tags and LRU numbers are 0, and CD = NW = 1." (002: all invalid, CD = NW = 1)
-unfoldable pub afterReset : Directory
-afterReset =
+-- Document 02, C-17: "One call sets them all anew".
+unfoldable pub withRanges : Directory → Ranges → Directory
+withRanges d ranges =
+    record { tags = d .tags; valid = d .valid; lru = d .lru; cd = d .cd; nw = d .nw; ranges = ranges }
+
+-- "After reset all 512 lines are invalid, tags and LRU numbers are 0, and CD = NW = 1." (002: all invalid, CD = NW = 1): the directory then, with its ranges.
+unfoldable pub resetKeeping : Ranges → Directory
+resetKeeping ranges =
     record {
       tags = replicate lineCount 0;
       valid = replicate lineCount false;
       lru = replicate setCount 0;
       cd = true;
       nw = true;
+      ranges = ranges;
     }
+
+-- C-17: "A later reset keeps them."; "none at first".
+abbrev pub afterReset : Directory → Directory
+afterReset d = resetKeeping (d .ranges)
+
+abbrev pub noRanges : Ranges
+noRanges = record { count = 0; bounds = replicate 16 0 }
+
+abbrev pub firstReset : Directory
+firstReset = resetKeeping noRanges
 
 -- "An accepted control call sets CD and NW to the two it is given and changes nothing else."
 unfoldable pub afterControl : Directory → Bool → Bool → Directory
 afterControl d cd nw =
-    record { tags = d .tags; valid = d .valid; lru = d .lru; cd = cd; nw = nw }
+    record { tags = d .tags; valid = d .valid; lru = d .lru; cd = cd; nw = nw; ranges = d .ranges }
 
 -- "9. A control call with CD = 0 and NW = 1" (001)
 abbrev pub controlRefused : Bool → Bool → Bool
@@ -106,14 +127,15 @@ afterFlush d =
       lru = replicate setCount 0;
       cd = d .cd;
       nw = d .nw;
+      ranges = d .ranges;
     }
 
 -- A flush, by a rule that says what it leaves, and a reset are never turned away.
 abbrev pub flushCall : (Directory → Directory) → Directory → Outcome
 flushCall rule d = outcome (rule d) 0 0 0
 
-abbrev pub resetCall : Outcome
-resetCall = outcome afterReset 0 0 0
+abbrev pub resetCall : Directory → Outcome
+resetCall d = outcome (afterReset d) 0 0 0
 
 -- The directory with the line that a lookup found invalid, and as it was where none was found.
 unfoldable pub invalidated : Directory → ℕ → Found → Directory
@@ -124,6 +146,7 @@ invalidated d s (At w) =
       lru = d .lru;
       cd = d .cd;
       nw = d .nw;
+      ranges = d .ranges;
     }
 invalidated d s Nothing = d
 

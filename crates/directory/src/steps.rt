@@ -3,7 +3,9 @@ ghost use mathlib.Core.Path.{_≡_};
 ghost use Prim.Native.Nat.{_<_};
 ghost use Rattle.directory.specs.Outcome.{outcome};
 ghost use Rattle.ways.specs.Address.{setCount, wayCount};
-ghost use Rattle.directory.specs.Steps.{afterControl, afterFill, afterFlush, afterReset, afterSnoop, afterUse, controlCall, snoopCall, withLine};
+ghost use Rattle.directory.specs.Steps.{afterControl, afterFill, afterFlush, afterReset, afterSnoop, afterUse, controlCall, firstReset, snoopCall, withLine, withRanges};
+use ranges::BOUNDS;
+use ranges::Ranges;
 use ways::Found;
 use ways::LINES;
 use ways::SETS;
@@ -21,6 +23,7 @@ pub struct Directory {
     pub lru: [u8; SETS],
     pub cd: bool,
     pub nw: bool,
+    pub ranges: Ranges,
 }
 
 // What a call by value answers: the directory, 0 where it was done or the number that turned it away, a read's value, the count
@@ -34,19 +37,43 @@ pub struct Outcome {
 }
 
 impl Directory {
-    pub fn reset() -> Self
-        ensures { λ r. ⌜ r ≡ afterReset ⌝ }
+    // What the first reset gives: no range is set.
+    pub fn first() -> Self
+        ensures { λ r. ⌜ r ≡ firstReset ⌝ }
     {
         let tags = [0u32; LINES];
         let valid = [false; LINES];
         let lru = [0u8; SETS];
+        let bounds = [0u32; BOUNDS];
+        let ranges = Ranges { count: 0, bounds };
         Directory {
             tags,
             valid,
             lru,
             cd: true,
             nw: true,
+            ranges,
         }
+    }
+
+    // A later reset, which keeps the ranges.
+    pub fn reset(mut self) -> Self
+        ensures { λ r. ⌜ r ≡ afterReset self ⌝ }
+    {
+        self.tags = [0u32; LINES];
+        self.valid = [false; LINES];
+        self.lru = [0u8; SETS];
+        self.cd = true;
+        self.nw = true;
+        self
+    }
+
+    // The plain step of the setting call: any ranges.
+    pub fn with_ranges(mut self, ranges: Ranges) -> Self
+        ensures { λ r. ⌜ r ≡ withRanges self ranges ⌝ }
+    {
+        self.ranges = ranges;
+        self
     }
 
     // A use of a way. Callers have the set of an address and a way that was found or chosen.

@@ -1,11 +1,12 @@
 -- Document 01, 'Memory and parity'.
 use Prim.Native.Nat.{ℕ, zero, suc, _+_, _*_, _/_, _%_, _^_, _<_}
 use mathlib.Core.Path.{_≡_}
-use mathlib.Core.Bool.{Bool, false, not, _||_}
+use mathlib.Core.Bool.{Bool, false, cond, not, _||_}
 use mathlib.Core.List.{List, [], _∷_}
 use lib.ListN.{length, getD, set}
 use lib.Dec.{eqb}
 use denote.Ref.{RefT, now}
+use Rattle.ranges.specs.Ranges.{Range, readOnly}
 
 -- RAM, and "The parity array has one byte for each four RAM bytes".
 pub record Memory : Type 0 where
@@ -51,10 +52,15 @@ put m a b =
     memory (set (m .ram) a b)
     (set (m .parity) (a / 4) (withDp (getD (m .parity) (a / 4) 0) (a % 4) (dpOf b)))
 
--- Bytes put in one after another, from an address on: what every writer does.
+-- Bytes put in one after another, from an address on.
 unfoldable pub stored : Memory → ℕ → List ℕ → Memory
 stored m a [] = m
 stored m a (b ∷ bs) = stored (put m a b) (suc a) bs
+
+-- Document 02, C-17: "RAM and parity there ignore CPU writes and external writes": what every writer does with its bytes, each by its own address.
+unfoldable pub written : List Range → Memory → ℕ → List ℕ → Memory
+written rs m a [] = m
+written rs m a (b ∷ bs) = written rs (cond (readOnly rs a) m (put m a b)) (suc a) bs
 
 -- "wrong parity in a moved byte": of one byte.
 unfoldable pub wrongAt : Memory → ℕ → Bool

@@ -6,6 +6,7 @@ ghost use Rattle.ranges.specs.Ranges.{anyBad, badRange, inRange, lentRan
 
 // The most ranges, and the words that they take.
 pub const RANGES_MOST: u32 = 8;
+
 pub const BOUNDS: usize = 16;
 
 // What a directory keeps: how many ranges, and two words of each, its start and its bytes. A host can make a count above eight.
@@ -19,7 +20,11 @@ pub struct Ranges {
 fn kept_words(count: u32) -> usize
     ensures { λ r. ⌜ (r ≡ 2 * min count 8) × (r ≤ 16) ⌝ }
 {
-    let kept = if count <= RANGES_MOST { count } else { RANGES_MOST };
+    let kept = if count <= RANGES_MOST {
+        count
+    } else {
+        RANGES_MOST
+    };
     2 * kept as usize
 }
 

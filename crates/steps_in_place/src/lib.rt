@@ -4,6 +4,7 @@ ghost use mathlib.Core.Path.{_≡_};
 ghost use mathlib.Core.Bool.{Bool};
 ghost use mathlib.Core.List.{List};
 ghost use Prim.Native.Nat.{ℕ, _<_};
+ghost use Rattle.ranges.specs.declared.Ranges.{Ranges};
 ghost use Rattle.ways.specs.Address.{setCount, wayCount};
 ghost use Rattle.directory.specs.Outcome.{outcome};
 ghost use Rattle.directory.specs.Steps.{afterFill, afterFlush, afterReset, afterSnoop, afterUse, controlCall, directoryOf, lentDirectory, snoopCall, withLine};
@@ -19,8 +20,8 @@ use ways::state_number;
 // A use of a way.
 pub fn use_in_place(lru: &mut [u8; SETS], set: usize, way: usize)
     requires { ⌜ (set < setCount) × (way < wayCount) ⌝ }
-    ensures { λ _. ⌜ ((tags : List ℕ) (valid : List Bool) (cd nw : Bool) → directoryOf tags valid (now (lru .exit)) cd nw
-        ≡ afterUse (directoryOf tags valid (now (lru .entry)) cd nw) set way) ⌝ }
+    ensures { λ _. ⌜ ((tags : List ℕ) (valid : List Bool) (cd nw : Bool) (ranges : Ranges) → directoryOf tags valid (now (lru .exit)) cd nw ranges
+        ≡ afterUse (directoryOf tags valid (now (lru .entry)) cd nw ranges) set way) ⌝ }
 {
     let old = lru[set];
     lru[set] = lru_after(old, way);
@@ -36,8 +37,8 @@ pub fn line_in_place(
     mark: bool,
 )
     requires { ⌜ (set < setCount) × (way < wayCount) ⌝ }
-    ensures { λ _. ⌜ ((lru : List ℕ) (cd nw : Bool) → directoryOf (now (tags .exit)) (now (valid .exit)) lru cd nw
-        ≡ withLine (directoryOf (now (tags .entry)) (now (valid .entry)) lru cd nw) set way tag mark) ⌝ }
+    ensures { λ _. ⌜ ((lru : List ℕ) (cd nw : Bool) (ranges : Ranges) → directoryOf (now (tags .exit)) (now (valid .exit)) lru cd nw ranges
+        ≡ withLine (directoryOf (now (tags .entry)) (now (valid .entry)) lru cd nw ranges) set way tag mark) ⌝ }
 {
     let index = set * WAYS + way;
     tags[index] = tag;
@@ -54,16 +55,16 @@ pub fn fill_in_place(
     tag: u32,
 )
     requires { ⌜ (set < setCount) × (way < wayCount) ⌝ }
-    ensures { λ _. ⌜ ((cd nw : Bool) → lentDirectory (tags .exit) (valid .exit) (lru .exit) cd nw
-        ≡ afterFill (lentDirectory (tags .entry) (valid .entry) (lru .entry) cd nw) set way tag) ⌝ }
+    ensures { λ _. ⌜ ((cd nw : Bool) (ranges : Ranges) → lentDirectory (tags .exit) (valid .exit) (lru .exit) cd nw ranges
+        ≡ afterFill (lentDirectory (tags .entry) (valid .entry) (lru .entry) cd nw ranges) set way tag) ⌝ }
 {
     line_in_place(tags, valid, set, way, tag, true);
     use_in_place(lru, set, way);
 }
 
 pub fn flush_in_place(valid: &mut [bool; LINES], lru: &mut [u8; SETS])
-    ensures { λ _. ⌜ ((tags : List ℕ) (cd nw : Bool) → directoryOf tags (now (valid .exit)) (now (lru .exit)) cd nw
-        ≡ afterFlush (directoryOf tags (now (valid .entry)) (now (lru .entry)) cd nw)) ⌝ }
+    ensures { λ _. ⌜ ((tags : List ℕ) (cd nw : Bool) (ranges : Ranges) → directoryOf tags (now (valid .exit)) (now (lru .exit)) cd nw ranges
+        ≡ afterFlush (directoryOf tags (now (valid .entry)) (now (lru .entry)) cd nw ranges)) ⌝ }
 {
     *valid = [false; LINES];
     *lru = [0u8; SETS];
@@ -76,8 +77,8 @@ pub fn invalidate_in_place<'a>(
     nw: bool,
     address: u32,
 )
-    ensures { λ _. ⌜ ((lru : List ℕ) (cd : Bool) → directoryOf (now (tags .entry)) (now (valid .exit)) lru cd nw
-        ≡ afterSnoop (directoryOf (now (tags .entry)) (now (valid .entry)) lru cd nw) address) ⌝ }
+    ensures { λ _. ⌜ ((lru : List ℕ) (cd : Bool) (ranges : Ranges) → directoryOf (now (tags .entry)) (now (valid .exit)) lru cd nw ranges
+        ≡ afterSnoop (directoryOf (now (tags .entry)) (now (valid .entry)) lru cd nw ranges) address) ⌝ }
 {
     if nw {
         return;
@@ -97,8 +98,8 @@ pub fn snoop_in_place<'a>(
     nw: bool,
     address: u32,
 ) -> u32
-    ensures { λ r. ⌜ ((cd : Bool) → outcome (lentDirectory (tags .entry) (valid .exit) (lru .entry) cd nw) r 0 0
-        ≡ snoopCall (lentDirectory (tags .entry) (valid .entry) (lru .entry) cd nw) address) ⌝ }
+    ensures { λ r. ⌜ ((cd : Bool) (ranges : Ranges) → outcome (lentDirectory (tags .entry) (valid .exit) (lru .entry) cd nw ranges) r 0 0
+        ≡ snoopCall (lentDirectory (tags .entry) (valid .entry) (lru .entry) cd nw ranges) address) ⌝ }
 {
     let number = state_number(tags, valid, lru, set_of(address));
     if number != 0 {
@@ -110,8 +111,8 @@ pub fn snoop_in_place<'a>(
 
 // The control call: 9 for CD = 0 with NW = 1.
 pub fn control_in_place(cd: &mut bool, nw: &mut bool, new_cd: bool, new_nw: bool) -> u32
-    ensures { λ r. ⌜ ((tags : List ℕ) (valid : List Bool) (lru : List ℕ) → outcome (directoryOf tags valid lru (now (cd .exit)) (now (nw .exit))) r 0 0
-        ≡ controlCall (directoryOf tags valid lru (now (cd .entry)) (now (nw .entry))) «new_cd» «new_nw») ⌝ }
+    ensures { λ r. ⌜ ((tags : List ℕ) (valid : List Bool) (lru : List ℕ) (ranges : Ranges) → outcome (directoryOf tags valid lru (now (cd .exit)) (now (nw .exit)) ranges) r 0 0
+        ≡ controlCall (directoryOf tags valid lru (now (cd .entry)) (now (nw .entry)) ranges) «new_cd» «new_nw») ⌝ }
 {
     if !new_cd & new_nw {
         return 9;
@@ -121,6 +122,7 @@ pub fn control_in_place(cd: &mut bool, nw: &mut bool, new_cd: bool, new_nw: bool
     0
 }
 
+// It is not lent the ranges, which a reset keeps.
 pub fn reset_in_place(
     tags: &mut [u32; LINES],
     valid: &mut [bool; LINES],
@@ -128,7 +130,8 @@ pub fn reset_in_place(
     cd: &mut bool,
     nw: &mut bool,
 )
-    ensures { λ _. ⌜ lentDirectory (tags .exit) (valid .exit) (lru .exit) (now (cd .exit)) (now (nw .exit)) ≡ afterReset ⌝ }
+    ensures { λ _. ⌜ ((ranges : Ranges) → lentDirectory (tags .exit) (valid .exit) (lru .exit) (now (cd .exit)) (now (nw .exit)) ranges
+        ≡ afterReset (lentDirectory (tags .entry) (valid .entry) (lru .entry) (now (cd .entry)) (now (nw .entry)) ranges)) ⌝ }
 {
     *tags = [0u32; LINES];
     flush_in_place(valid, lru);

@@ -1,51 +1,56 @@
+use Prim.Native.Nat.{_-_}
+use mathlib.Core.Path.{_≡_, refl, sym, _∙_}
+use mathlib.Core.Bool.{_||_}
+use native.Mathlib.Omega.{arith}
+use lib.ListN.{take, drop}
+use borrow.Author.Needs.{needs}
+use Rattle.ranges.specs.Ranges.{rangesIn, badRange}
+use Rattle.ranges.proofs.Laws.{anyRange, any-step, any-end, any-bad-any}
 use Rattle.ranges.proofs.bad_words.Statement.{statement}
 use Rattle.ranges.proofs.bad_words.Tie as tie
-use Rattle.ranges.proofs.bad_words.Reads as reads
-use Rattle.ranges.proofs.bad_words.Lts as lts
-use Rattle.ranges.proofs.bad_range.Reads as bad-range-reads
-use Rattle.ranges.proofs.word_at.Reads as word-at-reads
 
 abbrev Inv-loop : tie.InvT-loop
-Inv-loop ram words to bad₀ k₀ bad k = ?
+Inv-loop ram words to bad₀ k₀ bad k =
+    (bad || anyRange (badRange ram) (rangesIn (drop k (take to words)))) ≡ anyRange (badRange ram) (rangesIn (take to words))
 
 abbrev μ-loop : tie.MeasureT-loop
-μ-loop ram words to bad₀ k₀ bad k = ?
+μ-loop ram words to bad₀ k₀ bad k = to - k
 
--- src/lib.rt:83:5
 loop-holds : tie.Need-loop-holds Inv-loop μ-loop
-loop-holds c = ?
+loop-holds c = refl
 
--- src/lib.rt:84:13
 word-at-requires : tie.Need-word-at-requires Inv-loop μ-loop
-word-at-requires c κs = ?
+word-at-requires c κs = omega arith
 
--- src/lib.rt:85:39
 add-word-at : tie.Need-add-word-at Inv-loop μ-loop
-add-word-at c = ?
+add-word-at c = omega arith
 
--- src/lib.rt:85:13
 word-at-requires-2 : tie.Need-word-at-requires-2 Inv-loop μ-loop
-word-at-requires-2 c κs = ?
+word-at-requires-2 c κs = omega arith
 
--- src/lib.rt:86:21
 bad-range-requires : tie.Need-bad-range-requires Inv-loop μ-loop
-bad-range-requires c κs = ?
+bad-range-requires c κs = search needs
 
--- src/lib.rt:87:9
 add-k : tie.Need-add-k Inv-loop μ-loop
-add-k c = ?
+add-k c = omega arith
 
--- src/lib.rt:83:5
 loop-less : tie.Need-loop-less Inv-loop μ-loop
-loop-less c = ?
+loop-less c = omega arith
 
--- src/lib.rt:83:5
 loop-again : tie.Need-loop-again Inv-loop μ-loop
-loop-again c = ?
+loop-again c =
+    let at-loop = c .before .before .before .before in
+    let a = at-loop .before .before .args in
+    let l = at-loop .loop in
+    any-step (badRange (a .ram)) (a .words .now) (a .to) (omega arith) (l .k) (l .bad) _ _ _ (omega arith) (c .before .before .word-at .ensures) (c .before .word-at2 .ensures) (c .bad-range .ensures)
+    ∙ l .inv
 
--- src/lib.rt:77:1
 returns : tie.Need-returns Inv-loop μ-loop
-returns c = ?
+returns c =
+    let a = c .before .before .before .args in
+    let l = c .before .loop in
+    sym (any-end (badRange (a .ram)) (a .words .now) (a .to) (omega arith) (l .k) (l .bad) (omega arith)) ∙ l .inv
+    ∙ sym (any-bad-any (a .ram) (rangesIn (take (a .to) (a .words .now))))
 
 pub bad-words-spec : {M : Type 1} → statement M
 bad-words-spec =

@@ -1,16 +1,19 @@
+use Prim.Native.Nat.{min}
+use mathlib.Core.Path.{_≡_}
+use mathlib.Core.Logic.{⊎-elim}
+use native.Mathlib.Omega.{arith}
 use borrow.Author.Needs.{needs}
 use Rattle.ranges.proofs.kept_words.Statement.{statement}
 use Rattle.ranges.proofs.kept_words.Tie as tie
-use Rattle.ranges.proofs.kept_words.Reads as reads
-use Rattle.ranges.proofs.kept_words.Lts as lts
 
--- src/lib.rt:23:5
 mul-result : tie.Need-mul-result
 mul-result c = search needs
 
--- src/lib.rt:19:1
 returns : tie.Need-returns
-returns c = ?
+returns c =
+    let if1 = c .before .if1 in
+    let e : if1 .kept ≡ min (c .before .before .args .count) 8 = ⊎-elim (λ k. omega arith) (λ k. omega arith) (if1 .came) in
+    (omega arith, omega arith)
 
 pub kept-words-spec : {M : Type 1} → statement M
 kept-words-spec = tie.close (tie.spec mul-result returns)

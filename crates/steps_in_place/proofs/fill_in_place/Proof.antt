@@ -13,9 +13,9 @@ use-in-place-requires c κs = search needs
 
 returns : tie.Need-returns
 unfolding afterFill
-returns c cd nw =
+returns c cd nw ranges =
     let a = c .before .before .before .before .before .args in
-    c .use-in-place .ensures _ _ cd nw ∙ ap (λ (d : Directory). afterUse d (a .set) (a .way)) (c .before .before .line-in-place .ensures _ cd nw)
+    c .use-in-place .ensures _ _ cd nw ranges ∙ ap (λ (d : Directory). afterUse d (a .set) (a .way)) (c .before .before .line-in-place .ensures _ cd nw ranges)
 
 pub fill-in-place-spec : {M : Type 1} → statement M
 fill-in-place-spec = tie.close (tie.spec line-in-place-requires use-in-place-requires returns)

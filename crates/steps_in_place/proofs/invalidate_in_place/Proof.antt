@@ -19,7 +19,7 @@ inside : (c : tie.After-set-of) → lineIndex (c .set-of .result) (c .before .be
 inside c = let l = lookup-below _ _ _ _ (found c) in let s = c .set-of .ensures in omega arith
 
 returns : tie.Need-returns
-returns c lru cd = invalidate-off _ _ _ _ _ _ (c .if1 .taken)
+returns c lru cd ranges = invalidate-off _ _ _ _ _ _ _ (c .if1 .taken)
 
 lookup-requires : tie.Need-lookup-requires
 lookup-requires c κs = search needs
@@ -31,7 +31,7 @@ enum-told : tie.Need-enum-told
 enum-told c = search needs
 
 returns-2 : tie.Need-returns-2
-returns-2 c lru cd = invalidate-nothing _ _ _ _ _ _ (c .before .before .before .before .if1 .left) (sym (c .before .before .lookup .ensures) ∙ c .enum-told .given .1)
+returns-2 c lru cd ranges = invalidate-nothing _ _ _ _ _ _ _ (c .before .before .before .before .if1 .left) (sym (c .before .before .lookup .ensures) ∙ c .enum-told .given .1)
 
 set-of-requires : tie.Need-set-of-requires
 set-of-requires c κs = search needs
@@ -46,7 +46,7 @@ element-write-valid : tie.Need-element-write-valid
 element-write-valid c = inside c
 
 returns-3 : tie.Need-returns-3
-returns-3 c lru cd = invalidate-at _ _ _ _ _ _ (c .before .before .before .before .before .before .if1 .left) _ _ (c .set-of .ensures) (found c)
+returns-3 c lru cd ranges = invalidate-at _ _ _ _ _ _ _ (c .before .before .before .before .before .before .if1 .left) _ _ (c .set-of .ensures) (found c)
 
 pub invalidate-in-place-spec : {M : Type 1} → statement M
 invalidate-in-place-spec =

@@ -21,7 +21,7 @@ element-write-valid c = search needs
 
 returns : tie.Need-returns
 unfolding withLine
-returns c lru cd nw = refl
+returns c lru cd nw ranges = refl
 
 pub line-in-place-spec : {M : Type 1} → statement M
 line-in-place-spec =

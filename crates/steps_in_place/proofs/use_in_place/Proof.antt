@@ -14,7 +14,7 @@ element-write-lru c = search needs
 
 returns : tie.Need-returns
 unfolding afterUse
-returns c tags valid cd nw = rw (c .lru-after .ensures)
+returns c tags valid cd nw ranges = rw (c .lru-after .ensures)
 
 pub use-in-place-spec : {M : Type 1} → statement M
 use-in-place-spec =
