@@ -8,7 +8,7 @@ use Rattle.ways.specs.Address.{dataSize}
 use Rattle.directory.specs.declared.steps.Directory.{Directory}
 use Rattle.ways.specs.declared.ways.Found.{Found}
 use Rattle.ways.specs.declared.ways.Found.the-variants.{At}
-use Rattle.directory.specs.Steps.{lookupOf, afterReset, afterControl}
+use Rattle.directory.specs.Steps.{lookupOf, firstReset, afterControl}
 use Rattle.memory.specs.Parity.{memory}
 use Rattle.bus.specs.Groups.{answerCount, logSize}
 use Rattle.refusal.specs.Call.{State, state, After}
@@ -16,7 +16,7 @@ use Rattle.access.specs.Access.{readCall, writeCall}
 
 -- A unit after a reset and a control call with CD = NW = 0, with so many zero bytes of RAM and of parity.
 abbrev pub enabled : ℕ → ℕ → State
-enabled ram parity = state (afterControl afterReset false false) (memory (replicate ram 0) (replicate parity 0)) (replicate dataSize 0)
+enabled ram parity = state (afterControl firstReset false false) (memory (replicate ram 0) (replicate parity 0)) (replicate dataSize 0)
 
 -- The same answer throughout, and a log of zero words that is just long enough.
 abbrev pub always : ℕ → List ℕ
@@ -50,7 +50,7 @@ benchAddresses = 0 ∷ 0x800 ∷ 0x1000 ∷ 0x1800 ∷ 0x2000 ∷ 0x2800 ∷ []
 
 -- The way that holds an address after the first n of these reads.
 abbrev pub wayAfter : ℕ → ℕ → Found
-wayAfter n a = lookupOf (afterReads (afterControl afterReset false false) (take n benchAddresses)) a
+wayAfter n a = lookupOf (afterReads (afterControl firstReset false false) (take n benchAddresses)) a
 
 -- Each row is a field, in the table's order.
 pub record BenchTable : Type 0 where

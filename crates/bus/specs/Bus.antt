@@ -6,7 +6,8 @@ use lib.Bits.{bitXor}
 use lib.Dec.{eqb}
 use lib.Seq.{sets}
 use Rattle.words.specs.Bytes.{bytesAt}
-use Rattle.memory.specs.Parity.{Memory, stored}
+use Rattle.ranges.specs.Ranges.{Range}
+use Rattle.memory.specs.Parity.{Memory, written}
 
 -- "An answer is 1 for KEN# active + 2 for BS8# + 4 for BS16#."
 abbrev pub ken : ℕ → Bool
@@ -89,5 +90,5 @@ afterCycles f (c ∷ cs) s = afterCycles f cs (f (c .moved) s)
 abbrev pub bufferAfter : List ℕ → ℕ → Run → List ℕ → List ℕ
 bufferAfter ram line r buffer = sets buffer (r .from) (bytesAt ram (line + r .from) (r .count))
 
-abbrev pub memoryAfter : List ℕ → ℕ → Run → Memory → Memory
-memoryAfter buffer line r m = stored m (line + r .from) (bytesAt buffer (r .from) (r .count))
+abbrev pub memoryAfter : List Range → List ℕ → ℕ → Run → Memory → Memory
+memoryAfter rs buffer line r m = written rs m (line + r .from) (bytesAt buffer (r .from) (r .count))

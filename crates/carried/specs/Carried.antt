@@ -3,7 +3,8 @@ use Prim.Native.Nat.{ℕ, suc, _*_, _/_}
 use mathlib.Core.Bool.{Bool, false, cond, _||_}
 use mathlib.Core.List.{List, [], _∷_}
 use lib.Dec.{eqb, ltb}
-use Rattle.memory.specs.Parity.{Memory, stored}
+use Rattle.ranges.specs.Ranges.{Range}
+use Rattle.memory.specs.Parity.{Memory, written}
 
 -- "Let a read carry up to four external writes, each with the cycle number, counted from 0 over the access, before which it lands."
 pub record Carried : Type 0 where
@@ -21,14 +22,14 @@ unfoldable pub later : ℕ → List Carried → List Carried
 later n [] = []
 later n (w ∷ ws) = cond (ltb (w .cycle) n) (later n ws) (w ∷ ws)
 
--- "Equal numbers land in list order.": each puts its bytes into RAM and sets their parity, as an external write does.
-unfoldable pub landed : List Carried → Memory → Memory
-landed [] m = m
-landed (w ∷ ws) m = landed ws (stored m (w .address) (w .bytes))
+-- "Equal numbers land in list order.": each puts its bytes into RAM and sets their parity, as an external write does; read-only ranges ignore it.
+unfoldable pub landed : List Range → List Carried → Memory → Memory
+landed rs [] m = m
+landed rs (w ∷ ws) m = landed rs ws (written rs m (w .address) (w .bytes))
 
 -- Memory at a cycle, by its number: what lands before it has landed.
-abbrev pub memoryAt : Memory → List Carried → ℕ → Memory
-memoryAt m ws n = landed (due (suc n) ws) m
+abbrev pub memoryAt : List Range → Memory → List Carried → ℕ → Memory
+memoryAt rs m ws n = landed rs (due (suc n) ws) m
 
 -- Whether one of them lies in a line.
 unfoldable pub inLine : ℕ → List Carried → Bool

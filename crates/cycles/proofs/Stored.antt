@@ -1,25 +1,18 @@
--- Whatever the answers, write cycles store just the wanted bytes.
+-- Whatever the answers, write cycles write just the wanted bytes.
 use Prim.Native.Nat.{ℕ, suc, _+_, _%_, _≤_, _<_}
 use mathlib.Core.Path.{_≡_, refl, _∙_, ap}
 use mathlib.Core.List.{List, [], _∷_, _++_}
 use native.Mathlib.Omega.{arith}
-use native.Mathlib.Nat.{add-zero}
 use lib.ListN.{length, getD, set, replicate, length-set}
 use lib.Seq.{sets, getD-set-same}
 use Rattle.words.specs.Bytes.{bytesAt}
 use Rattle.words.proofs.Places.{bytes-length, sets-below}
 use Rattle.words.proofs.Spans.{bytes-split}
-use Rattle.memory.specs.Parity.{Memory, put, stored}
+use Rattle.ranges.specs.Ranges.{Range}
+use Rattle.memory.specs.Parity.{Memory, written}
+use Rattle.memory.proofs.Written.{written-append}
 use Rattle.bus.specs.Bus.{Run, run, cyclesOf, afterCycles, memoryAfter}
 use Rattle.cycles.proofs.Brought.{OneDoubleword, cycles-as-runs}
-
--- bytes stored one after another
-pub stored-append : (m : Memory) (a : ℕ) (x y : List ℕ) → stored m a (x ++ y) ≡ stored (stored m a x) (a + length x) y
-unfolding stored
-stored-append m a [] y = rw (add-zero a)
-stored-append m a (b ∷ x) y =
-    let e : a + suc (length x) ≡ suc a + length x = omega arith in
-    rw e (stored-append (put m a b) (suc a) x y)
 
 bytes-none : (l : List ℕ) (i : ℕ) → bytesAt l i 0 ≡ []
 unfolding bytesAt
@@ -36,18 +29,19 @@ bytes-sets l i (b ∷ x) h =
     let e : getD (sets (set l i b) (suc i) x) i 0 ≡ b = sets-below (set l i b) (suc i) x i (omega arith) ∙ getD-set-same l i b 0 (omega arith) in
     bytes-cons (sets (set l i b) (suc i) x) i (length x) ∙ rw (e, bytes-sets (set l i b) (suc i) x (rw length-set (omega arith)))
 
-sent-split : (buffer : List ℕ) (line a m n : ℕ) (s : Memory) → memoryAfter buffer line (run a (m + n)) s ≡ memoryAfter buffer line (run (a + m) n) (memoryAfter buffer line (run a m) s)
-sent-split buffer line a m n s =
+sent-split : (rs : List Range) (buffer : List ℕ) (line a m n : ℕ) (s : Memory) →
+    memoryAfter rs buffer line (run a (m + n)) s ≡ memoryAfter rs buffer line (run (a + m) n) (memoryAfter rs buffer line (run a m) s)
+sent-split rs buffer line a m n s =
     let e : line + (a + m) ≡ line + a + m = omega arith in
-    rw (bytes-split buffer a m n, stored-append s (line + a) (bytesAt buffer a m) (bytesAt buffer (a + m) n), bytes-length buffer a m, e)
+    rw (bytes-split buffer a m n, written-append rs s (line + a) (bytesAt buffer a m) (bytesAt buffer (a + m) n), bytes-length buffer a m, e)
 
--- write cycles store the wanted bytes
-pub wanted-stored : (x : List ℕ) (line : ℕ) (w : Run) → OneDoubleword w → length x ≡ w .count → (xs : List ℕ) → 16 ≤ length xs → (m : Memory) →
-    afterCycles (memoryAfter (sets (replicate 16 0) (w .from) x) line) (cyclesOf xs (w ∷ [])) m ≡ stored m (line + w .from) x
-wanted-stored x line w g e xs l m =
+-- write cycles write the wanted bytes
+pub wanted-written : (rs : List Range) (x : List ℕ) (line : ℕ) (w : Run) → OneDoubleword w → length x ≡ w .count → (xs : List ℕ) → 16 ≤ length xs → (m : Memory) →
+    afterCycles (memoryAfter rs (sets (replicate 16 0) (w .from) x) line) (cyclesOf xs (w ∷ [])) m ≡ written rs m (line + w .from) x
+wanted-written rs x line w g e xs l m =
     let buffer = sets (replicate 16 0) (w .from) x in
-    cycles-as-runs (memoryAfter buffer line) (sent-split buffer line) xs (w ∷ []) (g, tt) (omega (arith, g .line)) m
-    ∙ ap (stored m (line + w .from)) (rw e at (bytes-sets (replicate 16 0) (w .from) x (rw e (g .line))))
+    cycles-as-runs (memoryAfter rs buffer line) (sent-split rs buffer line) xs (w ∷ []) (g, tt) (omega (arith, g .line)) m
+    ∙ ap (written rs m (line + w .from)) (rw e at (bytes-sets (replicate 16 0) (w .from) x (rw e (g .line))))
 
 -- bytes of one doubleword
 pub one-run : (from count : ℕ) → 0 < count → from % 4 + count ≤ 4 → from < 16 → OneDoubleword (run from count)

@@ -15,6 +15,7 @@ use Rattle.ways.specs.Lru.{lruAfter}
 use Rattle.ways.specs.Ways.{validIn, tagIn, lookupIn, victimIn}
 use Rattle.ways.specs.State.{stateNumberIn}
 use Rattle.ranges.specs.declared.Ranges.{Ranges}
+use Rattle.ranges.specs.Ranges.{Range, rangesOf}
 
 -- "The directory holds 512 tags, 512 valid marks and 128 LRU numbers, with CD and NW."; document 02, C-17: "up to eight read-only ranges ..; the
 -- directory keeps them": a directory of these.
@@ -44,6 +45,10 @@ victimOf d s = victimIn (d .valid) (d .lru) s
 
 abbrev pub stateNumberOf : Directory → ℕ → ℕ
 stateNumberOf d s = stateNumberIn (d .tags) (d .valid) (d .lru) s
+
+-- The read-only ranges that a directory keeps.
+abbrev pub rangesKept : Directory → List Range
+rangesKept d = rangesOf (d .ranges)
 
 -- A use of a way changes the LRU number of its set. "Read hits, write hits and kept fills are uses". (001, 002)
 unfoldable pub afterUse : Directory → ℕ → ℕ → Directory

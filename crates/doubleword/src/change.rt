@@ -3,6 +3,7 @@ ghost use mathlib.Core.Path.{_≡_};
 ghost use mathlib.Core.Bool.{Bool};
 ghost use mathlib.Core.List.{List};
 ghost use Prim.Native.Nat.{ℕ};
+ghost use Rattle.ranges.specs.declared.Ranges.{Ranges};
 ghost use Rattle.directory.specs.Steps.{directoryOf, lentDirectory};
 ghost use Rattle.doubleword.specs.Doubleword.{changed};
 ghost use Rattle.doubleword.specs.DoublewordCode.{BelowFour, NoFill};
@@ -46,8 +47,8 @@ pub fn change_in_place(
     change: Change,
 )
     requires { ⌜ BelowFour change ⌝ }
-    ensures { λ _. ⌜ ((cd nw : Bool) → lentDirectory (tags .exit) (valid .exit) (lru .exit) cd nw
-        ≡ changed (lentDirectory (tags .entry) (valid .entry) (lru .entry) cd nw) line change) ⌝ }
+    ensures { λ _. ⌜ ((cd nw : Bool) (ranges : Ranges) → lentDirectory (tags .exit) (valid .exit) (lru .exit) cd nw ranges
+        ≡ changed (lentDirectory (tags .entry) (valid .entry) (lru .entry) cd nw ranges) line change) ⌝ }
 {
     match change {
         Change::Unchanged => {}
@@ -68,8 +69,8 @@ pub fn change_in_place(
 // The same of lent LRU numbers alone, for a change that is no fill.
 pub fn change_lru_in_place(lru: &mut [u8; SETS], line: u32, change: Change)
     requires { ⌜ BelowFour change × NoFill change ⌝ }
-    ensures { λ _. ⌜ ((tags : List ℕ) (valid : List Bool) (cd nw : Bool) → directoryOf tags valid (now (lru .exit)) cd nw
-        ≡ changed (directoryOf tags valid (now (lru .entry)) cd nw) line change) ⌝ }
+    ensures { λ _. ⌜ ((tags : List ℕ) (valid : List Bool) (cd nw : Bool) (ranges : Ranges) → directoryOf tags valid (now (lru .exit)) cd nw ranges
+        ≡ changed (directoryOf tags valid (now (lru .entry)) cd nw ranges) line change) ⌝ }
 {
     match change {
         Change::Unchanged => {}

@@ -1,6 +1,6 @@
 -- Document 01, 'One doubleword', with document 02, C-12: what one doubleword of a read does, by what the directory answers for its line. In two stages: the lookup and, for a
 -- miss, its cycles, which ask nothing of the directory; then the end of a miss, by the victim that the directory names then. `ws` are the writes that the read
--- carries and that have not landed, `first` is the number of the next cycle of the access.
+-- carries and that have not landed, `first` is the number of the next cycle of the access, `rs` are the read-only ranges.
 use Prim.Native.Nat.{ℕ, suc, _+_, _/_}
 use mathlib.Core.Bool.{Bool, false, cond, not, _&&_}
 use mathlib.Core.List.{List, [], _∷_}
@@ -10,6 +10,7 @@ use Rattle.ways.specs.Address.{dataOffset}
 use Rattle.ways.specs.declared.ways.Found.{Found}
 use Rattle.ways.specs.declared.ways.Found.the-variants.{At, Nothing}
 use Rattle.words.specs.Bytes.{bytesAt}
+use Rattle.ranges.specs.Ranges.{Range}
 use Rattle.memory.specs.Parity.{Memory}
 use Rattle.carried.specs.Carried.{Carried, due, later, landed, memoryAt, inLine}
 use Rattle.bus.specs.Bus.{ken, Cycle, cyclesOf, burst, lastAnswer, bufferAfter}
@@ -46,12 +47,12 @@ recordsOf kind at line n [] = []
 recordsOf kind at line n (c ∷ cs) = readRecord kind (at n) line c ∷ recordsOf kind at line (suc n) cs
 
 -- "Otherwise the wanted bytes only."
-unfoldable pub plainMiss : Memory → List Carried → ℕ → Doubleword → Missed
-plainMiss m ws first w =
+unfoldable pub plainMiss : List Range → Memory → List Carried → ℕ → Doubleword → Missed
+plainMiss rs m ws first w =
     record {
-      buffer = bufferOf (memoryAt m ws) (w .line) first (plainCycles w) (replicate 16 0);
+      buffer = bufferOf (memoryAt rs m ws) (w .line) first (plainCycles w) (replicate 16 0);
       kept = false;
-      records = recordsOf plainKind (memoryAt m ws) (w .line) first (plainCycles w);
+      records = recordsOf plainKind (memoryAt rs m ws) (w .line) first (plainCycles w);
     }
 
 -- "Fill: all four bytes of each doubleword of the line".
@@ -63,18 +64,18 @@ unfoldable pub spoiled : List Carried → ℕ → Doubleword → Bool
 spoiled ws first w = inLine (w .line) (due (first + length (fillCycles w)) (later (suc first) ws))
 
 -- "It is kept only if the last cycle also has KEN#; others in between don't matter."
-unfoldable pub fillMiss : Memory → List Carried → ℕ → Doubleword → Missed
-fillMiss m ws first w =
+unfoldable pub fillMiss : List Range → Memory → List Carried → ℕ → Doubleword → Missed
+fillMiss rs m ws first w =
     record {
-      buffer = bufferOf (memoryAt m ws) (w .line) first (fillCycles w) (replicate 16 0);
+      buffer = bufferOf (memoryAt rs m ws) (w .line) first (fillCycles w) (replicate 16 0);
       kept = not (spoiled ws first w) && ken (lastAnswer 0 (fillCycles w));
-      records = recordsOf fillKind (memoryAt m ws) (w .line) first (fillCycles w);
+      records = recordsOf fillKind (memoryAt rs m ws) (w .line) first (fillCycles w);
     }
 
 -- "Read miss: a fill when CD = 0, PCD = 0 and the first cycle has KEN#." (001, 002) `mayFill`: CD = 0 and PCD = 0.
-unfoldable pub readMiss : Bool → Memory → List Carried → ℕ → Doubleword → Missed
-readMiss mayFill m ws first w =
-    cond (mayFill && ken (getD (w .answers) 0 0)) (fillMiss m ws first w) (plainMiss m ws first w)
+unfoldable pub readMiss : Bool → List Range → Memory → List Carried → ℕ → Doubleword → Missed
+readMiss mayFill rs m ws first w =
+    cond (mayFill && ken (getD (w .answers) 0 0)) (fillMiss rs m ws first w) (plainMiss rs m ws first w)
 
 -- "A kept fill writes the victim's bytes, tag and valid mark. A dropped one changes neither directory nor data array."
 abbrev pub keptChange : Bool → ℕ → Change
@@ -84,17 +85,17 @@ abbrev pub keptArray : Bool → ℕ → ℕ → List ℕ → List ℕ → List �
 keptArray kept victim line buffer array = cond kept (sets array (dataOffset line victim) (bytesAt buffer 0 16)) array
 
 -- The end of a miss, by the victim. What landed during its cycles is in memory.
-unfoldable pub settled : ℕ → Memory → List Carried → ℕ → List ℕ → Doubleword → Missed → Done
-settled victim m ws first array w missed =
+unfoldable pub settled : ℕ → List Range → Memory → List Carried → ℕ → List ℕ → Doubleword → Missed → Done
+settled victim rs m ws first array w missed =
     record {
       change = keptChange (missed .kept) victim;
-      memory = landed (due (first + length (missed .records)) ws) m;
+      memory = landed rs (due (first + length (missed .records)) ws) m;
       array = keptArray (missed .kept) victim (w .line) (missed .buffer) array;
       bytes = bytesAt (missed .buffer) (w .wanted .from) (w .wanted .count);
       records = missed .records;
     }
 
 -- A doubleword of a read, by what the lookup found: "A doubleword is looked up before a write lands ahead of its first cycle."
-unfoldable pub readDone : Found → ℕ → Bool → Memory → List Carried → ℕ → List ℕ → Doubleword → Done
-readDone (At way) victim mayFill m ws first array w = readHit way m array w
-readDone Nothing victim mayFill m ws first array w = settled victim m ws first array w (readMiss mayFill m ws first w)
+unfoldable pub readDone : Found → ℕ → Bool → List Range → Memory → List Carried → ℕ → List ℕ → Doubleword → Done
+readDone (At way) victim mayFill rs m ws first array w = readHit way m array w
+readDone Nothing victim mayFill rs m ws first array w = settled victim rs m ws first array w (readMiss mayFill rs m ws first w)

@@ -34,6 +34,6 @@ pub record ReadNext (done : Done) (cursor : AccessCursor) (log₀ : List ℕ) (r
   pub counts : r .count ≡ countOf cursor
   pub reads : Reads done (countOf cursor) (cursor .cycles) log₀ (r .change) (r .value) (r .cycles) array log
 
--- A doubleword of a read that carries nothing.
+-- A doubleword of a read that carries nothing, so that no range is asked.
 abbrev pub readAlone : Found → ℕ → Bool → Memory → List ℕ → Doubleword → Done
-readAlone f victim mayFill m array w = readDone f victim mayFill m [] 0 array w
+readAlone f victim mayFill m array w = readDone f victim mayFill [] m [] 0 array w

@@ -3,6 +3,7 @@ use Prim.Native.Nat.{ℕ}
 use mathlib.Core.Bool.{Bool}
 use mathlib.Core.List.{List, []}
 use denote.Ref.{RefT, now}
+use Rattle.ranges.specs.declared.Ranges.{Ranges}
 use Rattle.directory.specs.declared.steps.Directory.{Directory}
 use Rattle.directory.specs.declared.steps.Outcome.{Outcome}
 use Rattle.directory.specs.Outcome.{outcome}
@@ -19,8 +20,8 @@ abbrev pub state : Directory → Memory → List ℕ → State
 state d m array = record { directory = d; memory = m; array = array }
 
 -- The state that lent references hold.
-abbrev pub lentState : RefT (List ℕ) → RefT (List Bool) → RefT (List ℕ) → Bool → Bool → RefT (List ℕ) → RefT (List ℕ) → RefT (List ℕ) → State
-lentState tags valid lru cd nw ram parity array = state (lentDirectory tags valid lru cd nw) (lentMemory ram parity) (now array)
+abbrev pub lentState : RefT (List ℕ) → RefT (List Bool) → RefT (List ℕ) → Bool → Bool → Ranges → RefT (List ℕ) → RefT (List ℕ) → RefT (List ℕ) → State
+lentState tags valid lru cd nw ranges ram parity array = state (lentDirectory tags valid lru cd nw ranges) (lentMemory ram parity) (now array)
 
 -- What a call leaves: its answer with the directory, every lent buffer, and the bytes that a view shows.
 pub record After : Type 0 where

@@ -7,6 +7,8 @@ use lib.ListN.{length}
 use Rattle.directory.specs.declared.steps.Directory.{Directory}
 use Rattle.ways.specs.Address.{setOf, dataSize}
 use Rattle.ways.specs.State.{stateNumberIn}
+use Rattle.ranges.specs.declared.Ranges.{Ranges}
+use Rattle.ranges.specs.Ranges.{Range, rangesOf, anyBad}
 use Rattle.carried.specs.Carried.{Carried}
 use Rattle.bus.specs.Groups.{badWidth, answerCount, highestAnswer, logSize}
 
@@ -84,6 +86,15 @@ anyRefused ram (w ∷ ws) = not (eqb (externalNumber ram (w .address) (length (w
 -- Document 02, C-12: "33 where there are more than four writes, they aren't in cycle order or one would be refused by 10".
 unfoldable pub carriedNumber : ℕ → List Carried → ℕ
 carriedNumber ram ws = when (ltb 4 (length ws) || not (inOrder ws) || anyRefused ram ws) 33
+
+-- Document 02, C-17: "every other call given directory and RAM tests them by 37 and 38 too"; "37 where a range is empty, not whole lines or beyond RAM, after
+-- 10; 38 for more than eight, after 37": of some ranges and how many they are, by RAM's length.
+unfoldable pub rangesNumber : ℕ → List Range → ℕ → ℕ
+rangesNumber ram rs count = orElse (when (anyBad ram rs) 37) (when (ltb 8 count) 38)
+
+-- Of those that a directory keeps, whose count may be any.
+abbrev pub keptNumber : ℕ → Ranges → ℕ
+keptNumber ram kept = rangesNumber ram (rangesOf kept) (kept .count)
 
 -- "Checked in every touched set, the lower address's set first": of the first and the last byte of an access. "All of one set comes before the next set."
 unfoldable pub statesNumberIn : List ℕ → List Bool → List ℕ → ℕ → ℕ → ℕ

@@ -8,6 +8,7 @@ use Rattle.ways.specs.Address.{dataOffset}
 use Rattle.ways.specs.declared.ways.Found.{Found}
 use Rattle.ways.specs.declared.ways.Found.the-variants.{At, Nothing}
 use Rattle.words.specs.Bytes.{bytesAt}
+use Rattle.ranges.specs.Ranges.{Range}
 use Rattle.memory.specs.Parity.{Memory}
 use Rattle.bus.specs.Bus.{afterCycles, memoryAfter}
 use Rattle.bus.specs.Record.{writeRecord}
@@ -20,12 +21,12 @@ abbrev pub writeBuffer : List ℕ → Doubleword → List ℕ
 writeBuffer operand w =
     sets (replicate 16 0) (w .wanted .from) (bytesAt operand (w .place) (w .wanted .count))
 
--- "Write: to RAM and the moved lanes' parity".
-unfoldable pub writeThrough : Change → Memory → List ℕ → List ℕ → Doubleword → Done
-writeThrough change m array operand w =
+-- "Write: to RAM and the moved lanes' parity"; `rs` are the read-only ranges.
+unfoldable pub writeThrough : Change → List Range → Memory → List ℕ → List ℕ → Doubleword → Done
+writeThrough change rs m array operand w =
     record {
       change = change;
-      memory = afterCycles (memoryAfter (writeBuffer operand w) (w .line)) (plainCycles w) m;
+      memory = afterCycles (memoryAfter rs (writeBuffer operand w) (w .line)) (plainCycles w) m;
       array = array;
       bytes = [];
       records = map (writeRecord (writeBuffer operand w) (w .line)) (plainCycles w);
@@ -37,9 +38,9 @@ hitArray way array operand w =
     sets array (dataOffset (w .line) way + w .wanted .from) (bytesAt operand (w .place) (w .wanted .count))
 
 -- "A miss never fills. With CD = NW = 1 a hit changes the data array and, as a use, the LRU number; RAM and parity stay, with no cycle." `stays`: CD = NW = 1. (002)
-unfoldable pub writeDone : Found → Bool → Memory → List ℕ → List ℕ → Doubleword → Done
-writeDone (At way) stays m array operand w =
+unfoldable pub writeDone : Found → Bool → List Range → Memory → List ℕ → List ℕ → Doubleword → Done
+writeDone (At way) stays rs m array operand w =
     cond stays
     (record { change = Use way; memory = m; array = hitArray way array operand w; bytes = []; records = [] })
-    (writeThrough (Use way) m (hitArray way array operand w) operand w)
-writeDone Nothing stays m array operand w = writeThrough Unchanged m array operand w
+    (writeThrough (Use way) rs m (hitArray way array operand w) operand w)
+writeDone Nothing stays rs m array operand w = writeThrough Unchanged rs m array operand w

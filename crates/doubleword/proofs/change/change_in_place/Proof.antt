@@ -30,15 +30,15 @@ fill-in-place-requires c κs = (omega (arith, c .before .set-of2 .ensures), rw (
 
 returns : tie.Need-returns
 unfolding changed
-returns c cd nw = rw (c .enum-told .given .1)
+returns c cd nw ranges = rw (c .enum-told .given .1)
 
 returns-2 : tie.Need-returns-2
 unfolding changed
-returns-2 c cd nw = rw (c .before .before .before .before .change .given .1, ← c .before .set-of .ensures) (c .use-in-place .ensures _ _ cd nw)
+returns-2 c cd nw ranges = rw (c .before .before .before .before .change .given .1, ← c .before .set-of .ensures) (c .use-in-place .ensures _ _ cd nw ranges)
 
 returns-3 : tie.Need-returns-3
 unfolding changed
-returns-3 c cd nw = rw (c .before .before .before .before .before .before .before .change2 .given .1, ← c .before .before .set-of2 .ensures, ← c .before .tag-of .ensures) (c .fill-in-place .ensures cd nw)
+returns-3 c cd nw ranges = rw (c .before .before .before .before .before .before .before .change2 .given .1, ← c .before .before .set-of2 .ensures, ← c .before .tag-of .ensures) (c .fill-in-place .ensures cd nw ranges)
 
 pub change-in-place-spec : {M : Type 1} → statement M
 change-in-place-spec =

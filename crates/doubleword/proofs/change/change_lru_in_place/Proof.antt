@@ -21,14 +21,14 @@ enum-known-change-2 c = search needs
 
 returns : tie.Need-returns
 unfolding changed
-returns c tags valid cd nw = rw (c .enum-told .given .1)
+returns c tags valid cd nw ranges = rw (c .enum-told .given .1)
 
 returns-2 : tie.Need-returns-2
 unfolding changed
-returns-2 c tags valid cd nw = rw (c .before .before .before .before .change .given .1, ← c .before .set-of .ensures) (c .use-in-place .ensures tags valid cd nw)
+returns-2 c tags valid cd nw ranges = rw (c .before .before .before .before .change .given .1, ← c .before .set-of .ensures) (c .use-in-place .ensures tags valid cd nw ranges)
 
 returns-3 : tie.Need-returns-3
-returns-3 c tags valid cd nw = absurd (rw (c .before .change2 .given .1) at (c .before .before .before .pre .1))
+returns-3 c tags valid cd nw ranges = absurd (rw (c .before .change2 .given .1) at (c .before .before .before .pre .1))
 
 pub change-lru-in-place-spec : {M : Type 1} → statement M
 change-lru-in-place-spec =
