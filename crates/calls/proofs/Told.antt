@@ -8,7 +8,8 @@ use lib.Dec.{eqb, ltb}
 use lib.ListN.{length, getD}
 use Rattle.laws.proofs.Tests.{by-test}
 use Rattle.words.specs.Bytes.{bytesAt, valueOf}
-use Rattle.ranges.specs.Ranges.{Range}
+use Rattle.ranges.specs.Ranges.{Range, readOnly}
+use Rattle.doubleword.specs.Doubleword.{Doubleword}
 use Rattle.directory.specs.Steps.{rangesKept}
 use Rattle.carried.specs.Carried.{Carried}
 use Rattle.bus.specs.Groups.{groupCount}
@@ -20,6 +21,7 @@ use Rattle.access.specs.Access.{underWay, readNumber, readAll}
 use Rattle.access.proofs.Calls.{read-done}
 use Rattle.calls.specs.Calls.{Call, read, write, external, snoop, flush, control, view, reset, testWrite, testRead, setRanges, step, stepBy, recordsLeft}
 use Rattle.calls.specs.Plain.{PlainMemory, heldAfter, heldAtEnd, groupsOf, namedBy, moves, byteMoved, byteRead, Plain, plainAccepted, plainRefused, plainNumber, plainDone, plain}
+use Rattle.calls.specs.Matches.{kindOf, alters, EachQuiet, KenInactive}
 use Rattle.calls.proofs.Counts.{reads-most, records-left}
 use Rattle.calls.proofs.Doublewords.{bytes-by-at}
 
@@ -94,3 +96,44 @@ done-alone m (setRanges words) h rs = refl
 pub told-alone : (m : PlainMemory) (c : Call) → carriesNone c ≡ true → (rs : List Record) → plain m c rs ≡ plain m c []
 unfolding plain
 told-alone m c h rs = ap (λ (p : Plain). cond (eqb (plainNumber (m .bytes) c) 0) p (plainRefused (plainNumber (m .bytes) c) m)) (done-alone m c h rs)
+
+-- a call that sets no range leaves the plain memory's ranges
+done-rom : (m : PlainMemory) (c : Call) → alters (kindOf c) 0 ≡ false → (rs : List Record) → plainDone m c rs .memory .rom ≡ m .rom
+unfolding plainDone
+done-rom m (read a w pcd xs log ws) h rs = refl
+done-rom m (write a w v xs log) h rs = refl
+done-rom m (external a x) h rs = refl
+done-rom m (snoop a) h rs = refl
+done-rom m flush h rs = refl
+done-rom m (control cd nw) h rs = refl
+done-rom m (view a) h rs = refl
+done-rom m reset h rs = refl
+done-rom m (testWrite r w tag mark x) h rs = refl
+done-rom m (testRead r w) h rs = refl
+done-rom m (setRanges words) h rs = absurd (true≢false h)
+
+pub rom-stays : (m : PlainMemory) (c : Call) → alters (kindOf c) 0 ≡ false → (rs : List Record) → plain m c rs .memory .rom ≡ m .rom
+unfolding plain
+rom-stays m c h rs =
+    by-test (λ b. cond b (plainDone m c rs) (plainRefused (plainNumber (m .bytes) c) m) .memory .rom ≡ m .rom) (eqb (plainNumber (m .bytes) c) 0)
+    (λ _. done-rom m c h rs)
+    (λ _. refl)
+
+-- without a range every answer may have KEN#
+none-quiet : (ds : List Doubleword) → EachQuiet [] ds
+unfolding EachQuiet readOnly
+none-quiet [] = tt
+none-quiet (d ∷ ds) = ((λ h. absurd (true≢false (sym h))), none-quiet ds)
+
+pub none-inactive : (c : Call) → KenInactive [] c
+none-inactive (read a w pcd xs log ws) = none-quiet _
+none-inactive (write a w v xs log) = tt
+none-inactive (external a x) = tt
+none-inactive (snoop a) = tt
+none-inactive flush = tt
+none-inactive (control cd nw) = tt
+none-inactive (view a) = tt
+none-inactive reset = tt
+none-inactive (testWrite r w tag mark x) = tt
+none-inactive (testRead r w) = tt
+none-inactive (setRanges words) = tt
