@@ -67,7 +67,7 @@ class RandomList:
         for index in range(len(parity)):
             parity[index] |= self.random.randrange(16) << 4
         data = bytearray(self.random.randbytes(DATA_BYTES))
-        self.unit = Unit(steps.reset(), ram, parity, data)
+        self.unit = Unit(steps.first(), ram, parity, data)
         self.comparison = Comparison(PlainMemory(bytearray(ram)))
         self.wrong_share = self.random.choice((0.0, 0.0, 0.05, 0.3))
         self.met: Counter[str] = Counter()
@@ -229,8 +229,7 @@ class RandomList:
         self.compared("control", number, self.plain.control(cd, nw))
 
     def reset(self) -> None:
-        result, self.unit.directory = access.reset()
-        self.compared("reset", result.number, self.plain.reset())
+        self.compared("reset", access.reset(self.unit.directory).number, self.plain.reset())
         self.control()
 
 
@@ -265,7 +264,7 @@ class ListWithTestCalls(RandomList):
         before = snapshot(self.unit)
         number = test_write(self.unit, *self.place(), tag, valid, sixteen).number
         after = snapshot(self.unit)
-        check("LRU numbers, CD, NW, RAM and parity", after[2:7], before[2:7])
+        check("LRU numbers, CD, NW, ranges, RAM and parity", after[2:8], before[2:8])
         if number:
             check("a refused test write changes nothing", after, before)
         self.met["planted"] += valid and not number
@@ -364,7 +363,7 @@ def random_lists() -> None:
 
 def ill_formed_directory(source: random.Random) -> Directory:
     """A directory in which the few sets of a small RAM are often ill-formed."""
-    directory = steps.reset()
+    directory = steps.first()
     directory.cd, directory.nw = source.random() < 0.5, source.random() < 0.5
     for index in range(8):
         directory.tags[index] = source.choice((0, 1, 2, 3, 4, 5, 2097151, 2097152))
