@@ -154,7 +154,9 @@ uint32_t external_write(
     return number;
 }
 
-uint32_t view_number(const Directory &directory, const unit486_buffers &lent, uint32_t address)
+// In line in both that ask it: a view is short.
+[[gnu::always_inline]] static inline uint32_t number_of_view(
+    const Directory &directory, const unit486_buffers &lent, uint32_t address)
 {
     uint32_t number = view_input_number(lent, address);
     if (number == UNIT486_DONE)
@@ -162,11 +164,16 @@ uint32_t view_number(const Directory &directory, const unit486_buffers &lent, ui
     return number != UNIT486_DONE ? number : state_number(directory, set_of(address));
 }
 
+uint32_t view_number(const Directory &directory, const unit486_buffers &lent, uint32_t address)
+{
+    return number_of_view(directory, lent, address);
+}
+
 // "A line view is a part of the data array where the line is held, otherwise a part of RAM, always the
 // sixteen bytes around the address". A view is no use.
 uint32_t view(const Directory &directory, const unit486_buffers &lent, uint32_t address, uint8_t *shown)
 {
-    const uint32_t number = view_number(directory, lent, address);
+    const uint32_t number = number_of_view(directory, lent, address);
     if (number != UNIT486_DONE)
         return number;
     const unsigned way = lookup(directory, address);

@@ -243,7 +243,8 @@ public:
             for (uint32_t place = 0; place < UNIT486_RANGES_MOST; ++place)
                 for (uint32_t fault = 0; fault <= range_faults; ++fault)
                     for (const Kind kind : {Kind::read, Kind::read_carrying, Kind::read_carrying_none,
-                             Kind::write, Kind::external_write, Kind::view, Kind::view_number, Kind::reset})
+                             Kind::write, Kind::external_write, Kind::view, Kind::view_number, Kind::reset,
+                             Kind::reset_by_value})
                         check_kept(kind, count, place, fault);
     }
 
