@@ -7,7 +7,8 @@ use native.Mathlib.Omega.{arith}
 use lib.Dec.{eqb, ltb}
 use borrow.Author.Tests.{lt-ltb, le-ltb, ltb-true}
 use Rattle.laws.proofs.Tests.{cond-true, cond-false, by-test, neither}
-use Rattle.memory.specs.Parity.{Memory, stored}
+use Rattle.ranges.specs.Ranges.{Range}
+use Rattle.memory.specs.Parity.{Memory, written}
 use Rattle.carried.specs.Carried.{Carried, due, later, landed, inLine}
 
 module _ (n : ℕ) (w : Carried) (ws : List Carried) where
@@ -72,14 +73,14 @@ module _ (n k : ℕ) (h : n ≤ k) where
       refl
 
 -- lists of writes that land one after the other
-pub landed-append : (a b : List Carried) (m : Memory) → landed (a ++ b) m ≡ landed b (landed a m)
+pub landed-append : (rs : List Range) (a b : List Carried) (m : Memory) → landed rs (a ++ b) m ≡ landed rs b (landed rs a m)
 unfolding landed
-landed-append [] b m = refl
-landed-append (w ∷ a) b m = landed-append a b (stored m (w .address) (w .bytes))
+landed-append rs [] b m = refl
+landed-append rs (w ∷ a) b m = landed-append rs a b (written rs m (w .address) (w .bytes))
 
-pub landed-then : (n k : ℕ) → n ≤ k → (ws : List Carried) (m : Memory) → landed (due k ws) m ≡ landed (due k (later n ws)) (landed (due n ws) m)
-landed-then n k h ws m =
-    ap (λ (x : List Carried). landed x m) (sym (due-then n k h ws)) ∙ landed-append (due n ws) (due k (later n ws)) m
+pub landed-then : (rs : List Range) (n k : ℕ) → n ≤ k → (ws : List Carried) (m : Memory) → landed rs (due k ws) m ≡ landed rs (due k (later n ws)) (landed rs (due n ws) m)
+landed-then rs n k h ws m =
+    ap (λ (x : List Carried). landed rs x m) (sym (due-then n k h ws)) ∙ landed-append rs (due n ws) (due k (later n ws)) m
 
 pub in-line-append : (line : ℕ) (a b : List Carried) → inLine line (a ++ b) ≡ (inLine line a || inLine line b)
 unfolding inLine

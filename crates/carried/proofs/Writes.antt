@@ -9,6 +9,7 @@ use lib.ListN.{length, getD}
 use borrow.Author.Tests.{lt-ltb, le-ltb}
 use Rattle.words.specs.Bytes.{bytesAt}
 use Rattle.memory.specs.Parity.{Memory, memory, stored}
+use Rattle.memory.proofs.Written.{written-everywhere}
 use Rattle.carried.specs.Carried.{Carried, due, later, landed, inLine}
 use Rattle.carried.specs.CarriedCode.{writeIn, writesFrom, carriedOf, leftFrom, CarriedNeeds}
 use Rattle.carried.specs.declared.CarriedWrites.{CarriedWrites}
@@ -103,15 +104,15 @@ module _ (c : CarriedWrites) where
       due-all n = let e : c .count - to ≡ 0 = omega arith in none-due (rw e) (rw e)
 
   -- the loop that lands them
-  pub landed-next : (from k : ℕ) (m : Memory) → from ≤ k → landed (writesFrom c from (k + 1 - from)) m ≡ landed (writeIn c k ∷ []) (landed (writesFrom c from (k - from)) m)
-  landed-next from k m h = ap (λ (l : List Carried). landed l m) (writes-next from k h) ∙ landed-append (writesFrom c from (k - from)) (writeIn c k ∷ []) m
+  pub landed-next : (from k : ℕ) (m : Memory) → from ≤ k → landed [] (writesFrom c from (k + 1 - from)) m ≡ landed [] (writeIn c k ∷ []) (landed [] (writesFrom c from (k - from)) m)
+  landed-next from k m h = ap (λ (l : List Carried). landed [] l m) (writes-next from k h) ∙ landed-append [] (writesFrom c from (k - from)) (writeIn c k ∷ []) m
 
   -- the loop that looks for a line
   pub in-line-next : (from k line : ℕ) → from ≤ k → inLine line (writesFrom c from (k + 1 - from)) ≡ (inLine line (writesFrom c from (k - from)) || inLine line (writeIn c k ∷ []))
   in-line-next from k line h = ap (inLine line) (writes-next from k h) ∙ in-line-append line (writesFrom c from (k - from)) (writeIn c k ∷ [])
 
   pub record LandLoop (from to : ℕ) (ram₀ parity₀ ram parity : List ℕ) (k : ℕ) : Type 0 where
-    pub memories : memory ram parity ≡ landed (writesFrom c from (k - from)) (memory ram₀ parity₀)
+    pub memories : memory ram parity ≡ landed [] (writesFrom c from (k - from)) (memory ram₀ parity₀)
     pub rams : length ram ≡ length ram₀
     pub parities : length parity ≡ length parity₀
     pub above : from ≤ k
@@ -128,7 +129,7 @@ module _ (c : CarriedWrites) where
     unfolding landed
     land-next ram parity k g h ram′ parity′ e er ep =
         record {
-          memories = e ∙ ap (λ (m : Memory). landed (writeIn c k ∷ []) m) (g .memories) ∙ sym (landed-next from k (memory ram₀ parity₀) (g .above));
+          memories = e ∙ sym (written-everywhere (memory ram parity) (getD (c .addresses) k 0) (bytesAt (c .bytes) (16 * k) (getD (c .lengths) k 0))) ∙ ap (λ (m : Memory). landed [] (writeIn c k ∷ []) m) (g .memories) ∙ sym (landed-next from k (memory ram₀ parity₀) (g .above));
           rams = er ∙ g .rams;
           parities = ep ∙ g .parities;
           above = omega (arith, g .above);

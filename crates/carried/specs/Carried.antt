@@ -3,7 +3,7 @@ use Prim.Native.Nat.{ℕ, suc, _*_, _/_}
 use mathlib.Core.Bool.{Bool, false, cond, _||_}
 use mathlib.Core.List.{List, [], _∷_}
 use lib.Dec.{eqb, ltb}
-use Rattle.ranges.specs.Ranges.{Range}
+use Rattle.ranges.specs.Ranges.{Range, readOnly}
 use Rattle.memory.specs.Parity.{Memory, written}
 
 -- "Let a read carry up to four external writes, each with the cycle number, counted from 0 over the access, before which it lands."
@@ -35,3 +35,8 @@ memoryAt rs m ws n = landed rs (due (suc n) ws) m
 unfoldable pub inLine : ℕ → List Carried → Bool
 inLine line [] = false
 inLine line (w ∷ ws) = eqb (w .address / 16 * 16) line || inLine line ws
+
+-- The writes with the bytes that RAM takes of them: none of a write into a read-only line.
+unfoldable pub taken : List Range → List Carried → List Carried
+taken rs [] = []
+taken rs (w ∷ ws) = record { cycle = w .cycle; address = w .address; bytes = cond (readOnly rs (w .address)) [] (w .bytes) } ∷ taken rs ws

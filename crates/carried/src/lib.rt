@@ -1,12 +1,17 @@
 // The external writes that a read carries: which of them are due, what they store, whether they lie in a line.
 ghost use mathlib.Core.Path.{_≡_};
-ghost use Prim.Native.Nat.{_+_, _*_, _-_, _/_, _≤_};
+ghost use mathlib.Core.Bool.{cond};
+ghost use mathlib.Core.List.{[]};
+ghost use Prim.Native.Nat.{ℕ, _+_, _*_, _-_, _/_, _≤_};
 ghost use lib.ListN.{length};
+ghost use Rattle.ranges.specs.Ranges.{lentRanges, rangesOf, readOnly};
 ghost use Rattle.words.specs.Bytes.{bytesAt};
 ghost use Rattle.memory.specs.Parity.{lentMemory, stored};
-ghost use Rattle.carried.specs.Carried.{due, inLine, landed, later};
-ghost use Rattle.carried.specs.CarriedCode.{CarriedNeeds, leftFrom, writesFrom};
+ghost use Rattle.carried.specs.Carried.{due, inLine, landed, later, taken};
+ghost use Rattle.carried.specs.CarriedCode.{CarriedNeeds, carriedOf, leftFrom, writesFrom};
 use memory::put_byte;
+use ranges::BOUNDS;
+use ranges::read_only;
 
 // The most writes that a read carries.
 pub const CARRIED_MOST: u32 = 4;
@@ -64,7 +69,7 @@ fn land_one(
 // The writes of some places land: their bytes go into RAM, with their parity.
 pub fn land(carried: CarriedWrites, from: usize, to: usize, ram: &mut [u8], parity: &mut [u8])
     requires { ⌜ (from ≤ to) × (to ≤ carried .count) × CarriedNeeds carried (length (now ram)) (length (now parity)) ⌝ }
-    ensures { λ _. ⌜ lentMemory (ram .exit) (parity .exit) ≡ landed (writesFrom carried from (to - from)) (lentMemory (ram .entry) (parity .entry)) ⌝ }
+    ensures { λ _. ⌜ lentMemory (ram .exit) (parity .exit) ≡ landed [] (writesFrom carried from (to - from)) (lentMemory (ram .entry) (parity .entry)) ⌝ }
 {
     let bytes = carried.bytes;
     let mut k = from;
@@ -94,4 +99,47 @@ pub fn any_in_line(carried: CarriedWrites, from: usize, to: usize, line: u32) ->
         k += 1;
     }
     found
+}
+
+// How many bytes RAM takes of a write: none into a read-only line.
+fn taken_length<'a>(range_count: u32, bounds: &'a [u32; BOUNDS], address: u32, length: u32) -> u32
+    ensures { λ r. ⌜ r ≡ cond (readOnly (rangesOf (lentRanges «range_count» (bounds .entry))) address) 0 length ⌝ }
+{
+    if read_only(range_count, bounds, address) {
+        0
+    } else {
+        length
+    }
+}
+
+// The writes with the bytes that RAM takes of them. A write into a read-only line stays, without bytes: snoops and dropped fills ask its
+// address alone. Most directories keep no range.
+pub fn taken_writes<'a>(
+    carried: CarriedWrites,
+    range_count: u32,
+    bounds: &'a [u32; BOUNDS],
+) -> CarriedWrites
+    requires { ⌜ carried .count ≤ 4 ⌝ }
+    ensures { λ r. ⌜ (r .count ≡ carried .count)
+        × (carriedOf r ≡ taken (rangesOf (lentRanges «range_count» (bounds .entry))) (carriedOf carried))
+        × ((ram parity : ℕ) → CarriedNeeds carried ram parity → CarriedNeeds r ram parity) ⌝ }
+{
+    if range_count == 0 {
+        return carried;
+    }
+    let cycles = carried.cycles;
+    let addresses = carried.addresses;
+    let bytes = carried.bytes;
+    let first = taken_length(range_count, bounds, addresses[0], carried.lengths[0]);
+    let second = taken_length(range_count, bounds, addresses[1], carried.lengths[1]);
+    let third = taken_length(range_count, bounds, addresses[2], carried.lengths[2]);
+    let fourth = taken_length(range_count, bounds, addresses[3], carried.lengths[3]);
+    let lengths = [first, second, third, fourth];
+    CarriedWrites {
+        count: carried.count,
+        cycles,
+        addresses,
+        lengths,
+        bytes,
+    }
 }

@@ -4,7 +4,7 @@ use Rattle.memory.specs.Parity.{memory}
 use borrow.Author.Needs.{needs}
 use denote.Ref.{now}
 use Prim.Native.Nat.{_-_}
-use mathlib.Core.List.{List}
+use mathlib.Core.List.{List, []}
 use native.Mathlib.Omega.{arith}
 use Rattle.carried.proofs.land.Statement.{statement}
 use Rattle.carried.proofs.land.Tie as tie
@@ -71,7 +71,7 @@ returns : tie.Need-returns Inv-loop μ-loop
 returns c =
     let at-loop = c .before in
     let start = at-loop .before .before .before .before in
-    whole-list _ _ _ _ (λ (l : List Carried). landed l (memory (now (start .args .ram)) (now (start .args .parity)))) (at-loop .loop .inv .memories) (omega arith)
+    whole-list _ _ _ _ (λ (l : List Carried). landed [] l (memory (now (start .args .ram)) (now (start .args .parity)))) (at-loop .loop .inv .memories) (omega arith)
 
 pub land-spec : {M : Type 1} → statement M
 land-spec =
