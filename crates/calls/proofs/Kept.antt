@@ -36,7 +36,7 @@ use Rattle.masters.proofs.External.{external-refused, external-done}
 use Rattle.diagnostics.specs.Diagnostics.{testWriteNumber}
 use Rattle.diagnostics.proofs.Laws.{test-write-done, test-write-refused, test-write-place}
 use Rattle.read_only_ranges.specs.SetRanges.{setRangesNumber, rangesSet}
-use Rattle.read_only_ranges.proofs.SetRanges.{set-ranges-done, set-ranges-refused, set-ranges-good}
+use Rattle.read_only_ranges.proofs.SetRanges.{set-ranges-done, set-ranges-refused, set-ranges-kept}
 use Rattle.calls.specs.Calls.{Call, read, write, external, snoop, flush, control, view, reset, testWrite, testRead, setRanges, step, stepBy}
 use Rattle.calls.proofs.Memories.{written-agrees}
 use Rattle.calls.proofs.Carrying.{EachGood, carried-accepted, due-good, later-good}
@@ -298,16 +298,16 @@ module _ (s : State) (k : Kept s) where
       (λ h. rw (test-write-refused s r w tag mark x h) k)
 
   -- ranges are set within RAM
-  set-ranges-kept : (words : List ℕ) → Kept (nextState (step s (setRanges words)))
+  ranges-call-kept : (words : List ℕ) → Kept (nextState (step s (setRanges words)))
   unfolding stepBy
-  set-ranges-kept words =
+  ranges-call-kept words =
       same-or _ (setRangesNumber size words) 0
       (λ z.
       let d = s .directory in
       let kept = rangesSet words in
       let c = ranges-control d kept in
       rw (set-ranges-done s words z)
-      (kept-changed s k (withRanges d kept) (ranges-limits d kept (k .limits)) (λ h. c .0 ∙ k .control (sym (c .1) ∙ h)) (ap (keptNumber size) (ranges-set d kept) ∙ set-ranges-good size words z)))
+      (kept-changed s k (withRanges d kept) (ranges-limits d kept (k .limits)) (λ h. c .0 ∙ k .control (sym (c .1) ∙ h)) (ap (keptNumber size) (ranges-set d kept) ∙ set-ranges-kept size words z)))
       (λ h. rw (set-ranges-refused s words h) k)
 
 -- every call, refused or done
@@ -325,7 +325,7 @@ call-kept s k reset =
     kept-changed s k _ (reset-limits ranges) (λ _. reset-control ranges .0) (kept-ranges s k _ (reset-ranges ranges))
 call-kept s k (testWrite r w tag mark x) = test-write-kept s k r w tag mark x
 call-kept s k (testRead r w) = k
-call-kept s k (setRanges words) = set-ranges-kept s k words
+call-kept s k (setRanges words) = ranges-call-kept s k words
 
 -- A LIST
 

@@ -84,9 +84,9 @@ module _ (rom : List Range) (s : State) (m : List ℕ) (c : Coherent rom s m) wh
       ∙ ap (orElse (argumentNumber (length (s .memory .ram)) a w xs (length log))) (or-nothing (valueNumber w v) _ (after-ranges _ (states-clear a w)))
       ∙ ap (λ (l : List ℕ). orElse (argumentNumber (length l) a w xs (length log)) (valueNumber w v)) (c .beside .rams)
 
-  pub set-ranges-number : (words : List ℕ) → setRangesNumber (length (s .memory .ram)) words ≡ rangesNumber (length m) (rangesIn words) (length (rangesIn words))
+  pub setting-number : (words : List ℕ) → setRangesNumber (length (s .memory .ram)) words ≡ rangesNumber (length m) (rangesIn words) (length (rangesIn words))
   unfolding setRangesNumber
-  set-ranges-number words =
+  setting-number words =
       zero-or (ramNumber (length (s .memory .ram))) _ (ram-zero _ _ (c .kept .lent))
       ∙ ap (λ (l : List ℕ). rangesNumber (length l) (rangesIn words) (length (rangesIn words))) (c .beside .rams)
 

@@ -32,7 +32,7 @@ use Rattle.masters.proofs.External.{external-refused, external-done}
 use Rattle.diagnostics.specs.Diagnostics.{testWriteNumber}
 use Rattle.diagnostics.proofs.Laws.{test-write-done, test-write-refused}
 use Rattle.read_only_ranges.specs.SetRanges.{setRangesNumber, rangesSet}
-use Rattle.read_only_ranges.proofs.SetRanges.{set-ranges-done, set-ranges-refused, ranges-are-set}
+use Rattle.read_only_ranges.proofs.SetRanges.{set-ranges-done, set-ranges-refused, set-ranges-given}
 use Rattle.views.specs.View.{shown}
 use Rattle.views.proofs.Viewing.{view-refused, view-done}
 use Rattle.calls.specs.Calls.{Call, read, write, external, snoop, flush, control, view, reset, testWrite, testRead, setRanges, step, stepBy, viewNumberOf, recordsLeft}
@@ -48,7 +48,7 @@ use Rattle.calls.proofs.Carrying.{carried-accepted, held-first}
 use Rattle.calls.proofs.Reading.{UnderBeside, read-all}
 use Rattle.calls.proofs.Writing.{write-all}
 use Rattle.calls.proofs.Snooping.{snoop-beside, external-beside}
-use Rattle.calls.proofs.Numbers.{state-zero, read-number, write-number, external-write-number, view-number, set-ranges-number, plain-read, plain-write, plain-external, plain-ranges, plain-view}
+use Rattle.calls.proofs.Numbers.{state-zero, read-number, write-number, external-write-number, view-number, setting-number, plain-read, plain-write, plain-external, plain-ranges, plain-view}
 
 -- what a step leaves beside what the plain memory answers
 pub record StepMatches (x : After) (p : Plain) : Type 0 where
@@ -298,7 +298,7 @@ module _ (s : State) (m : PlainMemory) (c : Coherent (m .rom) s (m .bytes)) wher
   unfolding stepBy plainDone
   set-ranges-matches words empty =
       let n = setRangesNumber (length (s .memory .ram)) words in
-      by-number s m c (setRanges words) n (set-ranges-number rom s bytes c words ∙ sym (plain-ranges bytes words))
+      by-number s m c (setRanges words) n (setting-number rom s bytes c words ∙ sym (plain-ranges bytes words))
       (λ z.
       let d = s .directory in
       let kept = rangesSet words in
@@ -307,7 +307,7 @@ module _ (s : State) (m : PlainMemory) (c : Coherent (m .rom) s (m .bytes)) wher
       (record {
         beside = empty-beside (rangesIn words) (state (withRanges d kept) (s .memory) (s .array)) bytes (c .beside .rams) (ranges-apart d kept (c .beside .apart))
             (λ r v tag rl vl h. none r v tag rl vl (ranges-held d kept r v tag h))
-            (ap rangesOf (ranges-set d kept) ∙ ranges-are-set (length (s .memory .ram)) words z);
+            (ap rangesOf (ranges-set d kept) ∙ set-ranges-given (length (s .memory .ram)) words z);
         results = record { numbers = refl; values = refl; views = refl };
         no-error = none-counted _ refl;
       }))
