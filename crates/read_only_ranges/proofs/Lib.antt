@@ -1,0 +1,2 @@
+-- Laws of the ranges that are set.
+pub mod SetRanges
