@@ -6,10 +6,12 @@ use mathlib.Core.List.{List}
 use native.Mathlib.Omega.{arith}
 use lib.Dec.{eqb, ltb}
 use lib.ListN.{length}
-use borrow.Author.Tests.{eq-eqb, ne-eqb, eqb-true, eqb-false, ltb-true, ltb-false, not-false}
+use borrow.Author.Tests.{eq-eqb, ne-eqb, eqb-true, eqb-false, ltb-true, ltb-false, le-ltb, not-false}
 use Rattle.laws.proofs.Tests.{neither, cond-true, cond-false, same-or, by-test}
+use Rattle.ranges.specs.declared.Ranges.{Ranges}
+use Rattle.ranges.specs.Ranges.{Range, rangesIn, rangesOf, anyBad}
 use Rattle.bus.specs.Groups.{widest, badWidth, groupCount, answerCount, highestAnswer, logSize}
-use Rattle.refusal.specs.Refusal.{when, orElse, anyAbove, badRam, memoryNumber, lentNumber, badAnswers, argumentNumber, ramNumber, arrayNumber, viewInputNumber, externalNumber}
+use Rattle.refusal.specs.Refusal.{when, orElse, anyAbove, badRam, memoryNumber, lentNumber, badAnswers, argumentNumber, ramNumber, arrayNumber, viewInputNumber, externalNumber, rangesNumber, keptNumber}
 
 -- neither of two numbers is met
 pub or-zero : (a b : ℕ) → orElse a b ≡ 0 → (a ≡ 0) × (b ≡ 0)
@@ -200,3 +202,19 @@ external-accepted ram address n e =
   where
     some-of : (n : ℕ) → eqb n 0 ≡ false → 0 < n
     some-of n h = same-or _ n 0 (λ z. absurd (eqb-false n 0 h z)) (λ k. omega arith)
+
+-- 37 and 38
+pub ranges-accepted : (ram : ℕ) (rs : List Range) (count : ℕ) → rangesNumber ram rs count ≡ 0 → (anyBad ram rs ≡ false) × (count ≤ 8)
+unfolding rangesNumber
+ranges-accepted ram rs count e =
+    let p = or-zero (when (anyBad ram rs) 37) (when (ltb 8 count) 38) e in
+    (when-zero (anyBad ram rs) 37 (omega arith) (p .0), ltb-false 8 count (when-zero (ltb 8 count) 38 (omega arith) (p .1)))
+
+pub ranges-good : (ram : ℕ) (rs : List Range) (count : ℕ) → anyBad ram rs ≡ false → count ≤ 8 → rangesNumber ram rs count ≡ 0
+unfolding rangesNumber
+ranges-good ram rs count e h = rw (e, le-ltb 8 count h)
+
+-- a directory that keeps no range meets neither, by any RAM
+pub none-kept : (ram : ℕ) (kept : Ranges) → kept .count ≡ 0 → keptNumber ram kept ≡ 0
+unfolding anyBad rangesOf rangesIn
+none-kept ram kept z = ranges-good ram (rangesOf kept) (kept .count) (rw z) (omega arith)

@@ -110,6 +110,12 @@ module _ (c : CarriedWrites) where
   good-at : (ram : ℕ) → anyRefused ram (carriedOf c) ≡ false → (k : ℕ) → k < c .count → GoodExternal ram (getD (c .addresses) k 0) (getD (c .lengths) k 0)
   good-at ram e k h = let s : 0 + k ≡ k = omega arith in rw s at (none-refused ram 0 (c .count) e k h)
 
+  -- so each lies in one line of RAM
+  pub carried-good : (ram : ℕ) → carriedNumber ram (carriedOf c) ≡ 0 → (k : ℕ) → k < c .count → GoodExternal ram (getD (c .addresses) k 0) (getD (c .lengths) k 0)
+  unfolding carriedNumber
+  carried-good ram e =
+      good-at ram (neither (ltb 4 (length (carriedOf c)) || not (inOrder (carriedOf c))) (anyRefused ram (carriedOf c)) (when-zero _ 33 (omega arith) e) .1)
+
   pub carried-accepted : (ram parity : ℕ) → carriedNumber ram (carriedOf c) ≡ 0 → ram ≤ 4 * parity → CarriedNeeds c ram parity
   unfolding carriedNumber
   carried-accepted ram parity e b =
@@ -118,7 +124,7 @@ module _ (c : CarriedWrites) where
       let q = neither (ltb 4 (length (carriedOf c))) (not (inOrder (carriedOf c))) (p .0) in
       record {
         few = omega (arith, ltb-false 4 (length (carriedOf c)) (q .0), carried-length);
-        short = λ k h. good-at ram (p .1) k h .most;
-        inside = λ k h. good-at ram (p .1) k h .inside;
+        short = λ k h. carried-good ram e k h .most;
+        inside = λ k h. carried-good ram e k h .inside;
         bits = b;
       }

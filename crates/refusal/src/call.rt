@@ -1,15 +1,18 @@
 // The number of a read and of a write, for either form of the call.
 ghost use mathlib.Core.Path.{_≡_};
 ghost use lib.ListN.{length};
+ghost use Rattle.ranges.specs.Ranges.{lentRanges};
 ghost use Rattle.carried.specs.CarriedCode.{carriedOf};
-ghost use Rattle.refusal.specs.Refusal.{argumentNumber, carriedNumber, carriedStatesNumberIn, lentNumber, orElse, statesNumberIn, valueNumber};
+ghost use Rattle.refusal.specs.Refusal.{argumentNumber, carriedNumber, carriedStatesNumberIn, keptNumber, lentNumber, orElse, statesNumberIn, valueNumber};
 use crate::input::answers_number;
 use crate::input::input_number;
 use crate::input::value_number;
+use crate::kept::ranges_number;
 use crate::state::states_number;
 use crate::writes::carried_number;
 use crate::writes::carried_states_number;
 use carried::CarriedWrites;
+use ranges::BOUNDS;
 use ways::LINES;
 use ways::SETS;
 
@@ -18,6 +21,8 @@ pub fn read_number<'a>(
     tags: &'a [u32; LINES],
     valid: &'a [bool; LINES],
     lru: &'a [u8; SETS],
+    range_count: u32,
+    bounds: &'a [u32; BOUNDS],
     ram: &[u8],
     parity: &[u8],
     data: &[u8],
@@ -28,7 +33,8 @@ pub fn read_number<'a>(
 ) -> u32
     ensures { λ r. ⌜ r ≡ orElse (lentNumber (length (now (ram .entry))) (length (now (parity .entry))) (length (now («data» .entry))))
         (orElse (argumentNumber (length (now (ram .entry))) address width (now (answers .entry)) (length (now (log .entry))))
-        (statesNumberIn (now (tags .entry)) (now (valid .entry)) (now (lru .entry)) address width)) ⌝ }
+        (orElse (keptNumber (length (now (ram .entry))) (lentRanges «range_count» (bounds .entry)))
+        (statesNumberIn (now (tags .entry)) (now (valid .entry)) (now (lru .entry)) address width))) ⌝ }
 {
     let number = input_number(ram, parity, data, answers, address, width);
     if number != 0 {
@@ -38,6 +44,10 @@ pub fn read_number<'a>(
     if next != 0 {
         return next;
     }
+    let kept = ranges_number(ram.len(), range_count, bounds);
+    if kept != 0 {
+        return kept;
+    }
     states_number(tags, valid, lru, address, width)
 }
 
@@ -46,6 +56,8 @@ pub fn read_carrying_number<'a>(
     tags: &'a [u32; LINES],
     valid: &'a [bool; LINES],
     lru: &'a [u8; SETS],
+    range_count: u32,
+    bounds: &'a [u32; BOUNDS],
     ram: &[u8],
     parity: &[u8],
     data: &[u8],
@@ -58,8 +70,9 @@ pub fn read_carrying_number<'a>(
     ensures { λ r. ⌜ r ≡ orElse (lentNumber (length (now (ram .entry))) (length (now (parity .entry))) (length (now («data» .entry))))
         (orElse (argumentNumber (length (now (ram .entry))) address width (now (answers .entry)) (length (now (log .entry))))
         (orElse (carriedNumber (length (now (ram .entry))) (carriedOf carried))
+        (orElse (keptNumber (length (now (ram .entry))) (lentRanges «range_count» (bounds .entry)))
         (orElse (statesNumberIn (now (tags .entry)) (now (valid .entry)) (now (lru .entry)) address width)
-        (carriedStatesNumberIn (now (tags .entry)) (now (valid .entry)) (now (lru .entry)) (carriedOf carried))))) ⌝ }
+        (carriedStatesNumberIn (now (tags .entry)) (now (valid .entry)) (now (lru .entry)) (carriedOf carried)))))) ⌝ }
 {
     let number = input_number(ram, parity, data, answers, address, width);
     if number != 0 {
@@ -73,6 +86,10 @@ pub fn read_carrying_number<'a>(
     if wrong != 0 {
         return wrong;
     }
+    let kept = ranges_number(ram.len(), range_count, bounds);
+    if kept != 0 {
+        return kept;
+    }
     let own = states_number(tags, valid, lru, address, width);
     if own != 0 {
         return own;
@@ -85,6 +102,8 @@ pub fn write_number<'a>(
     tags: &'a [u32; LINES],
     valid: &'a [bool; LINES],
     lru: &'a [u8; SETS],
+    range_count: u32,
+    bounds: &'a [u32; BOUNDS],
     ram: &[u8],
     parity: &[u8],
     data: &[u8],
@@ -96,7 +115,9 @@ pub fn write_number<'a>(
 ) -> u32
     ensures { λ r. ⌜ r ≡ orElse (lentNumber (length (now (ram .entry))) (length (now (parity .entry))) (length (now («data» .entry))))
         (orElse (argumentNumber (length (now (ram .entry))) address width (now (answers .entry)) (length (now (log .entry))))
-        (orElse (valueNumber width value) (statesNumberIn (now (tags .entry)) (now (valid .entry)) (now (lru .entry)) address width))) ⌝ }
+        (orElse (valueNumber width value)
+        (orElse (keptNumber (length (now (ram .entry))) (lentRanges «range_count» (bounds .entry)))
+        (statesNumberIn (now (tags .entry)) (now (valid .entry)) (now (lru .entry)) address width)))) ⌝ }
 {
     let number = input_number(ram, parity, data, answers, address, width);
     if number != 0 {
@@ -109,6 +130,10 @@ pub fn write_number<'a>(
     let large = value_number(width, value);
     if large != 0 {
         return large;
+    }
+    let kept = ranges_number(ram.len(), range_count, bounds);
+    if kept != 0 {
+        return kept;
     }
     states_number(tags, valid, lru, address, width)
 }

@@ -19,7 +19,8 @@ pub fn or_else(number: u32, next: u32) -> u32
     if number == 0 { next } else { number }
 }
 
-fn bad_ram(ram: usize) -> bool
+// Number 1.
+pub fn bad_ram(ram: usize) -> bool
     ensures { λ r. ⌜ r ≡ badRam ram ⌝ }
 {
     (ram < 16) | (16777216 < ram) | (ram % 16 != 0)
