@@ -138,7 +138,7 @@ module _ (rom : List Range) where
   held-length m [] n = refl
   held-length m (w ∷ ws) n =
       by-test (λ b. length (heldAfter rom (cond b (replaced rom m (w .address) (w .bytes)) m) ws n) ≡ length m) (ltb (w .cycle) n)
-      (λ _. held-length (replaced rom m (w .address) (w .bytes)) ws n ∙ length-replaced rom m (w .address) (w .bytes))
+      (λ _. held-length (replaced rom m (w .address) (w .bytes)) ws n ∙ replaced-length rom m (w .address) (w .bytes))
       (λ _. held-length m ws n)
 
   -- RAM with what has landed

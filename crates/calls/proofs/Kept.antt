@@ -11,7 +11,7 @@ use Rattle.directory.specs.declared.steps.Directory.{Directory}
 use Rattle.ways.specs.declared.ways.Found.{Found}
 use Rattle.ways.specs.declared.ways.Found.the-variants.{At, Nothing}
 use Rattle.ways.specs.Address.{setOf, tagOf, lineOffset, dataOffset}
-use Rattle.directory.specs.Steps.{rangesKept, lookupOf, victimOf, stateNumberOf, afterUse, withRanges, afterSnoop, controlRefused}
+use Rattle.directory.specs.Steps.{rangesKept, lookupOf, victimOf, stateNumberOf, afterUse, withRanges, afterReset, afterControl, afterSnoop, controlRefused}
 use Rattle.directory.specs.WellFormed.{WithinLimits}
 use Rattle.ways.proofs.FourWays.{victim-below}
 use Rattle.directory.proofs.Laws.{lookup-at, reset-control, reset-ranges, reset-limits, ranges-set, ranges-control, ranges-limits, use-control, use-ranges, use-limits, line-control, line-ranges, line-limits, fill-control, fill-ranges, fill-address-limits, control-ranges, control-limits, control-disabled, control-accepted, control-refused, flush-control, flush-ranges, flush-limits, snoop-ranges, snoop-control, snoop-limits, snoop-accepted, snoop-refused}
@@ -283,7 +283,7 @@ module _ (s : State) (k : Kept s) where
   control-kept cd nw =
       by-test (λ b. controlRefused cd nw ≡ b → Kept (nextState (step s (control cd nw)))) (controlRefused cd nw)
       (λ _ e. rw (control-refused (s .directory) cd nw e) k)
-      (λ _ e. rw (control-accepted (s .directory) cd nw e) (kept-changed s k _ (control-limits (s .directory) cd nw (k .limits)) (control-disabled (s .directory) cd nw e) (kept-ranges s k _ (control-ranges (s .directory) cd nw))))
+      (λ _ e. rw (control-accepted (s .directory) cd nw e) (kept-changed s k _ (control-limits (s .directory) cd nw (k .limits)) (control-disabled (s .directory) cd nw e) (kept-ranges s k (afterControl (s .directory) cd nw) (control-ranges (s .directory) cd nw))))
       refl
 
   -- lines are planted within the limits of tags
@@ -322,7 +322,7 @@ call-kept s k (control cd nw) = control-kept s k cd nw
 call-kept s k (view a) = k
 call-kept s k reset =
     let ranges = s .directory .ranges in
-    kept-changed s k _ (reset-limits ranges) (λ _. reset-control ranges .0) (kept-ranges s k _ (reset-ranges ranges))
+    kept-changed s k _ (reset-limits ranges) (λ _. reset-control ranges .0) (kept-ranges s k (afterReset (s .directory)) (reset-ranges ranges))
 call-kept s k (testWrite r w tag mark x) = test-write-kept s k r w tag mark x
 call-kept s k (testRead r w) = k
 call-kept s k (setRanges words) = ranges-call-kept s k words

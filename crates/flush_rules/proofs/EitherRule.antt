@@ -1,7 +1,7 @@
 -- Under either flush rule every list of calls from reset without an accepted test write has the same answers and records. By induction over the list: the
 -- two units differ in alike directories only.
 use Prim.Native.Nat.{ℕ}
-use mathlib.Core.Path.{_≡_, refl, sym, _∙_, ap}
+use mathlib.Core.Path.{_≡_, refl, sym, _∙_, ap, subst}
 use mathlib.Core.Bool.{Bool, false, cond}
 use mathlib.Core.List.{List, [], _∷_}
 use native.Mathlib.Omega.{arith}
@@ -24,16 +24,16 @@ use Rattle.bus.specs.Groups.{groupCount}
 use Rattle.words.specs.Bytes.{valueOf}
 use Rattle.doubleword.specs.Doubleword.{doublewordsOf}
 use Rattle.refusal.specs.Call.{State, state, After, after, onDirectory, refused, nextState}
-use Rattle.access.specs.Access.{Progress, accepted, operandOf, underWay, readNumber, writeNumber, readAll, writeAll, readCall, writeCall}
+use Rattle.access.specs.Access.{Progress, accepted, operandOf, writeOne, allOf, underWay, readEach, readNumber, writeNumber, readAll, writeAll, readCall, writeCall}
 use Rattle.masters.specs.Masters.{externalWriteNumber, externalCall}
 use Rattle.views.specs.View.{viewNumberIn, viewIn}
 use Rattle.diagnostics.specs.Diagnostics.{testWriteNumber, testReadNumber}
 use Rattle.diagnostics.proofs.Laws.{test-write-done, test-write-refused, test-read-number}
-use Rattle.read_only_ranges.specs.SetRanges.{rangesSet, setRangesCall}
+use Rattle.read_only_ranges.specs.SetRanges.{setRangesNumber, rangesSet, setRangesCall}
 use Rattle.calls.specs.Calls.{Call, read, write, external, snoop, flush, control, view, reset, testWrite, testRead, setRanges, stepBy, step, viewNumberOf, viewOf}
 use Rattle.calls.specs.Matches.{kindOf, plants}
 use Rattle.flush_rules.specs.FlushRules.{marksCleared, Answered, answered, answersBy, NeverPlants, EitherFlushRule}
-use Rattle.flush_rules.proofs.Accesses.{withDirectory, states-same, carried-same, each-alike, all-alike}
+use Rattle.flush_rules.proofs.Accesses.{withDirectory, ProgressAlike, states-same, carried-same, each-alike, all-alike}
 
 -- what a call leaves, with another directory
 abbrev leavesWith : Directory → After → After
@@ -76,10 +76,11 @@ module _ (s : State) (e : Directory) (a : Alike (s .directory) e) where
   read-alike : (address width : ℕ) (pcd : Bool) (answers log : List ℕ) (ws : List Carried) → AfterAlike (readCall s address width pcd answers log ws) (readCall t address width pcd answers log ws)
   unfolding readCall readAll
   read-alike address width pcd answers log ws =
-      let r = each-alike pcd (rangesKept d) (doublewordsOf groupCount answers address width 0) (underWay s ws 0) e a in
-      rw (alike-ranges d e a)
-      (by-number _ _ (read-number-same address width answers log ws) log _ _
-      (record { directory = r .directory; same = ap (λ (p : Progress). accepted (valueOf (p .bytes)) p log) (r .same); alike = r .alike }))
+      let ds = doublewordsOf groupCount answers address width 0 in
+      let here = readEach pcd (rangesKept d) (underWay s ws 0) ds in
+      let r = subst (λ (kept : Ranges). ProgressAlike here (readEach pcd (rangesOf kept) (underWay t ws 0) ds)) (sym (alike-ranges d e a)) (each-alike pcd (rangesKept d) ds (underWay s ws 0) e a) in
+      by-number _ _ (read-number-same address width answers log ws) log _ _
+      (record { directory = r .directory; same = ap (λ (p : Progress). accepted (valueOf (p .bytes)) p log) (r .same); alike = r .alike })
 
   write-number-same : (address width value : ℕ) (answers log : List ℕ) → writeNumber t address width value answers log ≡ writeNumber s address width value answers log
   unfolding writeNumber
@@ -88,10 +89,11 @@ module _ (s : State) (e : Directory) (a : Alike (s .directory) e) where
   write-alike : (address width value : ℕ) (answers log : List ℕ) → AfterAlike (writeCall s address width value answers log) (writeCall t address width value answers log)
   unfolding writeCall writeAll
   write-alike address width value answers log =
-      let r = all-alike (rangesKept d) (operandOf value) (doublewordsOf groupCount answers address width 0) s e a in
-      rw (alike-ranges d e a)
-      (by-number _ _ (write-number-same address width value answers log) log _ _
-      (record { directory = r .directory; same = ap (λ (p : Progress). accepted 0 p log) (r .same); alike = r .alike }))
+      let ds = doublewordsOf groupCount answers address width 0 in
+      let here = allOf (writeOne (rangesKept d) (operandOf value)) s ds in
+      let r = subst (λ (kept : Ranges). ProgressAlike here (allOf (writeOne (rangesOf kept) (operandOf value)) t ds)) (sym (alike-ranges d e a)) (all-alike (rangesKept d) (operandOf value) ds s e a) in
+      by-number _ _ (write-number-same address width value answers log) log _ _
+      (record { directory = r .directory; same = ap (λ (p : Progress). accepted 0 p log) (r .same); alike = r .alike })
 
   external-number-same : (address : ℕ) (bytes : List ℕ) → externalWriteNumber e (s .memory) address bytes ≡ externalWriteNumber d (s .memory) address bytes
   unfolding externalWriteNumber
@@ -178,7 +180,9 @@ module _ (s : State) (e : Directory) (a : Alike (s .directory) e) where
   set-ranges-alike : (words : List ℕ) → AfterAlike (step s (setRanges words)) (stepBy marksCleared t (setRanges words))
   unfolding stepBy setRangesCall
   set-ranges-alike words =
-      by-number _ _ refl [] _ _
+      let n = setRangesNumber (length (s .memory .ram)) words in
+      let kept = rangesSet words in
+      by-number n n refl [] (onDirectory s (outcome (withRanges d kept) 0 0 0)) (onDirectory t (outcome (withRanges e kept) 0 0 0))
       (record { directory = withRanges e (rangesSet words); same = refl; alike = ranges-alike d e a (rangesSet words) })
 
   -- every call but an accepted test write
