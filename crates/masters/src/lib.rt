@@ -7,15 +7,13 @@ ghost use Rattle.masters.specs.Masters.{externalCall};
 ghost use Rattle.refusal.specs.Call.{after, state};
 
 mod in_place;
+mod taken;
 
 use directory::Directory;
 use directory::Outcome;
 pub use in_place::external_write_in_place;
-use memory::store_bytes;
-use refusal::external_number;
-use refusal::memory_number;
-use refusal::or_else;
-use refusal::states_number;
+use taken::external_write_number;
+use taken::put_bytes;
 
 // Another master's write: the bytes into RAM with their parity, then a snoop. The data array is not touched.
 pub fn external_write(
@@ -28,18 +26,27 @@ pub fn external_write(
     ensures { λ r. ⌜ ((array : List ℕ) → after r (lentMemory (ram .exit) (parity .exit)) array []
         ≡ externalCall (state given (lentMemory (ram .entry) (parity .entry)) array) address (now (bytes .entry))) ⌝ }
 {
-    let count = bytes.len();
-    let number = or_else(
-        memory_number(ram.len(), parity.len()),
-        external_number(ram.len(), address, count),
+    let number = external_write_number(
+        &given.tags,
+        &given.valid,
+        &given.lru,
+        given.ranges.count,
+        &given.ranges.bounds,
+        ram.len(),
+        parity.len(),
+        address,
+        bytes.len(),
     );
     if number != 0 {
         return given.answered(number);
     }
-    let bad = states_number(&given.tags, &given.valid, &given.lru, address, count as u32);
-    if bad != 0 {
-        return given.answered(bad);
-    }
-    store_bytes(bytes, 0, ram, parity, address as usize, count);
+    put_bytes(
+        given.ranges.count,
+        &given.ranges.bounds,
+        ram,
+        parity,
+        address,
+        bytes,
+    );
     given.snooped(address).answered(0)
 }

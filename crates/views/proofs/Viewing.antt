@@ -13,8 +13,9 @@ use Rattle.ways.specs.declared.ways.Found.the-variants.{At, Nothing}
 use Rattle.ways.specs.Address.{setOf, dataOffset}
 use Rattle.ways.specs.State.{stateNumberIn}
 use Rattle.ways.specs.Ways.{lookupIn}
+use Rattle.ranges.specs.declared.Ranges.{Ranges}
 use Rattle.words.specs.Bytes.{bytesAt}
-use Rattle.refusal.specs.Refusal.{viewInputNumber}
+use Rattle.refusal.specs.Refusal.{orElse, viewInputNumber, keptNumber}
 use Rattle.words.proofs.Places.{bytes-length}
 use Rattle.refusal.proofs.Accepted.{or-zero, GoodView, view-accepted}
 use Rattle.views.specs.View.{viewNumberIn, shown, viewIn, shownAt, viewAt}
@@ -49,11 +50,11 @@ module _ (ram array address : ℕ) (z : viewInputNumber ram array address ≡ 0)
   pub line-inside : address / 16 * 16 + 16 ≤ ram
   line-inside = omega (arith, good .whole, good .inside)
 
-pub input-0 : (tags : List ℕ) (valid : List Bool) (lru : List ℕ) (ram array address n : ℕ) → n ≡ viewNumberIn tags valid lru ram array address → n ≡ 0 →
+pub input-0 : (tags : List ℕ) (valid : List Bool) (lru : List ℕ) (ranges : Ranges) (ram array address n : ℕ) → n ≡ viewNumberIn tags valid lru ranges ram array address → n ≡ 0 →
     viewInputNumber ram array address ≡ 0
 unfolding viewNumberIn
-input-0 tags valid lru ram array address n en z =
-    or-zero (viewInputNumber ram array address) (stateNumberIn tags valid lru (setOf address)) (sym en ∙ z) .0
+input-0 tags valid lru ranges ram array address n en z =
+    or-zero (viewInputNumber ram array address) (orElse (keptNumber ram ranges) (stateNumberIn tags valid lru (setOf address))) (sym en ∙ z) .0
 
 -- what is shown where the line is held, and where it is not
 module _ (f : Found) (address : ℕ) where
@@ -82,25 +83,25 @@ shown-length (At way) ram array address = bytes-length array (dataOffset address
 shown-length Nothing ram array address = bytes-length ram (address / 16 * 16) 16
 
 -- a view by its number
-module _ (tags : List ℕ) (valid : List Bool) (lru ram array : List ℕ) (address n : ℕ) (en : n ≡ viewNumberIn tags valid lru (length ram) (length array) address) where
-  pub view-refused : (n ≡ 0 → ⊥) → [] ≡ viewIn tags valid lru ram array address
+module _ (tags : List ℕ) (valid : List Bool) (lru : List ℕ) (ranges : Ranges) (ram array : List ℕ) (address n : ℕ) (en : n ≡ viewNumberIn tags valid lru ranges (length ram) (length array) address) where
+  pub view-refused : (n ≡ 0 → ⊥) → [] ≡ viewIn tags valid lru ranges ram array address
   unfolding viewIn
   view-refused h = sym (cond-false _ _ _ (ne-eqb _ 0 (λ z. h (en ∙ z))))
 
-  pub refused-at : (ramAt arrayAt : ℕ × ℕ) → (n ≡ 0 → ⊥) → ramAt ≡ viewAt tags valid lru ram array ramAt arrayAt address
+  pub refused-at : (ramAt arrayAt : ℕ × ℕ) → (n ≡ 0 → ⊥) → ramAt ≡ viewAt tags valid lru ranges ram array ramAt arrayAt address
   unfolding viewAt
   refused-at ramAt arrayAt h = sym (cond-false _ _ _ (ne-eqb _ 0 (λ z. h (en ∙ z))))
 
   module _ (z : n ≡ 0) where
-    pub view-done : viewIn tags valid lru ram array address ≡ shown (lookupIn tags valid address) ram array address
+    pub view-done : viewIn tags valid lru ranges ram array address ≡ shown (lookupIn tags valid address) ram array address
     unfolding viewIn
     view-done = cond-true _ _ _ (eq-eqb _ 0 (sym en ∙ z))
 
     -- the bytes that an accepted view shows, of which there are sixteen
     pub view-made : (part : List ℕ) → part ≡ shown (lookupIn tags valid address) ram array address →
-        (part ≡ viewIn tags valid lru ram array address) × (length part ≡ 16)
+        (part ≡ viewIn tags valid lru ranges ram array address) × (length part ≡ 16)
     view-made part e = (e ∙ sym view-done, ap length e ∙ shown-length (lookupIn tags valid address) ram array address)
 
-    pub made-at : (ramAt arrayAt p : ℕ × ℕ) → p ≡ shownAt (lookupIn tags valid address) ramAt arrayAt address → p ≡ viewAt tags valid lru ram array ramAt arrayAt address
+    pub made-at : (ramAt arrayAt p : ℕ × ℕ) → p ≡ shownAt (lookupIn tags valid address) ramAt arrayAt address → p ≡ viewAt tags valid lru ranges ram array ramAt arrayAt address
     unfolding viewAt
     made-at ramAt arrayAt p e = e ∙ sym (cond-true _ _ _ (eq-eqb _ 0 (sym en ∙ z)))

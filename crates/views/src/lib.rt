@@ -4,10 +4,13 @@ ghost use mathlib.Core.Path.{_≡_};
 ghost use Prim.Native.Nat.{_+_, _≤_};
 ghost use denote.Ref.{ptr};
 ghost use lib.ListN.{length};
+ghost use Rattle.ranges.specs.Ranges.{lentRanges};
 ghost use Rattle.words.specs.Bytes.{bytesAt};
 ghost use Rattle.ways.specs.Ways.{lookupIn};
 ghost use Rattle.refusal.specs.Refusal.{viewInputNumber};
 ghost use Rattle.views.specs.View.{shown, shownAt, viewAt, viewIn, viewNumberIn};
+use ranges::BOUNDS;
+use refusal::ranges_number;
 use refusal::view_input_number;
 use ways::Found;
 use ways::LINES;
@@ -22,15 +25,21 @@ pub fn view_number<'a>(
     tags: &'a [u32; LINES],
     valid: &'a [bool; LINES],
     lru: &'a [u8; SETS],
+    range_count: u32,
+    bounds: &'a [u32; BOUNDS],
     ram: &'a [u8],
     data: &'a [u8],
     address: u32,
 ) -> u32
-    ensures { λ r. ⌜ r ≡ viewNumberIn (now (tags .entry)) (now (valid .entry)) (now (lru .entry)) (length (now (ram .entry))) (length (now («data» .entry))) address ⌝ }
+    ensures { λ r. ⌜ r ≡ viewNumberIn (now (tags .entry)) (now (valid .entry)) (now (lru .entry)) (lentRanges «range_count» (bounds .entry)) (length (now (ram .entry))) (length (now («data» .entry))) address ⌝ }
 {
     let number = view_input_number(ram.len(), data.len(), address);
     if number != 0 {
         return number;
+    }
+    let kept = ranges_number(ram.len(), range_count, bounds);
+    if kept != 0 {
+        return kept;
     }
     state_number(tags, valid, lru, set_of(address))
 }
@@ -40,14 +49,16 @@ pub fn view<'a>(
     tags: &'a [u32; LINES],
     valid: &'a [bool; LINES],
     lru: &'a [u8; SETS],
+    range_count: u32,
+    bounds: &'a [u32; BOUNDS],
     ram: &'a [u8],
     data: &'a [u8],
     address: u32,
 ) -> &'a [u8]
-    ensures { λ r. ⌜ (now r ≡ viewIn (now (tags .entry)) (now (valid .entry)) (now (lru .entry)) (now (ram .entry)) (now («data» .entry)) address)
-        × (ptr r ≡ viewAt (now (tags .entry)) (now (valid .entry)) (now (lru .entry)) (now (ram .entry)) (now («data» .entry)) (ptr (ram .entry)) (ptr («data» .entry)) address) ⌝ }
+    ensures { λ r. ⌜ (now r ≡ viewIn (now (tags .entry)) (now (valid .entry)) (now (lru .entry)) (lentRanges «range_count» (bounds .entry)) (now (ram .entry)) (now («data» .entry)) address)
+        × (ptr r ≡ viewAt (now (tags .entry)) (now (valid .entry)) (now (lru .entry)) (lentRanges «range_count» (bounds .entry)) (now (ram .entry)) (now («data» .entry)) (ptr (ram .entry)) (ptr («data» .entry)) address) ⌝ }
 {
-    let number = view_number(tags, valid, lru, ram, data, address);
+    let number = view_number(tags, valid, lru, range_count, bounds, ram, data, address);
     if number != 0 {
         return &ram[0..0];
     }

@@ -20,19 +20,19 @@ returns : tie.Need-returns
 returns c =
     let en = c .before .before .view-number .ensures in
     let met = c .before .if1 .taken in (
-      view-refused _ _ _ _ _ _ _ en met,
-      empty-at _ ∙ refused-at _ _ _ _ _ _ _ en _ _ met,
+      view-refused _ _ _ _ _ _ _ _ en met,
+      empty-at _ ∙ refused-at _ _ _ _ _ _ _ _ en _ _ met,
     )
 
 accepted-view-requires : tie.Need-accepted-view-requires
-accepted-view-requires c κs = input-0 _ _ _ _ _ _ _ (c .before .view-number .ensures) (c .if1 .left)
+accepted-view-requires c κs = input-0 _ _ _ _ _ _ _ _ (c .before .view-number .ensures) (c .if1 .left)
 
 returns-2 : tie.Need-returns-2
 returns-2 c =
     let en = c .before .before .view-number .ensures in
     let z = c .before .if1 .left in (
-      view-made _ _ _ _ _ _ _ en z _ (c .accepted-view .ensures .0) .0,
-      made-at _ _ _ _ _ _ _ en z _ _ _ (c .accepted-view .ensures .1),
+      view-made _ _ _ _ _ _ _ _ en z _ (c .accepted-view .ensures .0) .0,
+      made-at _ _ _ _ _ _ _ _ en z _ _ _ (c .accepted-view .ensures .1),
     )
 
 pub view-spec : {M : Type 1} → statement M
