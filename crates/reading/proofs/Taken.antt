@@ -1,18 +1,18 @@
 -- Laws of a read by the bytes that RAM takes of the carried writes: a doubleword does the same with them and no range as with the writes and the ranges.
 use Prim.Native.Nat.{ℕ, suc, _+_}
 use mathlib.Core.Path.{_≡_, refl, sym, _∙_, ap}
-use mathlib.Core.Bool.{Bool, true, false, cond, not, _&&_}
+use mathlib.Core.Bool.{Bool}
 use mathlib.Core.List.{List, [], _∷_}
-use lib.ListN.{length, getD, replicate}
+use lib.ListN.{length, replicate}
 use Rattle.ways.specs.declared.ways.Found.{Found}
 use Rattle.ways.specs.declared.ways.Found.the-variants.{At, Nothing}
 use Rattle.ranges.specs.Ranges.{Range}
 use Rattle.memory.specs.Parity.{Memory}
 use Rattle.carried.specs.Carried.{Carried, due, later, landed, memoryAt, inLine, taken}
 use Rattle.carried.proofs.Taken.{WithinLines, due-lines, taken-due, taken-later, taken-in-line, taken-landed, taken-memory}
-use Rattle.bus.specs.Bus.{ken, Cycle, lastAnswer, bufferAfter}
-use Rattle.bus.specs.Record.{Record, readRecord, plainKind, fillKind}
-use Rattle.doubleword.specs.Doubleword.{Doubleword, Done, plainCycles}
+use Rattle.bus.specs.Bus.{Cycle, bufferAfter}
+use Rattle.bus.specs.Record.{plainKind, fillKind}
+use Rattle.doubleword.specs.Doubleword.{Doubleword, plainCycles}
 use Rattle.reading.specs.Reading.{Missed, bufferOf, recordsOf, plainMiss, fillCycles, spoiled, fillMiss, readMiss, settled, readDone}
 
 -- cycles over memories that are the same at each
