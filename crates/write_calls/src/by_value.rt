@@ -2,7 +2,7 @@
 ghost use mathlib.Core.Path.{_≡_};
 ghost use lib.ListN.{length};
 ghost use Rattle.memory.specs.Parity.{lentMemory};
-ghost use Rattle.refusal.specs.Refusal.{argumentNumber, lentNumber, orElse, statesNumberOf, valueNumber};
+ghost use Rattle.refusal.specs.Refusal.{argumentNumber, keptNumber, lentNumber, orElse, statesNumberOf, valueNumber};
 ghost use Rattle.refusal.specs.Call.{after, state};
 ghost use Rattle.access.specs.Access.{writeCall};
 use directory::Directory;
@@ -10,6 +10,7 @@ use directory::Outcome;
 use doubleword::AccessCursor;
 use doubleword::Change;
 use doubleword::changed_by;
+use ranges::read_only;
 use refusal::write_number;
 use writing::write_next;
 
@@ -26,16 +27,20 @@ fn write_all(
     log: &mut [u32],
 ) -> Outcome
     requires { ⌜ orElse (lentNumber (length (now ram)) (length (now parity)) (length (now «data»)))
-        (orElse (argumentNumber (length (now ram)) address width (now answers) (length (now log))) (orElse (valueNumber width value) (statesNumberOf given address width))) ≡ 0 ⌝ }
+        (orElse (argumentNumber (length (now ram)) address width (now answers) (length (now log)))
+        (orElse (valueNumber width value) (orElse (keptNumber (length (now ram)) (given .ranges)) (statesNumberOf given address width)))) ≡ 0 ⌝ }
     ensures { λ r. ⌜ after r (lentMemory (ram .exit) (parity .exit)) (now («data» .exit)) (now (log .exit))
         ≡ writeCall (state given (lentMemory (ram .entry) (parity .entry)) (now («data» .entry))) address width value (now (answers .entry)) (now (log .entry)) ⌝ }
 {
+    let ranges = given.ranges;
     let mut cursor = AccessCursor::begin(address, width);
     while 0 < cursor.left {
+        let rom = read_only(ranges.count, &ranges.bounds, cursor.address);
         let next = write_next(
             &given.tags,
             &given.valid,
             given.cd & given.nw,
+            rom,
             ram,
             parity,
             data,
@@ -77,6 +82,8 @@ pub fn write(
         &given.tags,
         &given.valid,
         &given.lru,
+        given.ranges.count,
+        &given.ranges.bounds,
         ram,
         parity,
         data,

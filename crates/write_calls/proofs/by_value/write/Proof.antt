@@ -26,7 +26,7 @@ same-length-4 c = search needs
 returns : tie.Need-returns
 returns c =
     let at-number = c .before .before in
-    let a = at-number .before .before .before .before .before .before .before .before .before .before .before .before .before .before .args in
+    let a = at-number .before .before .before .before .before .before .before .before .before .before .before .before .before .before .before .args in
     rw (c .answered .ensures)
     (write-turned (a .t1) (memory (now (a .ram)) (now (a .parity))) (now (a .«data»)) (a .address) (a .width) (now (a .answers)) (now (a .log))
     (a .value) _ (at-number .write-number .ensures) (c .before .if1 .taken))

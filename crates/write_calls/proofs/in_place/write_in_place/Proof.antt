@@ -1,5 +1,6 @@
 use Rattle.access.proofs.Calls.{write-turned}
 use Rattle.memory.specs.Parity.{memory}
+use Rattle.ranges.specs.Ranges.{lentRanges}
 use Rattle.directory.specs.Steps.{directoryOf}
 use denote.Ref.{now}
 use borrow.Author.Needs.{needs}
@@ -29,7 +30,7 @@ returns c =
     let at-number = c .before .before in
     let a = at-number .before .before .before .before .before .before .before .before .before .before .before .args in
     rw (c .number-only .ensures)
-    (write-turned (directoryOf (now (a .tags)) (now (a .valid)) (now (a .lru)) (a .cd) (a .nw)) (memory (now (a .ram)) (now (a .parity))) (now (a .«data»)) (a .address) (a .width) (now (a .answers)) (now (a .log))
+    (write-turned (directoryOf (now (a .tags)) (now (a .valid)) (now (a .lru)) (a .cd) (a .nw) (lentRanges (a .range-count) (a .bounds))) (memory (now (a .ram)) (now (a .parity))) (now (a .«data»)) (a .address) (a .width) (now (a .answers)) (now (a .log))
     (a .value) _ (at-number .write-number .ensures) (c .before .if1 .taken))
 
 write-accepted-requires : tie.Need-write-accepted-requires
