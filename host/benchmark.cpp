@@ -158,6 +158,34 @@ void master_rows()
     row("external write, 16 bytes, line not held", done, external_writes(not_held(each_line()), 16));
 }
 
+// Directories with so many ranges.
+auto ranged(uint32_t count)
+{
+    return [count](Side &side) {
+        uint32_t words[2 * UNIT486_RANGES_MOST];
+        for (uint32_t k = 0; k < count; ++k) {
+            words[2 * k] = range_start(k);
+            words[2 * k + 1] = range_bytes;
+        }
+        require(baseline::set_ranges(side.directory, ram_bytes, words, 2 * count) == UNIT486_DONE, "ranges");
+    };
+}
+
+void range_rows(uint32_t count, const std::string &of)
+{
+    const auto prepare = ranged(count);
+    const auto ranged_row = [&](const std::string &name, Expected expected, const auto &turn) {
+        row((name + ", " + of).c_str(), expected, turn, prepare);
+    };
+    const Addresses lines = not_held(each_line());
+    ranged_row("read hit", done, reads(aligned(4), 4));
+    ranged_row("fill (4 cycles)", cycles(4), reads(every(UNIT486_LINE_BYTES), 4));
+    ranged_row("write hit (1 cycle)", cycles(1), writes(aligned(4), 4));
+    ranged_row("write into a range (1 cycle)", cycles(1), writes(in_ranges(count, 4), 4));
+    ranged_row("external write, 4 bytes", done, external_writes(lines, 4));
+    ranged_row("external write into a range", done, external_writes(in_ranges(count, UNIT486_LINE_BYTES), 4));
+}
+
 void directory_rows()
 {
     const auto flush = [](Side &side, auto unit, uint32_t address) {
@@ -261,6 +289,8 @@ int main(int argc, char **)
     plain_read_rows();
     write_rows();
     master_rows();
+    range_rows(1, "1 range");
+    range_rows(UNIT486_RANGES_MOST, "8 ranges");
     directory_rows();
     refused_rows();
     program_row();

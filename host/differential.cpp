@@ -45,6 +45,9 @@ int main(int argc, char **argv)
     series.carried_limits();
     series.carrying();
     series.carrying_byte_fills();
+    series.range_limits();
+    series.kept_range_limits();
+    series.range_edges();
     series.board();
     series.table_limits();
     while (coverage.calls < calls) {

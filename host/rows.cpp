@@ -124,7 +124,7 @@ std::vector<uint32_t> fresh_log(size_t words)
 const std::map<char, std::pair<size_t, size_t>> field_counts{{'N', {6, 6}}, {'T', {2, 2}}, {'K', {2, 2}},
     {'L', {2, 2}}, {'M', {2, 2}}, {'P', {2, 2}}, {'R', {3, 4}}, {'W', {3, 4}}, {'r', {3, 3}}, {'w', {3, 3}},
     {'X', {1, 65}}, {'S', {1, 1}}, {'F', {0, 0}}, {'C', {2, 2}}, {'Z', {0, 0}}, {'V', {1, 1}}, {'B', {2, 2}},
-    {'p', {20, 20}}, {'t', {2, 2}}, {'Q', {5, 81}}};
+    {'p', {20, 20}}, {'t', {2, 2}}, {'Q', {5, 81}}, {'G', {1, 17}}, {'O', {0, 32}}, {'g', {0, 0}}};
 
 constexpr size_t answers_word = 4; // of R, W and Q, the letter being word 0
 constexpr size_t value_word = 3;   // of W and w
@@ -208,6 +208,7 @@ struct ScriptUnit {
         size_t lengths[4] = {};
         uint32_t seeds[2] = {};
         line >> lengths[0] >> lengths[1] >> lengths[2] >> lengths[3] >> seeds[0] >> seeds[1];
+        directory = baseline::Directory{};
         baseline::reset(directory);
         ram = contents(seeds[0], lengths[0]);
         data = contents(seeds[1], lengths[2]);
@@ -232,7 +233,7 @@ struct ScriptUnit {
 
     void print_digests() const
     {
-        // The directory ends with NW; two bytes of padding follow.
+        // Up to NW; padding follows, and the ranges, which have a line of their own.
         std::printf("\t%08x", adler32(&directory, offsetof(unit486_directory, nw) + 1));
         for (const Bytes *bytes : {&ram, &parity, &data})
             std::printf("\t%08x", adler32(bytes->data(), bytes->size()));
@@ -250,6 +251,22 @@ struct ScriptUnit {
         case 'M': directory.cd = index != 0, directory.nw = value != 0; break;
         default: parity[index] ^= static_cast<uint8_t>(value);
         }
+    }
+
+    // The count and words of a G; words that are not there are 0.
+    void store_ranges(std::istringstream &line)
+    {
+        uint32_t words[1 + 2 * UNIT486_RANGES_MOST] = {};
+        for (uint32_t &word : words)
+            if (!(line >> word))
+                break;
+        static_assert(sizeof words == sizeof directory.ranges);
+        std::memcpy(&directory.ranges, words, sizeof words);
+    }
+
+    void print_ranges() const
+    {
+        std::printf("g\t%08x\n", adler32(&directory.ranges, sizeof directory.ranges));
     }
 
     unit486_result access(char letter, std::istringstream &line)
@@ -298,6 +315,7 @@ struct ScriptUnit {
                         directory, buffers, fields[0], fields[1], fields[2], fields[3] == 1, bytes.data()),
                 0, 0};
         }
+        case 'O': return {baseline::set_ranges(directory, ram.size(), fields.data(), fields.size()), 0, 0};
         case 'S': return {baseline::snoop(directory, fields[0]), 0, 0};
         case 'C': return {baseline::control(directory, fields[0] != 0, fields[1] != 0), 0, 0};
         case 'F': baseline::flush(directory); return {UNIT486_DONE, 0, 0};
@@ -345,6 +363,10 @@ struct ScriptUnit {
         const char letter = text[0];
         if (std::strchr("TKLMP", letter))
             return store(letter, line);
+        if (letter == 'G')
+            return store_ranges(line);
+        if (letter == 'g')
+            return print_ranges();
         if (letter == 'B')
             return print_board(line);
         if (letter != 'N')

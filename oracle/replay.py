@@ -19,6 +19,7 @@ from scripts.modes import modes
 from scripts.numbers import numbers
 from scripts.parity import parity
 from scripts.random_calls import random_scripts
+from scripts.read_only import read_only
 from scripts.sizing import sizing
 from scripts.states import states
 from scripts.views import views
@@ -32,7 +33,7 @@ def scripts() -> tuple[Script, ...]:
     """Tables and examples first, then random calls."""
     records = (bench(), sizing(), burst(), ken())
     rules = (modes(), parity(), numbers(), states(), board(), views())
-    requests = (diagnostics(), carried(), eight_bytes())
+    requests = (diagnostics(), carried(), eight_bytes(), read_only())
     return (*records, *rules, *requests, *random_scripts())
 
 

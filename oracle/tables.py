@@ -42,7 +42,7 @@ def _directory_rows() -> Iterator[Row]:
     yield from _control_rows()
     yield from _snoop_rows()
     yield from _state_rows()
-    yield ("reset", *_sums(steps.reset()))
+    yield ("reset", *_sums(steps.first()))
     yield ("flush", *_sums(_flushed()))
 
 
@@ -54,7 +54,7 @@ def store_line(directory: Directory, set_index: int, way: int, tag: int) -> None
 
 def full_set(set_index: int, tags: tuple[int, ...], lru: int) -> Directory:
     """A reset directory but for one set, whose ways are valid with these tags."""
-    directory = steps.reset()
+    directory = steps.first()
     for way, tag in enumerate(tags):
         store_line(directory, set_index, way, tag)
     directory.lru[set_index] = lru
@@ -86,14 +86,14 @@ def _victim_rows() -> Iterator[Row]:
 
 def _control_rows() -> Iterator[Row]:
     for cd, nw in PAIRS:
-        directory = steps.reset()
+        directory = steps.first()
         number = access.control(directory, cd, nw).number
         yield ("control", cd, nw, number, directory.cd, directory.nw)
 
 
 def _snoop_rows() -> Iterator[Row]:
     for cd, nw in PAIRS:
-        directory = steps.reset()
+        directory = steps.first()
         directory.cd, directory.nw = cd, nw
         store_line(directory, SET, 1, 7)
         store_line(directory, SET, 2, 9)

@@ -120,12 +120,14 @@ template <class Land> bool fill_cycles(
 }
 
 // "Write: to RAM and the moved lanes' parity". The cycles together move all wanted lanes, so RAM and
-// parity are written once.
+// parity are written once, or not at all where they are read-only.
 inline void write_cycles(unit486_buffers &lent, uint32_t address, unsigned wanted, uint32_t word,
-    const uint8_t *answers, Records &records)
+    bool read_only, const uint8_t *answers, Records &records)
 {
-    store_lanes(lent.ram + address, wanted, word);
-    store_parity(lent.parity[address / 4], wanted, word);
+    if (!read_only) {
+        store_lanes(lent.ram + address, wanted, word);
+        store_parity(lent.parity[address / 4], wanted, word);
+    }
     do {
         const unsigned lanes = moved_lanes(wanted, *answers++);
         wanted &= ~lanes;

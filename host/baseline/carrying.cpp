@@ -2,6 +2,7 @@
 // read that carries none, which has nothing to ask between two cycles.
 #include "bus.h"
 #include "lines.h"
+#include "ranges.h"
 #include "refusal.h"
 #include "unit.h"
 
@@ -92,6 +93,8 @@ unit486_result read_carrying(Directory &directory, unit486_buffers &lent, uint32
     uint32_t number = input_number(lent, address, width, answers, answers_length, log_length);
     if (number == UNIT486_DONE)
         number = carried_number(lent, carried);
+    if (number == UNIT486_DONE)
+        number = ranges_number(directory.ranges, lent.ram_length);
     if (number == UNIT486_DONE)
         number = carrying_states_number(directory, address, width, carried);
     if (number != UNIT486_DONE)

@@ -5,6 +5,7 @@
 
 #include "directory.h"
 #include "memory.h"
+#include "ranges.h"
 #include "unit486.h"
 
 namespace baseline {
@@ -23,10 +24,8 @@ inline void keep_fill(Directory &directory, unit486_buffers &lent, uint32_t addr
     std::memcpy(lent.data + offset, lent.ram + line, UNIT486_LINE_BYTES);
 }
 
-// "An external write puts 1 to 16 bytes of one line into RAM, sets their parity, then snoops. It leaves
-// no record."
-inline void put_external(
-    Directory &directory, unit486_buffers &lent, uint32_t address, const uint8_t *bytes, size_t count)
+// Bytes of one line into RAM, with their parity.
+inline void put_bytes(unit486_buffers &lent, uint32_t address, const uint8_t *bytes, size_t count)
 {
     std::memcpy(lent.ram + address, bytes, count);
     // The written lanes of the line's sixteen, four for each doubleword.
@@ -37,6 +36,16 @@ inline void put_external(
         if (lanes != 0)
             store_parity(lent.parity[line / 4 + k], lanes, load(lent.ram + line + 4 * k));
     }
+}
+
+// "An external write puts 1 to 16 bytes of one line into RAM, sets their parity, then snoops. It leaves
+// no record." Document 02: "RAM and parity there ignore CPU writes and external writes, though cycles and
+// snoops go on."
+inline void put_external(
+    Directory &directory, unit486_buffers &lent, uint32_t address, const uint8_t *bytes, size_t count)
+{
+    if (!is_read_only(directory.ranges, address))
+        put_bytes(lent, address, bytes, count);
     invalidate(directory, address);
 }
 

@@ -6,14 +6,16 @@
 
 #include "bus.h"
 #include "lines.h"
+#include "ranges.h"
 #include "refusal.h"
 
 namespace baseline {
 
-// "After reset all 512 lines are invalid, tags and LRU numbers are 0, and CD = NW = 1."
+// "After reset all 512 lines are invalid, tags and LRU numbers are 0, and CD = NW = 1." Document 02: "A later
+// reset keeps them", the ranges.
 void reset(Directory &directory)
 {
-    directory = Directory{};
+    std::memset(&directory, 0, offsetof(Directory, ranges));
     directory.cd = true;
     directory.nw = true;
 }
@@ -33,6 +35,19 @@ void flush(Directory &directory)
 {
     std::memset(directory.valid, 0, sizeof directory.valid);
     std::memset(directory.lru, 0, sizeof directory.lru);
+}
+
+// Document 02: "One call sets them all anew". Places that are left over become 0.
+uint32_t set_ranges(Directory &directory, size_t ram_length, const uint32_t *words, size_t count)
+{
+    const uint32_t number = setting_number(ram_length, words, count);
+    if (number != UNIT486_DONE)
+        return number;
+    directory.ranges = Ranges{};
+    directory.ranges.count = static_cast<uint32_t>(count / 2);
+    for (uint32_t k = 0; k < directory.ranges.count; ++k)
+        directory.ranges.ranges[k] = {words[2 * k], words[2 * k + 1]};
+    return UNIT486_DONE;
 }
 
 uint32_t snoop(Directory &directory, uint32_t address)
@@ -76,6 +91,8 @@ unit486_result read(Directory &directory, unit486_buffers &lent, uint32_t addres
 {
     uint32_t number = input_number(lent, address, width, answers, answers_length, log_length);
     if (number == UNIT486_DONE)
+        number = ranges_number(directory.ranges, lent.ram_length);
+    if (number == UNIT486_DONE)
         number = states_number(directory, address, width);
     if (number != UNIT486_DONE)
         return {number, 0, 0};
@@ -101,7 +118,7 @@ static void write_doubleword(Directory &directory, unit486_buffers &lent, uint32
         if (directory.cd && directory.nw)
             return;
     }
-    write_cycles(lent, address, wanted, word, answers, records);
+    write_cycles(lent, address, wanted, word, is_read_only(directory.ranges, address), answers, records);
 }
 
 unit486_result write(Directory &directory, unit486_buffers &lent, uint32_t address, uint32_t width,
@@ -110,6 +127,8 @@ unit486_result write(Directory &directory, unit486_buffers &lent, uint32_t addre
     uint32_t number = input_number(lent, address, width, answers, answers_length, log_length);
     if (number == UNIT486_DONE)
         number = value_number(width, value);
+    if (number == UNIT486_DONE)
+        number = ranges_number(directory.ranges, lent.ram_length);
     if (number == UNIT486_DONE)
         number = states_number(directory, address, width);
     if (number != UNIT486_DONE)
@@ -127,23 +146,34 @@ uint32_t external_write(
 {
     uint32_t number = external_input_number(lent, address, count);
     if (number == UNIT486_DONE)
+        number = ranges_number(directory.ranges, lent.ram_length);
+    if (number == UNIT486_DONE)
         number = state_number(directory, set_of(address));
     if (number == UNIT486_DONE)
         put_external(directory, lent, address, bytes, count);
     return number;
 }
 
+// In line in both that ask it: a view is short.
+[[gnu::always_inline]] static inline uint32_t number_of_view(
+    const Directory &directory, const unit486_buffers &lent, uint32_t address)
+{
+    uint32_t number = view_input_number(lent, address);
+    if (number == UNIT486_DONE)
+        number = ranges_number(directory.ranges, lent.ram_length);
+    return number != UNIT486_DONE ? number : state_number(directory, set_of(address));
+}
+
 uint32_t view_number(const Directory &directory, const unit486_buffers &lent, uint32_t address)
 {
-    const uint32_t number = view_input_number(lent, address);
-    return number != UNIT486_DONE ? number : state_number(directory, set_of(address));
+    return number_of_view(directory, lent, address);
 }
 
 // "A line view is a part of the data array where the line is held, otherwise a part of RAM, always the
 // sixteen bytes around the address". A view is no use.
 uint32_t view(const Directory &directory, const unit486_buffers &lent, uint32_t address, uint8_t *shown)
 {
-    const uint32_t number = view_number(directory, lent, address);
+    const uint32_t number = number_of_view(directory, lent, address);
     if (number != UNIT486_DONE)
         return number;
     const unsigned way = lookup(directory, address);

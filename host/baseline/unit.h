@@ -10,6 +10,7 @@ namespace baseline {
 void reset(Directory &directory);
 uint32_t control(Directory &directory, bool cd, bool nw);
 void flush(Directory &directory);
+uint32_t set_ranges(Directory &directory, size_t ram_length, const uint32_t *words, size_t count);
 uint32_t snoop(Directory &directory, uint32_t address);
 
 unit486_result read(Directory &directory, unit486_buffers &lent, uint32_t address, uint32_t width, bool pcd,

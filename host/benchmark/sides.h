@@ -14,7 +14,7 @@ constexpr uint32_t held_bytes = UNIT486_DATA_BYTES; // of RAM, from its start: 5
 
 // One side's state, and what its calls answered.
 struct Side {
-    unit486_directory directory;
+    unit486_directory directory{};
     std::vector<uint8_t> ram, parity, data;
     uint8_t answers[UNIT486_ANSWERS];
     uint32_t log[UNIT486_LOG_WORDS] = {};
@@ -58,6 +58,7 @@ struct Side {
         return sum == other.sum && cycles == other.cycles && ram == other.ram && parity == other.parity &&
                data == other.data &&
                std::memcmp(&directory, &other.directory, offsetof(unit486_directory, nw) + 1) == 0 &&
+               std::memcmp(&directory.ranges, &other.directory.ranges, sizeof directory.ranges) == 0 &&
                std::memcmp(log, other.log, sizeof log) == 0 &&
                std::memcmp(shown, other.shown, sizeof shown) == 0;
     }

@@ -75,6 +75,19 @@ inline Addresses not_held(Addresses addresses)
     return addresses;
 }
 
+// Read-only ranges in the upper half of RAM, a part of it between each two; no line there is held.
+constexpr uint32_t range_distance = ram_bytes / 2 / UNIT486_RANGES_MOST;
+constexpr uint32_t range_bytes = range_distance / 2;
+constexpr uint32_t range_start(uint32_t k) { return ram_bytes / 2 + k * range_distance; }
+
+// Of so many ranges, at random: accesses of four bytes, lines.
+inline Addresses in_ranges(uint32_t count, uint32_t bytes)
+{
+    return at_random([=](Random &random) {
+        return range_start(random.below(count)) + random.below(range_bytes / bytes) * bytes;
+    });
+}
+
 // A turn: one call for each address.
 template <class Call> auto each(const Addresses &addresses, Call call)
 {

@@ -13,6 +13,9 @@ enum class Kind {
     control,
     control_by_value,
     flush,
+    set_ranges,
+    set_ranges_in_place,
+    set_ranges_by_value,
     snoop,
     drop_line,
     external_write,
@@ -31,12 +34,12 @@ enum class Kind {
     run,
 };
 
-constexpr size_t kinds = 21;
+constexpr size_t kinds = 24;
 
 constexpr const char *kind_names[kinds] = {"reset", "reset_by_value", "control", "control_by_value", "flush",
-    "snoop", "drop_line", "external_write", "read", "read_carrying", "read_carrying_none", "write", "view",
-    "view_number", "test_write", "test_read", "block_answers", "load_table", "load_table_by_value",
-    "board_answers", "run"};
+    "set_ranges", "set_ranges_in_place", "set_ranges_by_value", "snoop", "drop_line", "external_write",
+    "read", "read_carrying", "read_carrying_none", "write", "view", "view_number", "test_write", "test_read",
+    "block_answers", "load_table", "load_table_by_value", "board_answers", "run"};
 
 // The arguments that are not lent; each call takes those that it receives.
 struct Call {
@@ -65,6 +68,20 @@ inline bool is_test(const Call &call)
     return call.kind == Kind::test_write || call.kind == Kind::test_read;
 }
 
+inline bool is_setting(const Call &call)
+{
+    return call.kind == Kind::set_ranges || call.kind == Kind::set_ranges_in_place ||
+           call.kind == Kind::set_ranges_by_value;
+}
+
+inline bool is_view(const Call &call) { return call.kind == Kind::view || call.kind == Kind::view_number; }
+
+// Whether the call tests the directory's ranges; a setting tests those that it is given.
+inline bool looks_at_ranges(const Call &call)
+{
+    return is_access(call) || is_view(call) || call.kind == Kind::external_write;
+}
+
 // The result of a call that answers a number alone.
 inline unit486_result number_only(uint32_t number) { return {number, 0, 0}; }
 
@@ -81,11 +98,21 @@ inline unit486_result call_library(Side &side, const Call &call)
     unit486_directory *directory = &side.directory;
     switch (call.kind) {
     case Kind::reset: unit486_reset(directory); return number_only(UNIT486_DONE);
-    case Kind::reset_by_value: return stored(*directory, unit486_reset_by_value());
+    case Kind::reset_by_value: return stored(*directory, unit486_reset_by_value(*directory));
     case Kind::control: return number_only(unit486_control(directory, call.cd, call.nw));
     case Kind::control_by_value:
         return stored(*directory, unit486_control_by_value(*directory, call.cd, call.nw));
     case Kind::flush: unit486_flush(directory); return number_only(UNIT486_DONE);
+    case Kind::set_ranges:
+        return number_only(unit486_set_ranges(directory, lent.ram, lent.ram_length,
+            reinterpret_cast<const unit486_range *>(side.ranges.start()), side.ranges.length / 2));
+    case Kind::set_ranges_in_place:
+        return number_only(
+            unit486_set_ranges_in_place(&directory->ranges.count, &directory->ranges.ranges[0].start,
+                lent.ram, lent.ram_length, side.ranges.start(), side.ranges.length));
+    case Kind::set_ranges_by_value:
+        return stored(*directory, unit486_set_ranges_by_value(*directory, lent.ram, lent.ram_length,
+                                      side.ranges.start(), side.ranges.length));
     case Kind::snoop: return number_only(unit486_snoop(directory, call.address));
     case Kind::drop_line: return number_only(unit486_drop_line(directory, call.address));
     case Kind::external_write:
@@ -126,6 +153,13 @@ inline unit486_result call_baseline(Side &side, const Call &call)
     case Kind::control:
     case Kind::control_by_value: return number_only(baseline::control(directory, call.cd, call.nw));
     case Kind::flush: baseline::flush(directory); return number_only(UNIT486_DONE);
+    case Kind::set_ranges: // of whole ranges, so that a word without a length is not lent
+        return number_only(baseline::set_ranges(
+            directory, lent.ram_length, side.ranges.start(), side.ranges.length / 2 * 2));
+    case Kind::set_ranges_in_place:
+    case Kind::set_ranges_by_value:
+        return number_only(
+            baseline::set_ranges(directory, lent.ram_length, side.ranges.start(), side.ranges.length));
     case Kind::snoop:
     case Kind::drop_line: return number_only(baseline::snoop(directory, call.address));
     case Kind::external_write:
@@ -175,6 +209,14 @@ inline void print_carried(const unit486_carried_writes &carried)
     }
 }
 
+inline void print_ranges(const char *name, const uint32_t *words, size_t count)
+{
+    std::printf("  %s:", name);
+    for (size_t k = 0; k < count; ++k)
+        std::printf(" %#" PRIx32 "%s", words[k], k % 2 == 0 ? "" : ",");
+    std::printf(" (%zu words, start and length in turn)\n", count);
+}
+
 // The call and all lengths; answers and bytes as they are after it, which no call but board_answers
 // changes.
 inline void print_call(const Call &call, const Side &side)
@@ -191,6 +233,8 @@ inline void print_call(const Call &call, const Side &side)
     print_bytes("block table", side.table);
     print_bytes("bytes of an external write or a test write", side.bytes);
     print_carried(call.carried);
+    if (is_setting(call))
+        print_ranges("ranges to be set", side.ranges.start(), side.ranges.length);
 }
 
 inline void print_result(const char *side, const unit486_result &result)

@@ -89,7 +89,7 @@ private:
         lent.ram_length = side.ram.length;
         if (result.number < UNIT486_TWO_OF_ONE_TAG)
             coverage.note(carried_fault_after_other, baseline::carried_number(lent, carried) != UNIT486_DONE);
-        else
+        else if (result.number <= UNIT486_LARGE_LRU)
             coverage.note(carried_refused_by_state, states_of_read() == UNIT486_DONE);
     }
 

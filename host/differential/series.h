@@ -6,6 +6,7 @@
 #include <cstdlib>
 #include <string>
 #include <utility>
+#include <vector>
 
 #include "calls.h"
 #include "carried.h"
@@ -14,6 +15,8 @@
 #include "event_text.h"
 #include "loads.h"
 #include "operand_notes.h"
+#include "range_notes.h"
+#include "ranges.h"
 #include "runs.h"
 #include "sides.h"
 #include "table_text.h"
@@ -52,6 +55,7 @@ public:
             if (random.percent(20))
                 call = with_wrong_argument(call);
             make_sets(call);
+            make_ranges();
             check(call);
         }
     }
@@ -63,6 +67,7 @@ public:
         make_sides(UNIT486_RAM_MOST);
         sets[0] = 127, sets[1] = 0, sets[2] = 1;
         set_control(false, false);
+        set_ranges(Kind::set_ranges, {{0, 16}, {UNIT486_RAM_MOST - 16, 16}, {1048576, 32}});
         quiet = false;
         for (uint32_t k = 0; k < calls; ++k) {
             const Call call = next_call();
@@ -155,8 +160,10 @@ public:
         for (uint32_t modes = 0; modes < 4; ++modes) {
             make_modes(modes % 2 != 0, modes / 2 != 0);
             for (const auto &[offset, width] : bytes)
-                for (const int answer : {1, 3, 5, mixed_answers})
+                for (const int answer : {1, 3, 5, mixed_answers}) {
+                    keep_some_ranges();
                     check_carrying(offset, width, answer);
+                }
         }
     }
 
@@ -203,6 +210,64 @@ public:
             check_value_limits(width);
             check_length_limits(width);
             check_each_answer(width);
+        }
+    }
+
+    // Ranges to be set on either side of every limit, at each place of a list, and RAM of a wrong length.
+    void range_limits()
+    {
+        name = "range limits";
+        make_sides(2048);
+        choose_sets();
+        restore_lengths();
+        for (uint32_t count = 0; count <= 10; ++count)
+            for (const Kind kind : {Kind::set_ranges, Kind::set_ranges_in_place, Kind::set_ranges_by_value}) {
+                for (uint32_t place = 0; place < count; ++place)
+                    for (uint32_t fault = 0; fault < range_faults; ++fault)
+                        check_setting(kind, count, place, fault);
+                check_setting_of_good(kind, count);
+            }
+        for (const uint32_t count : {255u, 256u, 257u, 264u, 265u})
+            check_setting_of_good(Kind::set_ranges_in_place, count);
+    }
+
+    // Calls on directories that a host made: any count, with a wrong range at each place, and what stands past
+    // the count.
+    void kept_range_limits()
+    {
+        name = "kept range limits";
+        make_sides(2048);
+        choose_sets();
+        restore_lengths();
+        for (const uint32_t count : {0u, 1u, 2u, 7u, 8u, 9u, 10u, 256u, 264u, 0x80000000u, UINT32_MAX})
+            for (uint32_t place = 0; place < UNIT486_RANGES_MOST; ++place)
+                for (uint32_t fault = 0; fault <= range_faults; ++fault)
+                    for (const Kind kind : {Kind::read, Kind::read_carrying, Kind::read_carrying_none,
+                             Kind::write, Kind::external_write, Kind::view, Kind::view_number, Kind::reset,
+                             Kind::reset_by_value})
+                        check_kept(kind, count, place, fault);
+    }
+
+    // Writes of every kind from each byte around the edges of ranges on, their lines held and not.
+    void range_edges()
+    {
+        name = "range edges";
+        make_sides(4096);
+        choose_sets();
+        restore_lengths();
+        RangeList eight;
+        for (uint32_t k = 0; k < UNIT486_RANGES_MOST; ++k)
+            eight.push_back({512 + 256 * (k * 3 % 8), 16 + k % 2 * 16});
+        // One; at the ends of RAM; all of it; side by side, a line apart, overlapping, twice the same.
+        for (const RangeList &ranges :
+            {RangeList{{2032, 16}}, RangeList{{2016, 48}}, RangeList{{0, 32}}, RangeList{{4064, 32}},
+                RangeList{{0, 4096}}, RangeList{{2048, 16}, {2032, 16}}, RangeList{{2000, 16}, {2032, 32}},
+                RangeList{{2016, 48}, {2032, 16}, {2048, 64}}, RangeList{{1024, 16}, {1024, 16}}, eight}) {
+            set_ranges(Kind::set_ranges, ranges);
+            for (const unit486_range &range : ranges) {
+                check_edge(range.start);
+                check_edge(range.start + range.length);
+            }
         }
     }
 
@@ -280,11 +345,13 @@ private:
         side.bytes.make(64, random);
         side.shown.make(16, random);
         side.log.make(176, random);
+        side.ranges.make(0, random);
         for (uint32_t k = 0; k < ram_length; ++k) {
             uint8_t &parity = side.parity.start()[k / 4];
             parity = static_cast<uint8_t>(
                 (parity & ~(1u << k % 4)) | __builtin_parity(side.ram.start()[k]) << k % 4);
         }
+        side.directory = unit486_directory{};
         baseline::reset(side.directory);
         sides.library = sides.baseline;
         coverage.planted.forget();
@@ -306,6 +373,81 @@ private:
         call.cd = cd, call.nw = nw;
         restore_lengths();
         check(call);
+    }
+
+    // ---- ranges ----
+
+    void lend_ranges(const std::vector<uint32_t> &words)
+    {
+        sides.baseline.ranges.make_of(words, random);
+        sides.library.ranges = sides.baseline.ranges;
+    }
+
+    void set_ranges(Kind kind, const RangeList &ranges)
+    {
+        Call call = next_call(kind);
+        lend_ranges(words_of(ranges));
+        check(call);
+    }
+
+    RangeList some_good_ranges(uint32_t count)
+    {
+        return good_ranges(
+            random, count, [this] { return address(); }, ram_length);
+    }
+
+    // Mostly a few good ranges; some lists have a wrong one, or are too long, or have a word too many.
+    std::vector<uint32_t> random_ranges()
+    {
+        const uint32_t roll = random.below(100);
+        RangeList ranges = some_good_ranges(roll < 15   ? 0
+                                            : roll < 60 ? random.between(1, 3)
+                                            : roll < 90 ? random.between(4, 8)
+                                                        : random.between(9, 12));
+        if (random.percent(15) && !ranges.empty())
+            ranges[random.below(static_cast<uint32_t>(ranges.size()))] =
+                wrong_range(random, random.below(range_faults), ram_length);
+        std::vector<uint32_t> words = words_of(ranges);
+        if (random.percent(5))
+            words.push_back(random.pick({0u, 16u, random.word()}));
+        return words;
+    }
+
+    // Ranges that no call set, right or not, with this count. Places past it may have anything.
+    void keep_ranges(const RangeList &ranges, uint32_t count)
+    {
+        unit486_ranges kept{};
+        kept.count = count;
+        for (uint32_t k = 0; k < UNIT486_RANGES_MOST; ++k)
+            kept.ranges[k] = k < ranges.size() ? ranges[k] : unit486_range{random.word() | 1, random.word()};
+        sides.both([&](Side &side) { side.directory.ranges = kept; });
+    }
+
+    // The ranges of a directory made anew: often none.
+    void make_ranges()
+    {
+        const uint32_t roll = random.below(100);
+        const uint32_t count = roll < 50   ? 0
+                               : roll < 90 ? random.between(1, UNIT486_RANGES_MOST)
+                                           : random.pick({9u, 10u, 255u, 256u, random.word(), UINT32_MAX});
+        RangeList ranges = some_good_ranges(std::min(count, uint32_t{UNIT486_RANGES_MOST}));
+        if (!ranges.empty() && random.percent(25))
+            ranges[random.below(static_cast<uint32_t>(ranges.size()))] =
+                wrong_range(random, random.below(range_faults), ram_length);
+        keep_ranges(ranges, count);
+    }
+
+    // Good ranges, or none.
+    void keep_some_ranges()
+    {
+        const uint32_t count = random.percent(50) ? 0 : random.between(1, UNIT486_RANGES_MOST);
+        keep_ranges(some_good_ranges(count), count);
+    }
+
+    void add_parity_fault(uint32_t at)
+    {
+        const uint8_t mask = random.byte();
+        sides.both([&](Side &side) { side.parity.start()[at / 4] ^= mask; });
     }
 
     // What no call does: a parity fault, or bytes in RAM or in the data array that no longer agree.
@@ -475,7 +617,8 @@ private:
         } table[] = {{300, Kind::read}, {395, Kind::read_carrying}, {410, Kind::read_carrying_none},
             {640, Kind::write}, {660, Kind::test_write}, {680, Kind::test_read}, {770, Kind::external_write},
             {830, Kind::snoop}, {880, Kind::drop_line}, {920, Kind::view}, {940, Kind::view_number},
-            {955, Kind::board_answers}, {975, Kind::control}, {985, Kind::control_by_value},
+            {951, Kind::board_answers}, {953, Kind::set_ranges}, {954, Kind::set_ranges_in_place},
+            {955, Kind::set_ranges_by_value}, {975, Kind::control}, {985, Kind::control_by_value},
             {992, Kind::flush}, {997, Kind::reset}, {1000, Kind::reset_by_value}};
         size_t k = 0;
         while (roll >= table[k].below)
@@ -498,6 +641,8 @@ private:
         call.nw = random.percent(call.cd ? 50 : 10);
         if (kind == Kind::board_answers)
             choose_block(call);
+        if (is_setting(call))
+            lend_ranges(random_ranges());
         choose_line(call);
         if (kind == Kind::read_carrying || kind == Kind::read_carrying_none)
             call.carried = none_carried(random);
@@ -692,6 +837,94 @@ private:
         check(call);
     }
 
+    void check_setting(Kind kind, uint32_t count, uint32_t place, uint32_t fault)
+    {
+        keep_some_ranges();
+        RangeList ranges = some_good_ranges(count);
+        ranges[place] = wrong_range(random, fault, ram_length);
+        set_ranges(kind, ranges);
+    }
+
+    // With a RAM of each length, and with a word too many.
+    void check_setting_of_good(Kind kind, uint32_t count)
+    {
+        for (const uint32_t length : {0u, 8u, 15u, 16u, ram_length - 16, ram_length - 8, ram_length + 8,
+                 ram_length + 16, ram_length}) {
+            make_ranges();
+            lend_lengths(length, parity_length);
+            set_ranges(kind, some_good_ranges(count));
+        }
+        for (const uint32_t word : {0u, 16u, 32u}) {
+            std::vector<uint32_t> words = words_of(some_good_ranges(count));
+            words.push_back(word);
+            const Call call = next_call(kind);
+            lend_ranges(words);
+            check(call);
+        }
+    }
+
+    // A fault past the last is none.
+    void check_kept(Kind kind, uint32_t count, uint32_t place, uint32_t fault)
+    {
+        const Call call = next_call(kind);
+        RangeList ranges = some_good_ranges(UNIT486_RANGES_MOST);
+        if (fault < range_faults)
+            ranges[place] = wrong_range(random, fault, ram_length);
+        make_sets(call);
+        keep_ranges(ranges, count);
+        check(call);
+    }
+
+    // From each byte of the lines before and after an edge on.
+    void check_edge(uint32_t edge)
+    {
+        for (uint32_t at = edge < 16 ? 0 : edge - 16; at < edge + 16 && at < ram_length; ++at)
+            for (uint32_t held = 0; held < 4; ++held) {
+                for (const uint32_t width : {1u, 2u, 4u, 8u})
+                    check_write_at_edge(Kind::write, at, width, held);
+                check_write_at_edge(Kind::external_write, at, 1, held);
+                check_carried_at_edge(at, held);
+                if (random.percent(5))
+                    check(next_call(random.pick({Kind::reset, Kind::reset_by_value})));
+            }
+    }
+
+    // Bit 0 of `held` is for the line of the address, bit 1 for the next one.
+    void make_sets_of_lines(uint32_t at, uint32_t held)
+    {
+        make_modes(random.percent(50), random.percent(40));
+        make_set_of_line(at, held % 2 != 0);
+        make_set_of_line(at + UNIT486_LINE_BYTES, held / 2 != 0);
+        if (random.percent(30))
+            add_parity_fault(at);
+    }
+
+    void check_write_at_edge(Kind kind, uint32_t at, uint32_t width, uint32_t held)
+    {
+        Call call = next_call(kind);
+        call.address = at;
+        call.width = width;
+        call.value = random.of_bytes(width);
+        const uint32_t room = 16 - at % 16;
+        const size_t count = random.percent(40) ? room : random.between(1, room);
+        sides.both([&](Side &side) { side.bytes.length = count; });
+        make_sets_of_lines(at, held);
+        check(call);
+    }
+
+    // A read there or in the line before, whose writes meet the lines about it.
+    void check_carried_at_edge(uint32_t at, uint32_t held)
+    {
+        Call call = next_call(Kind::read_carrying);
+        call.address = random.percent(50) || at < 16 ? at : at - 16;
+        call.carried.count = 0;
+        uint32_t cycle = random.below(3);
+        for (uint32_t k = random.between(1, UNIT486_CARRIED_MOST); k > 0; --k, cycle += random.below(3))
+            add_write(call.carried, random, cycle, random.percent(50) ? at : (at ^ 16) % ram_length);
+        make_sets_of_lines(call.address, held);
+        check(call);
+    }
+
     // A read of an accepted address with four good writes in cycle order, of which it carries `count`.
     Call next_carrying_read(uint32_t count)
     {
@@ -766,8 +999,14 @@ private:
         return ken ? UNIT486_BS8 | UNIT486_KEN : UNIT486_BS8;
     }
 
+    // Some of the two lines are read-only.
     void check_operands(uint32_t line, int answer)
     {
+        RangeList ranges;
+        for (const uint32_t start : {line, line + UNIT486_LINE_BYTES})
+            if (start < ram_length && random.percent(50))
+                ranges.push_back({start, UNIT486_LINE_BYTES});
+        keep_ranges(ranges, static_cast<uint32_t>(ranges.size()));
         for (uint32_t offset = 0; offset < UNIT486_LINE_BYTES; ++offset)
             for (const uint32_t width : {1u, 2u, 4u, 8u})
                 for (uint32_t held = 0; held < 4; ++held)
@@ -836,13 +1075,16 @@ private:
         if (!found.empty()) {
             print_mismatch(coverage.calls, seed, name, found);
             print_call(call, sides.baseline);
-            std::printf("  CD %d, NW %d before the call\n", before.cd, before.nw);
+            std::printf("  CD %d, NW %d, %" PRIu32 " ranges before the call\n", before.cd, before.nw,
+                before.ranges.count);
+            print_ranges("those ranges", &before.ranges.ranges[0].start, 2 * UNIT486_RANGES_MOST);
             print_result("library", library);
             print_result("baseline", baseline);
             std::exit(1);
         }
         coverage.note_call(before, call, baseline, sides.baseline);
         OperandNotes(coverage, call, baseline, sides.baseline).note();
+        RangeNotes(coverage, before, call, baseline, sides.baseline).note();
         if (call.kind == Kind::read_carrying)
             CarriedNotes(coverage, before, call, baseline, sides.baseline).note();
     }

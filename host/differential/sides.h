@@ -54,10 +54,10 @@ private:
 };
 
 struct Side {
-    unit486_directory directory;
+    unit486_directory directory{};
     Lent<uint8_t> ram, parity, data, answers, table, bytes, shown;
-    Lent<uint32_t> log;
-    unit486_test_line line{}; // of the last test read
+    Lent<uint32_t> log, ranges; // ranges to be set, by start and length
+    unit486_test_line line{};   // of the last test read
 
     unit486_buffers lent()
     {
@@ -65,11 +65,22 @@ struct Side {
     }
 };
 
-// The first difference of two directories. What follows NW is padding, which no rule names.
+inline std::string ranges_difference(const unit486_ranges &library, const unit486_ranges &baseline)
+{
+    if (library.count != baseline.count)
+        return "count of ranges: library " + std::to_string(library.count) + ", baseline " +
+               std::to_string(baseline.count);
+    for (size_t k = 0; k < UNIT486_RANGES_MOST; ++k)
+        if (std::memcmp(library.ranges + k, baseline.ranges + k, sizeof *library.ranges) != 0)
+            return "range " + std::to_string(k);
+    return "";
+}
+
+// The first difference of two directories. Between NW and the ranges is padding, which no rule names.
 inline std::string directory_difference(const unit486_directory &library, const unit486_directory &baseline)
 {
     if (std::memcmp(&library, &baseline, offsetof(unit486_directory, nw) + 1) == 0)
-        return "";
+        return ranges_difference(library.ranges, baseline.ranges);
     for (size_t k = 0; k < UNIT486_LINES; ++k) {
         if (library.tags[k] != baseline.tags[k])
             return "tag " + std::to_string(k) + ": library " + std::to_string(library.tags[k]) +
@@ -131,6 +142,9 @@ struct Sides {
         const std::string log = library.log.difference(baseline.log);
         if (!log.empty())
             return "log, " + log;
+        const std::string ranges = library.ranges.difference(baseline.ranges);
+        if (!ranges.empty())
+            return "ranges to be set, " + ranges;
         const std::string line = line_difference(library.line, baseline.line);
         return line.empty() ? "" : "test line, " + line;
     }

@@ -1,6 +1,7 @@
 // A host's first steps: compare versions, fill a line, hit it, let another master write, read the new byte;
 // then a floating-point number of eight bytes, a fieldbus card that writes during a fill, a plant's own block
-// table, and a diagnostic disk's test of the cache. Ends with 1 if a step is not as unit486.h says.
+// table, a diagnostic disk's test of the cache, and a guest's test for its boot ROM. Ends with 1 if a step is
+// not as unit486.h says.
 #include <cinttypes>
 #include <cstdio>
 #include <cstring>
@@ -28,16 +29,16 @@ static void expect_number(const char *step, uint32_t seen, unit486_number docume
         std::printf("  refused: %s\n", unit486_number_text(seen));
 }
 
-// All that the unit works on is the host's: here 64 KB of zero bytes, with which zero parity agrees, and a
-// board with document 01's answers.
+// All that the unit works on is the host's: here 64 KB of zero bytes where nothing else is said, with which
+// zero parity agrees, a board with document 01's answers, and a directory of zero bytes, which has no range.
 struct Host {
     std::vector<uint8_t> ram, parity, data;
     uint8_t table[UNIT486_BLOCKS];
     uint32_t log[UNIT486_LOG_WORDS];
-    unit486_directory directory;
+    unit486_directory directory = {};
     unit486_buffers lent;
 
-    Host() : ram(65536), parity(65536 / 4), data(UNIT486_DATA_BYTES)
+    explicit Host(size_t ram_bytes = 65536) : ram(ram_bytes), parity(ram_bytes / 4), data(UNIT486_DATA_BYTES)
     {
         unit486_block_answers(table);
         unit486_reset(&directory);
@@ -238,6 +239,45 @@ static void cache_test(Host &host)
     expect("read of that line: value, as in RAM", host.read(planted, 2).value, 0x6677);
 }
 
+// A boot ROM of 64 KB at the end of block 14, whose answer is BS8# without KEN#, so that no line of it is ever
+// held. The host puts its bytes there, then makes them read-only, right after the reset. A guest that writes
+// there reads the old bytes, and so knows it for ROM.
+static void boot_rom()
+{
+    constexpr uint32_t rom_bytes = 65536, rom = 15 * 1048576 - rom_bytes;
+    Host host(rom + rom_bytes);
+    const uint8_t signature[2] = {0x55, 0xAA}, other[2] = {0x12, 0x34};
+    unit486_external_write(&host.directory, &host.lent, rom, signature, sizeof signature);
+
+    unit486_range ranges[UNIT486_RANGES_MOST + 1];
+    for (unit486_range &range : ranges)
+        range = {rom, rom_bytes};
+    const auto set = [&](size_t count) {
+        return unit486_set_ranges(&host.directory, host.lent.ram, host.lent.ram_length, ranges, count);
+    };
+    expect_number("setting of the boot ROM's range: number", set(1), UNIT486_DONE);
+    unit486_control(&host.directory, false, false);
+
+    unit486_result result = host.write(rom, 2, 0);
+    expect("write into the boot ROM, BS8#: cycles", result.cycles, 2);
+    result = host.read(rom, 2);
+    expect("read of it, no fill: cycles", result.cycles, 2);
+    expect("  value, as it was", result.value, 0xAA55);
+    expect_number("another master's write into it: number",
+        unit486_external_write(&host.directory, &host.lent, rom, other, sizeof other), UNIT486_DONE);
+    expect("  value, as it was", host.read(rom, 2).value, 0xAA55);
+    host.write(rom - 1, 2, 0x6677);
+    expect("write across its start: the byte before it", host.read(rom - 1, 1).value, 0x77);
+    expect("  its first byte, as it was", host.read(rom, 1).value, 0x55);
+
+    unit486_reset(&host.directory);
+    expect("reset, which keeps the ranges: their count", host.directory.ranges.count, 1);
+    expect_number("setting of nine ranges: number", set(9), UNIT486_TOO_MANY_RANGES);
+    ranges[0].length = 8;
+    expect_number("setting of half a line: number", set(1), UNIT486_WRONG_RANGE);
+    expect("  the count of ranges, as it was", host.directory.ranges.count, 1);
+}
+
 int main(int argc, char **)
 {
     if (argc > 1) {
@@ -254,6 +294,7 @@ int main(int argc, char **)
     card_writes_during_fill(host);
     plant_table(host);
     cache_test(host);
+    boot_rom();
     std::printf(all_as_documented ? "all as documented\n" : "NOT as documented\n");
     return all_as_documented ? 0 : 1;
 }

@@ -1,6 +1,6 @@
 /* The 486 cache and bus unit, for a host in C (C11) or C++ (C++17). The rules are document 01's; those of
-   the test calls, of carried writes, of a flush, of eight-byte operands and of loaded block tables are
-   document 02's, requests C-11, C-12, C-14, C-15 and C-16.
+   the test calls, of carried writes, of a flush, of eight-byte operands, of loaded block tables and of
+   read-only ranges are document 02's, requests C-11, C-12 and C-14 to C-17.
 
    Link with target/staticlib/libhost.a, which `rt staticlib host` writes for x86-64; a host that calls
    unit486_run links target/staticlib/libprogram.a too, which `rt staticlib program` writes. The unit
@@ -18,7 +18,8 @@
 
    WHO OWNS WHAT. All of it is the caller's:
 
-     directory   unit486_directory; its first call is unit486_reset (CD = NW = 1, nothing held)
+     directory   unit486_directory; zero bytes at first (`unit486_directory d = {0};`), since a reset keeps
+                 the ranges; its first call is unit486_reset (CD = NW = 1, nothing held)
      RAM         16 to 16,777,216 bytes, a multiple of 16
      parity      one byte for each four bytes of RAM; bits 0 to 3 are DP0 to DP3, even parity. Zero bytes
                  agree with zero parity; a host that loads RAM itself sets the parity too, or loads by
@@ -43,10 +44,10 @@
 
    NUMBERS. Each call but those that are never refused answers one of enum unit486_number. 0: done. Else
    nothing lent has changed, the directory is as it was given, and value and count are 0. Lowest first, but
-   33 comes after 10 and before 21: 1 to 10, 33, 21 to 23. Where several sets are touched, all of one comes
-   before the next: the access's own sets, the lower address's first, then those of carried writes in list
-   order. Each only from calls that receive the thing. A test call answers 3, 31 or 32, lowest first; a load
-   34, 35 or 36, as told below.
+   33, 37 and 38 come after 10 and before 21: 1 to 10, 33, 37, 38, 21 to 23. Where several sets are touched,
+   all of one comes before the next: the access's own sets, the lower address's first, then those of carried
+   writes in list order. Each only from calls that receive the thing. A test call answers 3, 31 or 32, lowest
+   first; a load 34, 35 or 36, as told below.
 
    CARRIED WRITES, for fieldbus cards, which write while a line is coming in. unit486_read_carrying is
    unit486_read with up to four external writes that land during it, each numbered by the cycle before which
@@ -68,6 +69,24 @@
    or at the lookup for a hit. The records tell where the cycles fall: each doubleword that missed has a
    group of them, which ends with UNIT486_FLAG_LAST and starts at the doubleword's own address.
 
+   READ-ONLY RANGES, for guests that write into their boot ROM to test for it. The directory keeps up to eight
+   ranges of whole lines, none at first, in which RAM and parity ignore writes: those of the CPU, those of
+   other masters and carried ones. It goes by bytes: of a write that crosses the edge of a range the bytes
+   outside it land. A parity byte there stays whole, its upper four bits too. All else goes on: cycles and
+   their records, which have the written data, snoops, uses, dropped fills, and the data array on a write hit.
+
+   unit486_set_ranges sets them all anew; ranges may overlap. Refused, it leaves those that were there: by 37
+   where a given range is empty, not whole lines or beyond RAM, whatever their count, then by 38 where they
+   are more than eight. start + length is a sum of 64 bits. Each other call that receives directory and RAM
+   tests the directory's ranges against that RAM, by 37 the first eight of its count, then by 38 the count;
+   what stands past the count is not looked at. So set ranges refuse a call only if it is lent a shorter RAM.
+
+   No other call changes them, and a reset keeps them: a directory of zero bytes is the one that has none.
+
+   Since a write hit alters the held line and not RAM, the line then has bytes that memory never had. That
+   reads agree with a memory which ignores the same writes needs KEN# inactive throughout the ranges, so that
+   no line of them comes in, and the ranges set right after the reset and not altered from there on.
+
    BLOCK TABLES, for plants whose board does not answer as document 01's does. A load reads the plant's table
    from a text of sixteen lines, each a block and its answer, parted by a tab, blocks ascending from 0. A
    number has 1 to 10 decimal digits, up to 4,294,967,295; the newline of the last line is optional. The text
@@ -82,8 +101,8 @@
    A planted line may have bytes that RAM never held, or a tag that its set holds already: 21 then refuses
    the reads, writes, external writes, snoops and views of that set. So a host that compares the calls with
    a memory of its own suspends this after each accepted test write, also after one of an invalid line,
-   until the next flush or reset; from there it compares again, with a memory begun anew from RAM as it then
-   is. */
+   until the next flush or reset; from there it compares again, with a memory begun anew from RAM and from the
+   directory's ranges as they then are. */
 
 #ifndef UNIT486_H
 #define UNIT486_H
@@ -98,7 +117,7 @@ extern "C" {
 #endif
 
 /* Of this header's layout and calls. */
-#define UNIT486_VERSION 10
+#define UNIT486_VERSION 11
 
 enum {
     UNIT486_SETS = 128,
@@ -113,6 +132,7 @@ enum {
     UNIT486_LOG_WORDS = 144,
     UNIT486_BLOCKS = 16,          /* answers of a block table */
     UNIT486_CARRIED_MOST = 4,     /* external writes that a read may carry */
+    UNIT486_RANGES_MOST = 8,      /* read-only ranges of a directory */
     UNIT486_INPUT_MOST = 65536,   /* bytes of event lines that unit486_run runs */
     UNIT486_OUTPUT_MOST = 3539024 /* bytes that are enough for the output of every input */
 };
@@ -139,7 +159,9 @@ enum unit486_number {
     UNIT486_WRONG_CARRIED_WRITES = 33, /* more than four, not in cycle order, or one that 10 would refuse */
     UNIT486_WRONG_TABLE_LINE = 34,     /* malformed, missing, seventeenth; this and the next two from loads */
     UNIT486_WRONG_TABLE_BLOCK = 35,    /* of a line: not its place from 0, as a repeated one is not */
-    UNIT486_LARGE_TABLE_ANSWER = 36    /* of a line: above 7 */
+    UNIT486_LARGE_TABLE_ANSWER = 36,   /* of a line: above 7 */
+    UNIT486_WRONG_RANGE = 37,          /* empty, not whole lines, or beyond RAM */
+    UNIT486_TOO_MANY_RANGES = 38       /* over eight */
 };
 
 /* Bits of an answer. */
@@ -157,6 +179,18 @@ enum {
     UNIT486_FLAG_WRONG_PARITY = 128 /* in a moved byte, of a read */
 };
 
+/* A range of RAM: so many bytes from its start on. */
+typedef struct unit486_range {
+    uint32_t start;
+    uint32_t length;
+} unit486_range;
+
+/* The first `count` of them are read-only. */
+typedef struct unit486_ranges {
+    uint32_t count;
+    unit486_range ranges[8];
+} unit486_ranges;
+
 /* The line of a set and a way is element set * 4 + way of tags and valid. Whoever stores into valid, cd
    or nw stores 0 or 1. A host that keeps the directory between calls need not look into it. */
 typedef struct unit486_directory {
@@ -165,6 +199,7 @@ typedef struct unit486_directory {
     uint8_t lru[128]; /* B0 + 2 * B1 + 4 * B2 of each set */
     bool cd;
     bool nw;
+    unit486_ranges ranges;
 } unit486_directory;
 
 /* What a call by value answers. */
@@ -211,16 +246,23 @@ typedef struct unit486_loaded_table {
 } unit486_loaded_table;
 
 static_assert(sizeof(bool) == 1, "a valid mark is one byte");
+static_assert(offsetof(unit486_range, start) == 0, "layout of a range");
+static_assert(offsetof(unit486_range, length) == 4, "layout of a range");
+static_assert(sizeof(unit486_range) == 8, "layout of a range");
+static_assert(offsetof(unit486_ranges, count) == 0, "layout of ranges");
+static_assert(offsetof(unit486_ranges, ranges) == 4, "layout of ranges");
+static_assert(sizeof(unit486_ranges) == 68, "layout of ranges");
 static_assert(offsetof(unit486_directory, tags) == 0, "layout of the directory");
 static_assert(offsetof(unit486_directory, valid) == 2048, "layout of the directory");
 static_assert(offsetof(unit486_directory, lru) == 2560, "layout of the directory");
 static_assert(offsetof(unit486_directory, cd) == 2688, "layout of the directory");
 static_assert(offsetof(unit486_directory, nw) == 2689, "layout of the directory");
-static_assert(sizeof(unit486_directory) == 2692, "layout of the directory");
-static_assert(offsetof(unit486_outcome, number) == 2692, "layout of an outcome");
-static_assert(offsetof(unit486_outcome, value) == 2696, "layout of an outcome");
-static_assert(offsetof(unit486_outcome, cycles) == 2704, "layout of an outcome");
-static_assert(sizeof(unit486_outcome) == 2712, "layout of an outcome");
+static_assert(offsetof(unit486_directory, ranges) == 2692, "layout of the directory");
+static_assert(sizeof(unit486_directory) == 2760, "layout of the directory");
+static_assert(offsetof(unit486_outcome, number) == 2760, "layout of an outcome");
+static_assert(offsetof(unit486_outcome, value) == 2768, "layout of an outcome");
+static_assert(offsetof(unit486_outcome, cycles) == 2776, "layout of an outcome");
+static_assert(sizeof(unit486_outcome) == 2784, "layout of an outcome");
 static_assert(offsetof(unit486_result, number) == 0, "layout of a result");
 static_assert(offsetof(unit486_result, cycles) == 4, "layout of a result");
 static_assert(offsetof(unit486_result, value) == 8, "layout of a result");
@@ -244,7 +286,8 @@ static_assert(sizeof(unit486_loaded_table) == 20, "layout of a loaded table");
 /* A pointer and its length stand together below. */
 /* clang-format off */
 
-/* ---- The libraries' functions. tags and valid have 512 elements each, lru has 128, table has 16. ---- */
+/* ---- The libraries' functions. tags and valid have 512 elements each, lru has 128, table has 16; bounds
+   has 16 words, start and length of each of the directory's eight ranges in turn. ---- */
 
 /* The UNIT486_VERSION of libhost.a. Every version has this call. */
 uint32_t unit486_version(void);
@@ -253,31 +296,35 @@ uint32_t unit486_version(void);
    doubleword that misses fills its line where cd = 0, pcd = 0 and its first cycle has KEN#; the fill is kept
    where its last has it too. */
 unit486_result unit486_read_in_place(
-    uint32_t *tags, bool *valid, uint8_t *lru, bool cd,
+    uint32_t *tags, bool *valid, uint8_t *lru, bool cd, uint32_t range_count, const uint32_t *bounds,
     const uint8_t *ram, size_t ram_length, const uint8_t *parity, size_t parity_length,
     uint8_t *data, size_t data_length, uint32_t address, uint32_t width, bool pcd,
     const uint8_t *answers, size_t answers_length, uint32_t *log, size_t log_length);
 
 /* The same read with the external writes that land during it: into RAM and parity, each with its snoop.
-   0 to 7, 33, or 21 to 23. */
+   0 to 7, 33, 37, 38, or 21 to 23. */
 unit486_result unit486_read_carrying_in_place(
     uint32_t *tags, bool *valid, uint8_t *lru, bool cd, bool nw,
+    uint32_t range_count, const uint32_t *bounds,
     uint8_t *ram, size_t ram_length, uint8_t *parity, size_t parity_length,
     uint8_t *data, size_t data_length, uint32_t address, uint32_t width, bool pcd,
     const uint8_t *answers, size_t answers_length, uint32_t *log, size_t log_length,
     unit486_carried_writes carried);
 
 /* A write of 1, 2, 4 or 8 bytes, little-endian: through to RAM and, where a doubleword hits, into the data
-   array; with CD = NW = 1 what hits stays in the data array. */
+   array; with CD = NW = 1 what hits stays in the data array. RAM and parity of a range ignore it. */
 unit486_result unit486_write_in_place(
     const uint32_t *tags, const bool *valid, uint8_t *lru, bool cd, bool nw,
+    uint32_t range_count, const uint32_t *bounds,
     uint8_t *ram, size_t ram_length, uint8_t *parity, size_t parity_length,
     uint8_t *data, size_t data_length, uint32_t address, uint32_t width, uint64_t value,
     const uint8_t *answers, size_t answers_length, uint32_t *log, size_t log_length);
 
-/* Another master's write of 1 to 16 bytes of one line into RAM, then a snoop. It leaves no record. */
+/* Another master's write of 1 to 16 bytes of one line into RAM, where no range has the line, then a snoop.
+   It leaves no record. */
 uint32_t unit486_external_write_in_place(
     const uint32_t *tags, bool *valid, const uint8_t *lru, bool nw,
+    uint32_t range_count, const uint32_t *bounds,
     uint8_t *ram, size_t ram_length, uint8_t *parity, size_t parity_length,
     uint32_t address, const uint8_t *bytes, size_t bytes_length);
 
@@ -293,8 +340,16 @@ void unit486_flush_in_place(bool *valid, uint8_t *lru);
    agree with memory is not claimed then. */
 uint32_t unit486_control_in_place(bool *cd, bool *nw, bool new_cd, bool new_nw);
 
-/* All 512 lines invalid, tags and LRU numbers 0, CD = NW = 1, whatever was there before. Never refused. */
+/* All 512 lines invalid, tags and LRU numbers 0, CD = NW = 1, whatever was there before; the ranges stay.
+   Never refused. */
 void unit486_reset_in_place(uint32_t *tags, bool *valid, uint8_t *lru, bool *cd, bool *nw);
+
+/* The directory's read-only ranges, all anew: ranges has start and length of each in turn, so that its length
+   is twice their count; a last word without a length is a range that is empty. The words of bounds that are
+   left over become 0. Of RAM only the length is looked at. 0, 1, 37 or 38. */
+uint32_t unit486_set_ranges_in_place(
+    uint32_t *range_count, uint32_t *bounds, const uint8_t *ram, size_t ram_length,
+    const uint32_t *ranges, size_t ranges_length);
 
 /* A line view: the sixteen bytes around the address, of the data array where the line is held,
    otherwise of RAM, copied into shown. The copy is of this moment: later calls do not change it, and
@@ -302,12 +357,14 @@ void unit486_reset_in_place(uint32_t *tags, bool *valid, uint8_t *lru, bool *cd,
    sixteen bytes. Answers the view's number; where it is not 0, shown is unchanged. */
 uint32_t unit486_view_in_place(
     const uint32_t *tags, const bool *valid, const uint8_t *lru,
+    uint32_t range_count, const uint32_t *bounds,
     const uint8_t *ram, size_t ram_length, const uint8_t *data, size_t data_length, uint32_t address,
     uint8_t *shown);
 
-/* The number of a line view: 1, 3, 5, 21 to 23, or 0. */
+/* The number of a line view: 1, 3, 5, 37, 38, 21 to 23, or 0. */
 uint32_t unit486_view_number_in_place(
     const uint32_t *tags, const bool *valid, const uint8_t *lru,
+    uint32_t range_count, const uint32_t *bounds,
     const uint8_t *ram, size_t ram_length, const uint8_t *data, size_t data_length, uint32_t address);
 
 /* A test write: the tag, the valid mark and sixteen bytes into the line of a set and a way, whatever was
@@ -323,10 +380,13 @@ unit486_test_line unit486_test_read_in_place(
     const uint32_t *tags, const bool *valid, const uint8_t *lru, bool cd,
     const uint8_t *data, size_t data_length, uint32_t set, uint32_t way);
 
-/* Control and reset that give a whole directory, to be stored by the caller: where control is refused, the
-   given one. */
+/* Control, reset and the setting of ranges that give a whole directory, to be stored by the caller: refused,
+   the given one. */
 unit486_outcome unit486_control_by_value(unit486_directory given, bool cd, bool nw);
-unit486_outcome unit486_reset_by_value(void);
+unit486_outcome unit486_reset_by_value(unit486_directory given);
+unit486_outcome unit486_set_ranges_by_value(
+    unit486_directory given, const uint8_t *ram, size_t ram_length,
+    const uint32_t *ranges, size_t ranges_length);
 
 /* The same snoop as unit486_snoop, by way of copies of the directory: document 01's thin call. */
 uint32_t unit486_drop_line(unit486_directory *directory, uint32_t address);
@@ -380,6 +440,7 @@ static inline unit486_result unit486_read(
 {
     return unit486_read_in_place(
         directory->tags, directory->valid, directory->lru, directory->cd,
+        directory->ranges.count, &directory->ranges.ranges[0].start,
         lent->ram, lent->ram_length, lent->parity, lent->parity_length, lent->data, lent->data_length,
         address, width, pcd, answers, answers_length, log, log_length);
 }
@@ -391,6 +452,7 @@ static inline unit486_result unit486_read_carrying(
 {
     return unit486_read_carrying_in_place(
         directory->tags, directory->valid, directory->lru, directory->cd, directory->nw,
+        directory->ranges.count, &directory->ranges.ranges[0].start,
         lent->ram, lent->ram_length, lent->parity, lent->parity_length, lent->data, lent->data_length,
         address, width, pcd, answers, answers_length, log, log_length, *carried);
 }
@@ -401,6 +463,7 @@ static inline unit486_result unit486_write(
 {
     return unit486_write_in_place(
         directory->tags, directory->valid, directory->lru, directory->cd, directory->nw,
+        directory->ranges.count, &directory->ranges.ranges[0].start,
         lent->ram, lent->ram_length, lent->parity, lent->parity_length, lent->data, lent->data_length,
         address, width, value, answers, answers_length, log, log_length);
 }
@@ -412,6 +475,7 @@ static inline uint32_t unit486_external_write(
 {
     return unit486_external_write_in_place(
         directory->tags, directory->valid, directory->lru, directory->nw,
+        directory->ranges.count, &directory->ranges.ranges[0].start,
         lent->ram, lent->ram_length, lent->parity, lent->parity_length, address, bytes, bytes_length);
 }
 
@@ -437,12 +501,23 @@ static inline void unit486_reset(unit486_directory *directory)
         directory->tags, directory->valid, directory->lru, &directory->cd, &directory->nw);
 }
 
+/* The directory's read-only ranges, all anew. Of RAM only the length is looked at. */
+static inline uint32_t unit486_set_ranges(
+    unit486_directory *directory, const uint8_t *ram, size_t ram_length,
+    const unit486_range *ranges, size_t count)
+{
+    return unit486_set_ranges_in_place(
+        &directory->ranges.count, &directory->ranges.ranges[0].start, ram, ram_length,
+        &ranges->start, 2 * count);
+}
+
 /* Sixteen bytes into shown. Receives RAM and the data array; the parity array in lent is not looked at. */
 static inline uint32_t unit486_view(
     const unit486_directory *directory, const unit486_buffers *lent, uint32_t address, uint8_t *shown)
 {
     return unit486_view_in_place(
         directory->tags, directory->valid, directory->lru,
+        directory->ranges.count, &directory->ranges.ranges[0].start,
         lent->ram, lent->ram_length, lent->data, lent->data_length, address, shown);
 }
 
@@ -451,6 +526,7 @@ static inline uint32_t unit486_view_number(
 {
     return unit486_view_number_in_place(
         directory->tags, directory->valid, directory->lru,
+        directory->ranges.count, &directory->ranges.ranges[0].start,
         lent->ram, lent->ram_length, lent->data, lent->data_length, address);
 }
 
@@ -502,6 +578,8 @@ static inline const char *unit486_number_text(uint32_t number)
     case UNIT486_WRONG_TABLE_LINE: return "a line of the table is malformed, missing or the seventeenth";
     case UNIT486_WRONG_TABLE_BLOCK: return "a block of the table is wrong or repeated";
     case UNIT486_LARGE_TABLE_ANSWER: return "an answer of the table is above 7";
+    case UNIT486_WRONG_RANGE: return "a read-only range is empty, not whole lines or beyond RAM";
+    case UNIT486_TOO_MANY_RANGES: return "over 8 read-only ranges";
     default: return "no number of this unit";
     }
 }

@@ -22,7 +22,8 @@ _carried_number = refusal.carried_number
 
 
 def _put_without_snoop(reading: Reading, write: CarriedWrite) -> None:
-    memory.store_bytes(reading.ram, reading.parity, write.address, write.written)
+    ranges = reading.directory.ranges
+    memory.store_bytes(reading.ram, reading.parity, ranges, write.address, write.written)
     reading.landed += 1
 
 

@@ -240,7 +240,7 @@ def dropped_fills() -> None:
         carried = [CarriedWrite(1, LINE + 9, NEW), CarriedWrite(second, LINE, NEW)]
         check("its cycles", flags(read_carrying(unit, LINE, 4, carried)), [47, 47, 47, 111])
         after = snapshot(unit)
-        check("directory and data array", (after[:5], after[7]), (before[:5], before[7]))
+        check("directory and data array", (after[:6], after[-1]), (before[:6], before[-1]))
     unit = _unit()
     read_carrying(unit, LINE, 4, [CarriedWrite(0, LINE, NEW)], answers_of([1, 0]))
     check("KEN# in the last cycle still decides", held(unit, LINE), None)

@@ -45,7 +45,7 @@ def what_is_put() -> None:
         index = set_index * 4 + way
         check("one tag", tags, before[0][:index] + [77] + before[0][index + 1 :])
         check("one mark", marks, before[1][:index] + [valid] + before[1][index + 1 :])
-        check("LRU, CD, NW, RAM, parity", tuple(kept[:-1]), before[2:-1])
+        check("LRU, CD, NW, ranges, RAM, parity", tuple(kept[:-1]), before[2:-1])
         data = before[-1][: 16 * index] + SIXTEEN + before[-1][16 * index + 16 :]
         check("sixteen bytes", kept[-1], data)
 

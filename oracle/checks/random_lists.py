@@ -14,6 +14,7 @@ from unit486_model.carried import CARRIED_MOST, CarriedWrite
 from unit486_model.directory import LINE_BYTES, SETS, TAG_LIMIT, WAYS, Directory
 from unit486_model.events import NUMBER_LIMIT, Unit
 from unit486_model.plain import Comparison, PlainMemory
+from unit486_model.ranges import RANGES_MOST, Range, Ranges, kept
 from unit486_model.refusal import DATA_BYTES
 
 from .unit_calls import (
@@ -23,6 +24,7 @@ from .unit_calls import (
     external,
     read,
     read_carrying,
+    set_ranges,
     snapshot,
     tells,
     test_read,
@@ -67,7 +69,7 @@ class RandomList:
         for index in range(len(parity)):
             parity[index] |= self.random.randrange(16) << 4
         data = bytearray(self.random.randbytes(DATA_BYTES))
-        self.unit = Unit(steps.reset(), ram, parity, data)
+        self.unit = Unit(steps.first(), ram, parity, data)
         self.comparison = Comparison(PlainMemory(bytearray(ram)))
         self.wrong_share = self.random.choice((0.0, 0.0, 0.05, 0.3))
         self.met: Counter[str] = Counter()
@@ -102,6 +104,10 @@ class RandomList:
         ken = KEN if chance < 0.7 else 0
         return [self.random.randrange(8) | ken for _ in range(ANSWERS)]
 
+    def read_answers(self, address: int, width: int) -> list[int]:
+        """Those of a read, which premises may bind."""
+        return self.answers()
+
     def log(self) -> list[int]:
         extra = self.random.choice((-LOG_WORDS, -1)) if self.wrong() else self.random.randrange(3)
         return [self.random.getrandbits(32) for _ in range(LOG_WORDS + extra)]
@@ -110,11 +116,15 @@ class RandomList:
         reads, carrying, rarity = self.random.choice(self.shares)
         accesses = (*[self.read] * reads, *[self.read_carrying] * carrying, self.write)
         calls = (*accesses, self.external, self.view)
+        self.first_call()
         self.control()
         for _ in range(self.calls):
             self.random.choice(self.rare() if self.random.random() < rarity else calls)()
             self.after_call()
         check("parity agrees", memory.parity_agrees(self.unit.ram, self.unit.parity), True)
+
+    def first_call(self) -> None:
+        """A call that may come first only; here none does."""
 
     def after_call(self) -> None:
         self.agree("RAM", self.unit.ram, self.plain.bytes_held)
@@ -141,7 +151,7 @@ class RandomList:
 
     def read(self) -> None:
         address, width, pcd = self.address(), self.width(), self.random.random() < 0.1
-        answers, log = self.answers(), self.log()
+        answers, log = self.read_answers(address, width), self.log()
         before, lines = list(log), valid_and_tags(self.unit.directory)
         result = read(self.unit, address, width, answers, pcd, log)
         expected = self.plain.read(address, width, pcd, answers, len(log))
@@ -157,7 +167,8 @@ class RandomList:
 
     def read_carrying(self) -> None:
         address, width, pcd = self.address(), self.width(), self.random.random() < 0.1
-        answers, log, carried = self.answers(), self.log(), self.carried(address)
+        answers, log = self.read_answers(address, width), self.log()
+        carried = self.carried(address)
         before = list(log)
         result = read_carrying(self.unit, address, width, carried, answers, pcd, log)
         told = (len(log), carried, result.records)
@@ -229,8 +240,7 @@ class RandomList:
         self.compared("control", number, self.plain.control(cd, nw))
 
     def reset(self) -> None:
-        result, self.unit.directory = access.reset()
-        self.compared("reset", result.number, self.plain.reset())
+        self.compared("reset", access.reset(self.unit.directory).number, self.plain.reset())
         self.control()
 
 
@@ -265,7 +275,7 @@ class ListWithTestCalls(RandomList):
         before = snapshot(self.unit)
         number = test_write(self.unit, *self.place(), tag, valid, sixteen).number
         after = snapshot(self.unit)
-        check("LRU numbers, CD, NW, RAM and parity", after[2:7], before[2:7])
+        check("LRU numbers, CD, NW, ranges, RAM and parity", after[2:8], before[2:8])
         if number:
             check("a refused test write changes nothing", after, before)
         self.met["planted"] += valid and not number
@@ -303,7 +313,8 @@ class ListWithTestCalls(RandomList):
         if not self.comparison.compared:
             self.met["begun anew"] += 1
             self.met["RAM not the old memory's"] += self.unit.ram != self.plain.bytes_held
-        self.comparison.before_flush_or_reset(self.unit.ram)
+        kept_ranges = kept(self.unit.directory.ranges)
+        self.comparison.before_flush_or_reset(self.unit.ram, kept_ranges)
 
 
 class NeverSuspended(ListWithTestCalls):
@@ -364,13 +375,22 @@ def random_lists() -> None:
 
 def ill_formed_directory(source: random.Random) -> Directory:
     """A directory in which the few sets of a small RAM are often ill-formed."""
-    directory = steps.reset()
+    directory = steps.first()
     directory.cd, directory.nw = source.random() < 0.5, source.random() < 0.5
     for index in range(8):
         directory.tags[index] = source.choice((0, 1, 2, 3, 4, 5, 2097151, 2097152))
         directory.valid[index] = source.random() < 0.5
     directory.lru[:2] = [source.choice((0, 3, 7, 8, 255)) for _ in range(2)]
+    if source.random() < 0.2:
+        count = source.choice((0, 1, RANGES_MOST, RANGES_MOST + 1, NUMBER_LIMIT))
+        directory.ranges = Ranges(count, _some_ranges(source, RANGES_MOST))
     return directory
+
+
+def _some_ranges(source: random.Random, count: int) -> list[Range]:
+    """Mostly one that fits the smallest RAM."""
+    wrong = (Range(0, 0), Range(8, 16), Range(16, 16), Range(NUMBER_LIMIT - 15, 32))
+    return [source.choice((*[Range(0, 16)] * 40, *wrong)) for _ in range(count)]
 
 
 def refused_calls() -> None:
@@ -393,7 +413,7 @@ def refused_calls() -> None:
         if number:
             check(f"untouched after {number}", snapshot(unit), before)
             check("log untouched", log, log_before)
-    expected = {0, 1, 2, 3, 4, 5, 6, 7, 8, 9, 10, 21, 22, 23, 31, 32, 33}
+    expected = {0, 1, 2, 3, 4, 5, 6, 7, 8, 9, 10, 21, 22, 23, 31, 32, 33, 37, 38}
     check("numbers met", set(met), expected)
 
 
@@ -401,9 +421,11 @@ def _any_call(source: random.Random, unit: Unit, log: list[int]) -> int:
     address = source.choice((0, 1, 13, 14, 15, 16, 2046, 2050, 99999))
     width = source.choice((1, 2, 4, 4, 8, 8, 3))
     answers = [source.randrange(8) for _ in range(ANSWERS)] + [0] * (source.random() < 0.1)
-    call = source.randrange(11)
+    call = source.randrange(12)
     if call < 2:
         return read(unit, address, width, answers, False, log).number
+    if call == 11:
+        return set_ranges(unit, *_some_ranges(source, source.randrange(12))).number
     if call > 8:
         cycles = [source.choice((0, 0, 1, 4)) for _ in range(source.randrange(1, 4))]
         place = source.choice((0, 9, 16, 2050))

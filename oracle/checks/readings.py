@@ -47,7 +47,7 @@ def refusal_examples() -> None:
     check("external of 16", external(small, 0, bytes(16)).number, 0)
     check("external of 17", external(unit_of(), 0, bytes(17)).number, 10)
     check("external across lines", external(unit_of(), 15, b"ab").number, 10)
-    check("snoop anywhere", access.snoop(steps.reset(), 4294967295).number, 0)
+    check("snoop anywhere", access.snoop(steps.first(), 4294967295).number, 0)
     check("sum does not wrap", read(small, 4294967295, 4).number, 5)
     check("up to the end", (read(small, 12, 4).number, read(small, 13, 4).number), (0, 5))
     check("width before address", read(small, 99, 0).number, 4)
@@ -61,7 +61,7 @@ def refusal_examples() -> None:
         check(f"value {value}", write(unit_of(), 0, width, value).number, number)
     check("any 32-bit value", write(unit_of(), 0, 4, 4294967295).number, 0)
     _length_and_answer_numbers()
-    directory = steps.reset()
+    directory = steps.first()
     directory.cd, directory.nw = False, True
     check("pair already held", access.control(directory, False, True).number, 9)
 

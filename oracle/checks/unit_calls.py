@@ -14,6 +14,7 @@ from unit486_model.carried import CarriedWrite
 from unit486_model.diagnostics import TestLine
 from unit486_model.directory import Directory, line_index
 from unit486_model.events import Unit
+from unit486_model.ranges import Range
 from unit486_model.refusal import DATA_BYTES
 
 ORACLE = Path(__file__).resolve().parent.parent
@@ -60,7 +61,7 @@ def run_script(main: Callable[[list[str]], int]) -> int:
 def unit_of(ram_bytes: int = RAM_BYTES, cd: bool = False, nw: bool = False) -> Unit:
     """A unit after reset, with CD and NW set directly and parity that agrees."""
     ram = bytearray((7 * address + 3) % 251 for address in range(ram_bytes))
-    directory = steps.reset()
+    directory = steps.first()
     directory.cd, directory.nw = cd, nw
     return Unit(directory, ram, memory.parity_for(ram), bytearray(DATA_BYTES))
 
@@ -125,6 +126,10 @@ def test_read(unit: Unit, set_index: int, way: int) -> TestLine:
     return diagnostics.test_read(unit.directory, unit.data, set_index, way)
 
 
+def set_ranges(unit: Unit, *given: Range) -> Result:
+    return access.set_ranges(unit.directory, unit.ram, given)
+
+
 def store_line(unit: Unit, set_index: int, way: int, tag: int) -> None:
     unit.directory.tags[line_index(set_index, way)] = tag
     unit.directory.valid[line_index(set_index, way)] = True
@@ -139,12 +144,13 @@ def snapshot(unit: Unit) -> tuple[Any, ...]:
     directory = unit.directory
     arrays = (list(directory.tags), list(directory.valid), list(directory.lru))
     buffers = (bytes(unit.ram), bytes(unit.parity), bytes(unit.data))
-    return (*arrays, directory.cd, directory.nw, *buffers)
+    ranges = (directory.ranges.count, *directory.ranges.places)
+    return (*arrays, directory.cd, directory.nw, ranges, *buffers)
 
 
 def number_with_ram(length: int) -> int:
     """The number of a read where RAM has this length, all else being right."""
-    unit = Unit(steps.reset(), bytearray(length), bytearray(length // 4), bytearray(DATA_BYTES))
+    unit = Unit(steps.first(), bytearray(length), bytearray(length // 4), bytearray(DATA_BYTES))
     return read(unit, 0, 4).number
 
 

@@ -59,7 +59,7 @@ def lru_table() -> None:
 def lowest_invalid_way() -> None:
     for lru in range(8):
         for mask in range(15):
-            directory = steps.reset()
+            directory = steps.first()
             directory.lru[0] = lru
             directory.valid[:WAYS] = [bool(mask >> way & 1) for way in range(WAYS)]
             lowest = next(way for way in range(WAYS) if not mask >> way & 1)
@@ -82,7 +82,7 @@ def modes() -> None:
         check("read miss", read(unit, 0, 4).cycles, 4 if fills else 1)
         check("held after a miss", held(unit, 0) is not None, fills)
         _mode_of_a_held_line(bool(cd), bool(nw), through, drops)
-        directory = steps.reset()
+        directory = steps.first()
         check("control", access.control(directory, bool(cd), bool(nw)).number, number)
         pair = (True, True) if number else (bool(cd), bool(nw))
         check("control's pair", (directory.cd, directory.nw), pair)
@@ -339,7 +339,7 @@ def program_start() -> None:
     check("RAM", bytes(unit.ram), bytes(65_536))
     check("parity", bytes(unit.parity), bytes(16_384))
     check("data array", bytes(unit.data), bytes(8192))
-    check("directory", unit.directory, steps.reset())
+    check("directory", unit.directory, steps.first())
     check("header", events.HEADER, b"event\tanswer\tvalue\tcycles\n")
     check("empty input", events.run_program(b""), events.HEADER)
     check("number 12", events.run_program(bytes(65_537)), events.HEADER + b"0\t12\t0\t0\n")

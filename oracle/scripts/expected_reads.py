@@ -6,7 +6,7 @@ tables give it, and in between the lines that a snoop ends. Nothing of the model
 but the form of a write and of a record, and parity that agrees.
 """
 
-from collections.abc import Sequence
+from collections.abc import Collection, Sequence
 from typing import NamedTuple
 
 from unit486_model.access import Result
@@ -51,12 +51,16 @@ class Ends(NamedTuple):
 Course = Sequence[Hit | Plain | Fill | Ends]
 
 
-def ram_at(ram: bytes, carried: Sequence[CarriedWrite], cycle: int) -> bytes:
-    """RAM in a cycle: the writes numbered up to it have landed, in list order."""
+def ram_at(
+    ram: bytes, carried: Sequence[CarriedWrite], cycle: int, rom: Collection[int] = ()
+) -> bytes:
+    """RAM in a cycle: the writes numbered up to it have landed, in list order. The bytes whose
+    addresses are in `rom` ignore them."""
     seen = bytearray(ram)
     for write in carried:
         if write.cycle <= cycle:
-            seen[write.address : write.address + len(write.written)] = write.written
+            for address, byte in enumerate(write.written, write.address):
+                seen[address] = seen[address] if address in rom else byte
     return bytes(seen)
 
 
@@ -64,12 +68,18 @@ class ExpectedRead:
     """A read from the unit as it stands, followed along its course."""
 
     def __init__(
-        self, script: Script, address: int, width: int, carried: Sequence[CarriedWrite]
+        self,
+        script: Script,
+        address: int,
+        width: int,
+        carried: Sequence[CarriedWrite],
+        rom: Collection[int] = (),
     ) -> None:
         before = snapshot(script.unit)
         self.tags, self.valid, self.lru, *self.modes, self.ram, self.parity, data = before
         self.data = bytearray(data)
         self.carried = carried
+        self.rom = rom
         self.wanted = range(address, address + width)
         self.doubleword = address - address % 4
         self.records: list[Record] = []
@@ -106,7 +116,7 @@ class ExpectedRead:
         """Each cycle is of RAM as it is then, and each wanted byte what came in for it."""
         came: dict[int, int] = {}
         for address, flags in part.records:
-            ram = ram_at(self.ram, self.carried, len(self.records))
+            ram = ram_at(self.ram, self.carried, len(self.records), self.rom)
             moved = {lane: ram[address + lane] for lane in range(4) if flags >> lane & 1}
             word = sum(byte << 8 * lane for lane, byte in moved.items())
             self.records.append(Record(address, flags, word))
@@ -122,7 +132,7 @@ class ExpectedRead:
         self._use(way)
 
     def leaves(self, parity: bytes) -> tuple[object, ...]:
-        ram = ram_at(self.ram, self.carried, NUMBER_LIMIT)
+        ram = ram_at(self.ram, self.carried, NUMBER_LIMIT, self.rom)
         directory = (self.tags, self.valid, self.lru, *self.modes)
         return (*directory, ram, parity or bytes(parity_for(bytearray(ram))), bytes(self.data))
 
@@ -136,9 +146,10 @@ def carries(
     answers: Sequence[int] = (KEN,) * ANSWERS,
     pcd: bool = False,
     parity: bytes = b"",
+    rom: Collection[int] = (),
 ) -> None:
     """A carrying read that takes this course; RAM's parity then agrees if no other is given."""
-    expected = ExpectedRead(script, address, width, carried)
+    expected = ExpectedRead(script, address, width, carried, rom)
     expected.follow(course)
     result = script.read_carrying(address, width, carried, answers, pcd)
     _took(f"{width} at {address:x} with {carried}", script, result, expected, parity)

@@ -10,6 +10,7 @@ of a parity byte. A mark, pcd, cd and nw are 0 or 1.
     L set number
     M cd nw
     P index mask                      the parity byte, exclusive-or the mask
+    G count word ..                   the directory's ranges: their count and their sixteen words
     R address width pcd answers       calls; answers are digits, one for each answer
     W address width value answers
     Q address width pcd answers count then for each write: cycle address length byte ..
@@ -23,7 +24,12 @@ of a parity byte. A mark, pcd, cd and nw are 0 or 1.
     V address                         a line view, with its companion question
     p set way tag mark byte ..        a test write with its sixteen bytes
     t set way                         a test read
+    O word ..                         the ranges set anew: start and length of each in turn
+    g                                 the directory's ranges
     B address width                   the board's answers
+
+G stores the words that it has not as 0, so that a script can have a count above eight and ranges
+that no call sets. The words of O may end with a start alone.
 
 Q is a read that carries `count` writes. Its line has the first four of them, if there are as many,
 and the first sixteen bytes of each: a larger count or length is 33's, whatever comes after.
@@ -33,7 +39,8 @@ count, three words for each record, and the digests of directory, RAM, parity ar
 and log. A view's are its number, the length of the part that it shows, the part's bytes as hex
 pairs in one field, and the digests. A test read's are its number, tag, valid mark and LRU number,
 the sixteen bytes as hex pairs in one field, and the digests. A new unit's are the digests, those
-of B the answers as a run of digits. The other lines print nothing.
+of B the answers as a run of digits, that of g a digest of the ranges' count and sixteen words. The
+other lines print nothing.
 """
 
 import struct
@@ -47,6 +54,7 @@ from unit486_model.bus import RECORD_WORDS
 from unit486_model.carried import CARRIED_MOST, CarriedWrite
 from unit486_model.directory import LINE_BYTES, Directory
 from unit486_model.events import Unit
+from unit486_model.ranges import RANGES_MOST, Ranges, ranges_of
 
 # The log's words before a call, so that words which the call leaves alone show.
 LOG_PATTERN = 0xC0DE0000
@@ -57,6 +65,7 @@ PARITY_ROOM = 65_536
 DATA_ROOM = 65_536
 LOG_ROOM = 192
 FIELD_ROOM = 64
+WORD_ROOM = 32
 
 # The fields that are 0 or 1, by their place after the letter.
 ZERO_OR_ONE = {"K": (1,), "M": (0, 1), "R": (2,), "Q": (2,), "r": (2,), "C": (0, 1), "p": (3,)}
@@ -88,6 +97,19 @@ def directory_bytes(directory: Directory) -> bytes:
     tags = struct.pack(f"<{len(directory.tags)}I", *directory.tags)
     control_bits = bytes((directory.cd, directory.nw))
     return tags + bytes(directory.valid) + bytes(directory.lru) + control_bits
+
+
+def ranges_bytes(ranges: Ranges) -> bytes:
+    """The count and the words of all eight places, as four bytes each."""
+    bounds = [word for one in ranges.places for word in one]
+    return struct.pack(f"<{1 + len(bounds)}I", ranges.count, *bounds)
+
+
+def stored_ranges(fields: list[int]) -> Ranges:
+    """The ranges of a G line."""
+    count, *words = fields
+    assert len(words) <= 2 * RANGES_MOST, fields
+    return Ranges(count, ranges_of(words + [0] * (2 * RANGES_MOST - len(words))))
 
 
 def marks_are_0_or_1(line: str) -> bool:
@@ -136,6 +158,12 @@ class ScriptUnit:
         if letter in "TKLMP":
             self._store(letter, *(int(field) for field in fields))
             return None, ""
+        if letter == "G":
+            self.unit.directory.ranges = stored_ranges([int(field) for field in fields])
+            return None, ""
+        if letter == "g":
+            seen = ranges_bytes(self.unit.directory.ranges)
+            return None, _row(letter, f"{zlib.adler32(seen):08x}")
         self.log = fresh_log(len(self.log))
         if letter == "V":
             return self._view(int(fields[0]))
@@ -174,13 +202,14 @@ class ScriptUnit:
             return access.flush(self.unit.directory)
         if letter == "C":
             return access.control(self.unit.directory, numbers[0] == 1, numbers[1] == 1)
+        if letter == "O":
+            return access.set_ranges(self.unit.directory, self.unit.ram, ranges_of(numbers))
         if letter == "p":
             set_index, way, tag, mark, *sixteen = numbers
             lent = (self.unit.directory, self.unit.data)
             return diagnostics.test_write(*lent, set_index, way, tag, mark == 1, bytes(sixteen))
         assert letter == "Z", letter
-        result, self.unit.directory = access.reset()
-        return result
+        return access.reset(self.unit.directory)
 
     def _view(self, address: int) -> tuple[Result, str]:
         """A view and its companion question, asked on the same inputs."""
@@ -225,7 +254,7 @@ def new_script_unit(line: str) -> tuple[ScriptUnit, str]:
     ram_length, parity_length, data_length, log_length, *seeds = (int(field) for field in fields)
     ram = contents(seeds[0], ram_length)
     parity = agreeing_parity(ram, parity_length)
-    unit = Unit(steps.reset(), ram, parity, contents(seeds[1], data_length))
+    unit = Unit(steps.first(), ram, parity, contents(seeds[1], data_length))
     script_unit = ScriptUnit(unit, fresh_log(log_length))
     return script_unit, _row(letter, *script_unit.digests())
 

@@ -11,6 +11,7 @@ from unit486_model.diagnostics import TestLine
 from unit486_model.directory import LINE_BYTES, Directory, line_index
 from unit486_model.events import NUMBER_LIMIT, Unit
 from unit486_model.memory import parity_length
+from unit486_model.ranges import Range
 from unit486_model.refusal import DATA_BYTES
 
 from checks.unit_calls import ALL_KEN, valid_and_tags
@@ -23,6 +24,7 @@ from .script_unit import (
     LOG_ROOM,
     PARITY_ROOM,
     RAM_ROOM,
+    WORD_ROOM,
     ScriptUnit,
     new_script_unit,
 )
@@ -117,6 +119,12 @@ class Script:
         """Turn bits of a parity byte over: wrong DP bits, or ones in its upper four."""
         self.store("P", index, mask)
 
+    def store_ranges(self, count: int, *words: int) -> None:
+        """The directory's count of ranges and their words, which no call tests here."""
+        line = _fields("G", count, *words)
+        self.script_unit.run_line(line)
+        self.lines.append(line)
+
     # --- calls
 
     def read(
@@ -202,9 +210,24 @@ class Script:
         _, number, tag, mark, lru, sixteen, *_ = self.rows[-1].split("\t")
         return TestLine(int(number), int(tag), mark == "1", int(lru), bytes.fromhex(sixteen))
 
+    def set_ranges(self, *given: Range) -> Result:
+        return self.set_words(*(word for one in given for word in one))
+
+    def set_words(self, *words: int) -> Result:
+        """The call that sets ranges, lent these words."""
+        assert len(words) <= WORD_ROOM
+        return self._call(_fields("O", *words))
+
+    def ranges(self) -> str:
+        """Ask for the directory's ranges; the digest that is printed."""
+        return self._ask("g")
+
     def board(self, address: int, width: int) -> str:
         """Ask for the board's answers; the field that is printed."""
-        line = _fields("B", address, width)
+        return self._ask(_fields("B", address, width))
+
+    def _ask(self, line: str) -> str:
+        """A line that is no call: the one field of its row."""
         _, row = self.script_unit.run_line(line)
         self.lines.append(line)
         self.rows.append(row)

@@ -1,4 +1,5 @@
-"""The calls: reads, writes, external writes, snoops, flushes, control, reset, line views.
+"""The calls: reads, writes, external writes, snoops, flushes, control, reset, line views, and the
+setting of read-only ranges.
 
 A call takes just the things it receives and changes those of them that it changes in
 place. It looks for numbers before it changes anything, so that with a number "nothing lent
@@ -8,12 +9,13 @@ changes; the directory comes back as given".
 from collections.abc import Sequence
 from typing import NamedTuple
 
-from . import bus, memory, refusal
+from . import bus, memory, ranges, refusal
 from . import directory as steps
 from .bus import Cycle, Doubleword, Record
 from .carried import CarriedWrite, Reading, land
 from .directory import LINE_BYTES, Directory
 from .memory import DOUBLEWORD_BYTES
+from .ranges import Range
 
 WORD_BITS = 8 * DOUBLEWORD_BYTES
 WORD_MASK = (1 << WORD_BITS) - 1
@@ -73,6 +75,7 @@ def read_carrying(
         or refusal.data_number(len(data))
         or refusal.argument_number(len(ram), address, width, answers, len(log))
         or refusal.carried_number(len(ram), carried)
+        or refusal.kept_ranges_number(len(ram), directory.ranges)
         or refusal.states_number(directory, _sets_of(address, width, carried))
     )
     if number:
@@ -175,6 +178,7 @@ def write(
         or refusal.parity_number(len(ram), len(parity))
         or refusal.data_number(len(data))
         or refusal.argument_number(len(ram), address, width, answers, len(log), value)
+        or refusal.kept_ranges_number(len(ram), directory.ranges)
         or refusal.states_number(directory, steps.sets_of(address, width))
     )
     if number:
@@ -198,7 +202,7 @@ def _write_doubleword(
     group: Sequence[int],
 ) -> list[Record]:
     """Rule: "to RAM and the moved lanes' parity; on a hit also to the data array. A miss never
-    fills"."""
+    fills". C-17: "a write hit still alters the held line" where RAM is read-only."""
     way = steps.lookup(directory, doubleword.address)
     if way is not None:
         steps.use(directory, steps.set_of(doubleword.address), way)
@@ -210,7 +214,7 @@ def _write_doubleword(
     cycles = bus.plain_cycles(doubleword, group)
     records = []
     for index, cycle in enumerate(cycles):
-        memory.store_lanes(ram, parity, cycle.address, cycle.lanes, word)
+        memory.store_lanes(ram, parity, directory.ranges, cycle.address, cycle.lanes, word)
         flags = bus.flags(cycles, index, bus.WRITE)
         records.append(Record(cycle.address, flags, word & memory.LANE_BITS[cycle.lanes]))
     return records
@@ -231,6 +235,7 @@ def external_write(
         refusal.ram_number(len(ram))
         or refusal.parity_number(len(ram), len(parity))
         or refusal.external_number(len(ram), address, len(written))
+        or refusal.kept_ranges_number(len(ram), directory.ranges)
         or refusal.states_number(directory, steps.sets_of(address, len(written)))
     )
     if number:
@@ -261,10 +266,18 @@ def control(directory: Directory, cd: bool, nw: bool) -> Result:
     return Result(number)
 
 
-def reset() -> tuple[Result, Directory]:
-    """A reset receives nothing, so the new directory is handed back; "The data array is
-    untouched"."""
-    return Result(0), steps.reset()
+def reset(directory: Directory) -> Result:
+    """A reset, which is never refused; "The data array is untouched"."""
+    steps.reset(directory)
+    return Result(0)
+
+
+def set_ranges(directory: Directory, ram: bytearray, given: Sequence[Range]) -> Result:
+    """Rule (C-17): "One call sets them all anew". Of RAM it needs the length only."""
+    number = refusal.ram_number(len(ram)) or refusal.ranges_number(len(ram), given)
+    if not number:
+        ranges.set_anew(directory.ranges, given)
+    return Result(number)
 
 
 def view_number(directory: Directory, ram: bytearray, data: bytearray, address: int) -> int:
@@ -273,6 +286,7 @@ def view_number(directory: Directory, ram: bytearray, data: bytearray, address: 
         refusal.ram_number(len(ram))
         or refusal.data_number(len(data))
         or refusal.view_address_number(len(ram), address)
+        or refusal.kept_ranges_number(len(ram), directory.ranges)
         or refusal.states_number(directory, [steps.set_of(address)])
     )
 

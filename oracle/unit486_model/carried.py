@@ -28,8 +28,8 @@ def land(
     directory: Directory, ram: bytearray, parity: bytearray, address: int, written: bytes
 ) -> None:
     """Document 01: "An external write puts 1 to 16 bytes of one line into RAM, sets their parity,
-    then snoops"."""
-    memory.store_bytes(ram, parity, address, written)
+    then snoops". C-17: where RAM and parity ignore it "cycles and snoops go on"."""
+    memory.store_bytes(ram, parity, directory.ranges, address, written)
     steps.invalidate(directory, address)
 
 

@@ -1,10 +1,12 @@
-"""The directory: tags, valid marks and LRU numbers, with CD and NW.
+"""The directory: tags, valid marks and LRU numbers, with CD and NW, and the read-only ranges.
 
 The steps here change the directory they are given and check nothing; the calls that
 answer with numbers stand in `access`.
 """
 
-from dataclasses import dataclass
+from dataclasses import dataclass, field
+
+from .ranges import Ranges
 
 WAYS = 4
 SETS = 128
@@ -19,6 +21,7 @@ LRU_LIMIT = 7
 @dataclass
 class Directory:
     """Rule: "The directory holds 512 tags, 512 valid marks and 128 LRU numbers, with CD and NW."
+    C-17: "the directory keeps" the read-only ranges, "none at first".
 
     Tags and valid marks stand at set x 4 + way, as the lines stand in the data array.
     """
@@ -28,6 +31,7 @@ class Directory:
     lru: list[int]
     cd: bool
     nw: bool
+    ranges: Ranges = field(default_factory=Ranges)
 
 
 def tag_of(address: int) -> int:
@@ -118,10 +122,18 @@ def fill(directory: Directory, address: int) -> int:
     return way
 
 
-def reset() -> Directory:
-    """Rule: "After reset all 512 lines are invalid, tags and LRU numbers are 0, and CD = NW
-    = 1"."""
+def first() -> Directory:
+    """The directory of the first reset, which has no ranges."""
     return Directory([0] * LINES, [False] * LINES, [0] * SETS, True, True)
+
+
+def reset(directory: Directory) -> None:
+    """Rule: "After reset all 512 lines are invalid, tags and LRU numbers are 0, and CD = NW
+    = 1". C-17, of the ranges: "A later reset keeps them"."""
+    directory.tags[:] = [0] * LINES
+    directory.valid[:] = [False] * LINES
+    directory.lru[:] = [0] * SETS
+    directory.cd = directory.nw = True
 
 
 def control(directory: Directory, cd: bool, nw: bool) -> None:

@@ -104,8 +104,7 @@ class Unit:
             return access.flush(self.directory)
         if letter == "C":
             return access.control(self.directory, *values)
-        result, self.directory = access.reset()
-        return result
+        return access.reset(self.directory)
 
     def _read(self, table: Sequence[int], address: int, width: int, pcd: bool) -> Result:
         answers, log = board.answers(table, address, width), [0] * LOG_WORDS
@@ -121,7 +120,7 @@ class Unit:
 def program_unit() -> Unit:
     """Rule: "65,536 zero RAM bytes, zero parity, a zero data array, a reset directory"."""
     ram, parity = bytearray(RAM_BYTES), bytearray(parity_length(RAM_BYTES))
-    return Unit(steps.reset(), ram, parity, bytearray(DATA_BYTES))
+    return Unit(steps.first(), ram, parity, bytearray(DATA_BYTES))
 
 
 def lines_of(text: bytes) -> list[bytes]:

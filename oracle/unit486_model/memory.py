@@ -1,5 +1,7 @@
 """Memory and parity: RAM, its parity array, and the even parity between them."""
 
+from .ranges import Ranges, read_only
+
 RAM_LEAST = 16
 RAM_MOST = 16_777_216
 RAM_STEP = 16
@@ -39,28 +41,37 @@ def parity_for(ram: bytearray) -> bytearray:
     return parity
 
 
-def store_byte(ram: bytearray, parity: bytearray, address: int, byte: int) -> None:
+def store_byte(
+    ram: bytearray, parity: bytearray, ranges: Ranges, address: int, byte: int
+) -> None:
     """Put one byte into RAM with its DP bit; the other lanes' DP bits stay as they are.
 
     "bits 0 to 3 are DP0 to DP3, the upper four are ignored and become 0 when that byte is
-    written."
+    written." C-17: "RAM and parity there ignore CPU writes and external writes", so that a parity
+    byte there stays whole.
     """
+    if read_only(ranges, address):
+        return
     index, lane = divmod(address, DOUBLEWORD_BYTES)
     ram[address] = byte
     parity[index] = parity[index] & DP_BITS & ~(1 << lane) | dp_bit(byte) << lane
 
 
-def store_bytes(ram: bytearray, parity: bytearray, address: int, written: bytes) -> None:
+def store_bytes(
+    ram: bytearray, parity: bytearray, ranges: Ranges, address: int, written: bytes
+) -> None:
     """Put bytes into RAM from the address on and set their parity."""
     for offset, byte in enumerate(written):
-        store_byte(ram, parity, address + offset, byte)
+        store_byte(ram, parity, ranges, address + offset, byte)
 
 
-def store_lanes(ram: bytearray, parity: bytearray, doubleword: int, lanes: int, word: int) -> None:
+def store_lanes(
+    ram: bytearray, parity: bytearray, ranges: Ranges, doubleword: int, lanes: int, word: int
+) -> None:
     """Rule: "Write: to RAM and the moved lanes' parity"."""
     for lane in range(DOUBLEWORD_BYTES):
         if lanes >> lane & 1:
-            store_byte(ram, parity, doubleword + lane, word >> 8 * lane & 255)
+            store_byte(ram, parity, ranges, doubleword + lane, word >> 8 * lane & 255)
 
 
 def read_lanes(source: bytearray, doubleword: int, lanes: int) -> int:

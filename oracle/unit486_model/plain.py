@@ -3,24 +3,43 @@
 "It is fed the calls' arguments except directory, RAM, parity and data array." Of the log it
 needs the length only. "a call meeting 4 to 10 does nothing and answers that number. Any
 other call answers 0." Test calls are not fed to it: "the results of test calls are not compared"
-(C-11). "For the plain memory 33 counts as 4 to 10 do" (C-12).
+(C-11). "For the plain memory 33 counts as 4 to 10 do ... so does every input number that a later
+request gives to a compared call" (C-12): 37 and 38 of a call that sets ranges. Other calls of a
+compared list never meet them, the ranges having been tested by the same length.
 """
 
 from collections.abc import Sequence
-from dataclasses import dataclass
+from dataclasses import dataclass, field
 
 from . import bus, memory, refusal
 from .bus import Doubleword, Record
 from .carried import CarriedWrite
 from .directory import LINE_BYTES, line_address
 from .memory import DOUBLEWORD_BYTES
+from .ranges import Range
 
 
 @dataclass
 class PlainMemory:
-    """Rule: "The plain memory is a list of bytes, at first RAM's"."""
+    """Rule: "The plain memory is a list of bytes, at first RAM's"; of C-17's read-only ranges it
+    has none at first."""
 
     bytes_held: bytearray
+    ranges: list[Range] = field(default_factory=list)
+
+    def set_ranges(self, given: Sequence[Range]) -> int:
+        """Rule (C-17): "One call sets them all anew"."""
+        number = refusal.ranges_number(len(self.bytes_held), given)
+        if not number:
+            self.ranges = list(given)
+        return number
+
+    def replace(self, address: int, written: bytes) -> None:
+        """Rule (C-17): "The plain memory ignores them too": what its ranges hold stays."""
+        held = [(start, self.bytes_held[start : start + size]) for start, size in self.ranges]
+        self.bytes_held[address : address + len(written)] = written
+        for start, old in held:
+            self.bytes_held[start : start + len(old)] = old
 
     def read(
         self, address: int, width: int, pcd: bool, answers: Sequence[int], log: int
@@ -82,14 +101,14 @@ class PlainMemory:
         """Rule: "A write ... replaces its bytes"."""
         number = refusal.argument_number(len(self.bytes_held), address, width, answers, log, value)
         if not number:
-            self.bytes_held[address : address + width] = value.to_bytes(width, "little")
+            self.replace(address, value.to_bytes(width, "little"))
         return number
 
     def external_write(self, address: int, written: bytes) -> int:
         """Rule: "A write or external write replaces its bytes"."""
         number = refusal.external_number(len(self.bytes_held), address, len(written))
         if not number:
-            self.bytes_held[address : address + len(written)] = written
+            self.replace(address, written)
         return number
 
     def view(self, address: int) -> tuple[int, bytes]:
@@ -144,9 +163,23 @@ class Comparison:
         if number == 0:
             self.compared = False
 
-    def before_flush_or_reset(self, ram: bytearray) -> None:
+    def before_flush_or_reset(self, ram: bytearray, ranges: Sequence[Range] = ()) -> None:
         """Rule (C-11): "From the next flush or reset on it matches a plain memory begun anew from
-        RAM as it then is, up to another test write". That flush or reset is compared."""
+        RAM as it then is, up to another test write". That flush or reset is compared. The ranges
+        are the directory's as they then are, since neither a flush nor a reset changes them."""
         if not self.compared:
-            self.plain = PlainMemory(bytearray(ram))
+            self.plain = PlainMemory(bytearray(ram), list(ranges))
             self.compared = True
+
+
+def without_ken(
+    ranges: Sequence[Range], address: int, width: int, answers: Sequence[int]
+) -> list[int]:
+    """The answers with C-17's premise met: "agreement now needs KEN# inactive throughout these
+    ranges". The first answer of each group whose doubleword lies in a range is enough: without
+    KEN# there nothing is filled. The answers are those of an accepted read."""
+    met = list(answers)
+    for index, doubleword in enumerate(bus.doublewords(address, width)):
+        if any(start <= doubleword.address < start + size for start, size in ranges):
+            met[bus.GROUP * index] &= ~bus.KEN
+    return met

@@ -10,6 +10,7 @@ from .bus import ANSWER_LIMIT, ANSWERS, LOG_WORDS, WIDTHS
 from .carried import CARRIED_MOST, CarriedWrite
 from .directory import LINE_BYTES, LINES, SETS, TAG_LIMIT, WAYS, Directory, state_number
 from .memory import RAM_LEAST, RAM_MOST, RAM_STEP, parity_length
+from .ranges import RANGES_MOST, Range, Ranges, kept
 
 DATA_BYTES = LINES * LINE_BYTES
 
@@ -79,6 +80,28 @@ def carried_number(ram: int, carried: Sequence[CarriedWrite]) -> int:
         return 33
     refused = (external_number(ram, write.address, len(write.written)) for write in carried)
     return 33 if any(refused) else 0
+
+
+def range_number(ram: int, given: Range) -> int:
+    """Rule (C-17): "37 where a range is empty, not whole lines or beyond RAM"; the sum does not
+    wrap."""
+    start, length = given
+    if length == 0 or start % LINE_BYTES or length % LINE_BYTES:
+        return 37
+    return 37 if start + length > ram else 0
+
+
+def ranges_number(ram: int, given: Sequence[Range]) -> int:
+    """Rule (C-17): "38 for more than eight, after 37": after 37 of all that are given."""
+    if any(range_number(ram, one) for one in given):
+        return 37
+    return 38 if len(given) > RANGES_MOST else 0
+
+
+def kept_ranges_number(ram: int, ranges: Ranges) -> int:
+    """Rule (C-17): "every other call given directory and RAM tests them by 37 and 38 too", against
+    the RAM that it is given. "37 ... after 10", and so after C-12's 33."""
+    return ranges_number(ram, kept(ranges)) or (38 if ranges.count > RANGES_MOST else 0)
 
 
 def cd_number(cd: bool) -> int:

@@ -8,14 +8,15 @@ use lib.ListN.{length}
 use borrow.Author.Tests.{eq-eqb, ne-eqb}
 use Rattle.laws.proofs.Tests.{cond-true, cond-false}
 use Rattle.directory.specs.declared.steps.Directory.{Directory}
+use Rattle.directory.specs.Steps.{rangesKept}
 use Rattle.words.specs.Bytes.{valueOf}
 use Rattle.memory.specs.Parity.{Memory}
 use Rattle.carried.specs.Carried.{Carried}
 use Rattle.doubleword.specs.declared.cursor.AccessCursor.{AccessCursor}
 use Rattle.bus.specs.Groups.{groupCount}
 use Rattle.bus.specs.Record.{logged}
-use Rattle.doubleword.specs.Doubleword.{doublewordsOf}
-use Rattle.refusal.specs.Refusal.{orElse, statesNumberOf, lentNumber, argumentNumber, valueNumber}
+use Rattle.doubleword.specs.Doubleword.{Doubleword, Done, doublewordsOf}
+use Rattle.refusal.specs.Refusal.{orElse, statesNumberOf, lentNumber, argumentNumber, valueNumber, keptNumber}
 use Rattle.directory.specs.Outcome.{outcome}
 use Rattle.refusal.specs.Call.{State, state, after, refused}
 use Rattle.access.specs.Access.{Progress, progress, allOf, writeOne, accepted, readNumber, writeNumber, readAll, writeAll, operandOf, readCall, writeCall}
@@ -74,6 +75,10 @@ module _ (d : Directory) (m : Memory) (array : List ℕ) (address width : ℕ) (
   abbrev argument : ℕ
   argument = argumentNumber (length (m .ram)) address width answers (length log)
 
+  -- of the ranges that the directory keeps, then of the touched sets
+  abbrev states : ℕ
+  states = orElse (keptNumber (length (m .ram)) (d .ranges)) (statesNumberOf d address width)
+
   -- what the loops start with, whatever number is asked for later
   pub needs-begin : (later : ℕ) → orElse lent (orElse argument later) ≡ 0 →
       AccessNeeds (accessBegin address width) (length (m .ram)) (length (m .parity)) (length array) (length answers) (length log)
@@ -97,13 +102,13 @@ module _ (d : Directory) (m : Memory) (array : List ℕ) (address width : ℕ) (
 
   module _ (pcd : Bool) where
     abbrev readsNumber : ℕ
-    readsNumber = orElse lent (orElse argument (statesNumberOf d address width))
+    readsNumber = orElse lent (orElse argument states)
 
     pub read-begin : readsNumber ≡ 0 → ReadKept pcd answers (allOf (oneAlone pcd) s (restOf (accessBegin address width) answers)) log array m (accessBegin address width) d array log 0
     read-begin z =
         record {
           reading = reading-begin (allOf (oneAlone pcd) s (restOf (accessBegin address width) answers)) log;
-          needs = needs-begin (statesNumberOf d address width) z;
+          needs = needs-begin states z;
           arrays = refl;
           logs = refl;
         }
@@ -121,18 +126,21 @@ module _ (d : Directory) (m : Memory) (array : List ℕ) (address width : ℕ) (
         let p = allOf (oneAlone pcd) s (doublewordsOf groupCount answers address width 0) in
         let n = all-done (oneAlone pcd) answers cursor (state d′ m array′) e in
         whole (g .invariant) d′ m array′ n value (valueOf (p .bytes)) (reading-end g (state d′ m array′) n)
-        ∙ ap (λ (q : Progress). accepted (valueOf (q .bytes)) q log) (sym (each-alone pcd s 0 (doublewordsOf groupCount answers address width 0)))
+        ∙ ap (λ (q : Progress). accepted (valueOf (q .bytes)) q log) (sym (each-alone pcd (rangesKept d) s 0 (doublewordsOf groupCount answers address width 0)))
         ∙ sym (read-done s address width pcd answers log [] (number-alone s address width answers log ∙ z))
 
   module _ (value : ℕ) where
-    abbrev writesNumber : ℕ
-    writesNumber = orElse lent (orElse argument (orElse (valueNumber width value) (statesNumberOf d address width)))
+    abbrev one : State → Doubleword → Done
+    one = writeOne (rangesKept d) (operandOf value)
 
-    pub write-begin : writesNumber ≡ 0 → WriteKept (operandOf value) answers (allOf (writeOne (operandOf value)) s (restOf (accessBegin address width) answers)) log array m (accessBegin address width) d m array log
+    abbrev writesNumber : ℕ
+    writesNumber = orElse lent (orElse argument (orElse (valueNumber width value) states))
+
+    pub write-begin : writesNumber ≡ 0 → WriteKept (rangesKept d) (operandOf value) answers (allOf one s (restOf (accessBegin address width) answers)) log array m (accessBegin address width) d m array log
     write-begin z =
         record {
-          writing = access-invariant-begin (allOf (writeOne (operandOf value)) s (restOf (accessBegin address width) answers)) log;
-          needs = needs-begin (orElse (valueNumber width value) (statesNumberOf d address width)) z;
+          writing = access-invariant-begin (allOf one s (restOf (accessBegin address width) answers)) log;
+          needs = needs-begin (orElse (valueNumber width value) states) z;
           rams = refl;
           parities = refl;
           arrays = refl;
@@ -144,9 +152,9 @@ module _ (d : Directory) (m : Memory) (array : List ℕ) (address width : ℕ) (
     write-turned k e h = sym (rw (← e) at (write-refused s address width value answers log (λ z. h (e ∙ z))))
 
     pub write-made : writesNumber ≡ 0 → (cursor : AccessCursor) (d′ : Directory) (m′ : Memory) (array′ log′ : List ℕ) → cursor .left ≡ 0 →
-        AccessInvariant (allOf (writeOne (operandOf value)) (state d′ m′ array′) (restOf cursor answers)) (allOf (writeOne (operandOf value)) s (restOf (accessBegin address width) answers)) log (cursor .cycles) log′ →
+        AccessInvariant (allOf one (state d′ m′ array′) (restOf cursor answers)) (allOf one s (restOf (accessBegin address width) answers)) log (cursor .cycles) log′ →
         after (outcome d′ 0 0 (cursor .cycles)) m′ array′ log′ ≡ writeCall s address width value answers log
     unfolding writeCall writeNumber writeAll restOf
     write-made z cursor d′ m′ array′ log′ e g =
-        whole g d′ m′ array′ (all-done (writeOne (operandOf value)) answers cursor (state d′ m′ array′) e) 0 0 refl
+        whole g d′ m′ array′ (all-done one answers cursor (state d′ m′ array′) e) 0 0 refl
         ∙ sym (cond-true _ _ _ (eq-eqb _ 0 z))

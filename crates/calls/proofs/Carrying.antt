@@ -6,15 +6,16 @@ use mathlib.Core.List.{List, [], _∷_}
 use native.Mathlib.Omega.{arith}
 use lib.Dec.{eqb, ltb}
 use lib.ListN.{length}
-use lib.Seq.{sets, length-sets}
 use borrow.Author.Tests.{eqb-true, ltb-true, ltb-false, lt-ltb, le-ltb, not-true, not-false}
 use Rattle.laws.proofs.Tests.{both, neither, by-test}
-use Rattle.memory.specs.Parity.{Memory, stored}
+use Rattle.ranges.specs.Ranges.{Range}
+use Rattle.memory.specs.Parity.{Memory, written}
 use Rattle.carried.specs.Carried.{Carried, due, later, landed}
 use Rattle.refusal.specs.Refusal.{when, externalNumber, inOrder, anyRefused, carriedNumber}
 use Rattle.refusal.proofs.Accepted.{GoodExternal, external-accepted}
-use Rattle.calls.specs.Plain.{heldAfter, heldAtEnd}
-use Rattle.calls.proofs.Memories.{stored-ram}
+use Rattle.calls.specs.Plain.{replaced, heldAfter, heldAtEnd}
+use Rattle.calls.proofs.Memories.{written-ram}
+use Rattle.calls.proofs.Replaced.{replaced-length}
 
 -- each is one that 10 would not refuse
 abbrev pub EachGood : ℕ → List Carried → Type 0
@@ -75,73 +76,74 @@ later-good size n (w ∷ ws) g = by-test (λ b. EachGood size (cond b (later n w
 
 -- THE PLAIN MEMORY
 
--- none has been put in where none is numbered below
-held-none : (m : List ℕ) (n : ℕ) (ws : List Carried) → NoneBelow n ws → heldAfter m ws n ≡ m
-unfolding heldAfter
-held-none m n [] g = refl
-held-none m n (w ∷ ws) g = rw (le-ltb (w .cycle) n (g .0)) (held-none m n ws (g .1))
-
-pub held-first : (m : List ℕ) (ws : List Carried) → heldAfter m ws 0 ≡ m
-held-first m ws = held-none m 0 ws (all ws)
-  where
-    all : (ws : List Carried) → NoneBelow 0 ws
-    all [] = tt
-    all (w ∷ ws) = (omega arith, all ws)
-
--- one that is numbered below, and one that is not, with all that follow it
-module _ (m : List ℕ) (w : Carried) (ws : List Carried) (n : ℕ) where
-  held-next : w .cycle < n → heldAfter m (w ∷ ws) n ≡ heldAfter (sets m (w .address) (w .bytes)) ws n
+module _ (rom : List Range) where
+  -- none has been put in where none is numbered below
+  held-none : (m : List ℕ) (n : ℕ) (ws : List Carried) → NoneBelow n ws → heldAfter rom m ws n ≡ m
   unfolding heldAfter
-  held-next l = rw (lt-ltb (w .cycle) n l)
+  held-none m n [] g = refl
+  held-none m n (w ∷ ws) g = rw (le-ltb (w .cycle) n (g .0)) (held-none m n ws (g .1))
 
-  held-stops : n ≤ w .cycle → Ordered (w ∷ ws) → heldAfter m (w ∷ ws) n ≡ m
-  held-stops l g = held-none m n (w ∷ ws) (l, none-lower n (w .cycle) l ws (g .0))
+  pub held-first : (m : List ℕ) (ws : List Carried) → heldAfter rom m ws 0 ≡ m
+  held-first m ws = held-none m 0 ws (all ws)
+    where
+      all : (ws : List Carried) → NoneBelow 0 ws
+      all [] = tt
+      all (w ∷ ws) = (omega arith, all ws)
 
--- those due are those put in
-held-due : (m : List ℕ) (k : ℕ) (ws : List Carried) → Ordered ws → heldAtEnd m (due k ws) ≡ heldAfter m ws k
-unfolding due heldAtEnd heldAfter
-held-due m k [] g = refl
-held-due m k (w ∷ ws) g =
-    by-test (λ b. ltb (w .cycle) k ≡ b → heldAtEnd m (cond b (w ∷ due k ws) []) ≡ heldAfter m (w ∷ ws) k) (ltb (w .cycle) k)
-    (λ _ e. held-due (sets m (w .address) (w .bytes)) k ws (g .1) ∙ sym (held-next m w ws k (ltb-true _ _ e)))
-    (λ _ e. sym (held-stops m w ws k (ltb-false _ _ e) g))
-    refl
+  -- one that is numbered below, and one that is not, with all that follow it
+  module _ (m : List ℕ) (w : Carried) (ws : List Carried) (n : ℕ) where
+    held-next : w .cycle < n → heldAfter rom m (w ∷ ws) n ≡ heldAfter rom (replaced rom m (w .address) (w .bytes)) ws n
+    unfolding heldAfter
+    held-next l = rw (lt-ltb (w .cycle) n l)
 
--- what has been put in when more cycles are made, and at the end, from those left
-pub held-more : (m : List ℕ) (n k : ℕ) → n ≤ k → (ws : List Carried) → Ordered ws → heldAtEnd (heldAfter m ws n) (due k (later n ws)) ≡ heldAfter m ws k
-unfolding later heldAfter due heldAtEnd
-held-more m n k h [] g = refl
-held-more m n k h (w ∷ ws) g =
-    by-test (λ b. ltb (w .cycle) n ≡ b → heldAtEnd (heldAfter m (w ∷ ws) n) (due k (cond b (later n ws) (w ∷ ws))) ≡ heldAfter m (w ∷ ws) k) (ltb (w .cycle) n)
-    (λ _ e.
-    let l = ltb-true (w .cycle) n e in
-    let x = held-next m w ws n l in
-    let y = held-next m w ws k (omega arith) in
-    ap (λ (z : List ℕ). heldAtEnd z (due k (later n ws))) x ∙ held-more (sets m (w .address) (w .bytes)) n k h ws (g .1) ∙ sym y)
-    (λ _ e. ap (λ (z : List ℕ). heldAtEnd z (due k (w ∷ ws))) (held-stops m w ws n (ltb-false _ _ e) g) ∙ held-due m k (w ∷ ws) g)
-    refl
+    held-stops : n ≤ w .cycle → Ordered (w ∷ ws) → heldAfter rom m (w ∷ ws) n ≡ m
+    held-stops l g = held-none m n (w ∷ ws) (l, none-lower n (w .cycle) l ws (g .0))
 
-pub held-rest : (m : List ℕ) (n : ℕ) (ws : List Carried) → Ordered ws → heldAtEnd (heldAfter m ws n) (later n ws) ≡ heldAtEnd m ws
-unfolding later heldAfter heldAtEnd
-held-rest m n [] g = refl
-held-rest m n (w ∷ ws) g =
-    by-test (λ b. ltb (w .cycle) n ≡ b → heldAtEnd (heldAfter m (w ∷ ws) n) (cond b (later n ws) (w ∷ ws)) ≡ heldAtEnd m (w ∷ ws)) (ltb (w .cycle) n)
-    (λ _ e.
-    ap (λ (z : List ℕ). heldAtEnd z (later n ws)) (held-next m w ws n (ltb-true (w .cycle) n e)) ∙ held-rest (sets m (w .address) (w .bytes)) n ws (g .1))
-    (λ _ e. ap (λ (z : List ℕ). heldAtEnd z (w ∷ ws)) (held-stops m w ws n (ltb-false _ _ e) g))
-    refl
+  -- those due are those put in
+  held-due : (m : List ℕ) (k : ℕ) (ws : List Carried) → Ordered ws → heldAtEnd rom m (due k ws) ≡ heldAfter rom m ws k
+  unfolding due heldAtEnd heldAfter
+  held-due m k [] g = refl
+  held-due m k (w ∷ ws) g =
+      by-test (λ b. ltb (w .cycle) k ≡ b → heldAtEnd rom m (cond b (w ∷ due k ws) []) ≡ heldAfter rom m (w ∷ ws) k) (ltb (w .cycle) k)
+      (λ _ e. held-due (replaced rom m (w .address) (w .bytes)) k ws (g .1) ∙ sym (held-next m w ws k (ltb-true _ _ e)))
+      (λ _ e. sym (held-stops m w ws k (ltb-false _ _ e) g))
+      refl
 
-pub held-length : (m : List ℕ) (ws : List Carried) (n : ℕ) → length (heldAfter m ws n) ≡ length m
-unfolding heldAfter
-held-length m [] n = refl
-held-length m (w ∷ ws) n =
-    by-test (λ b. length (heldAfter (cond b (sets m (w .address) (w .bytes)) m) ws n) ≡ length m) (ltb (w .cycle) n)
-    (λ _. held-length (sets m (w .address) (w .bytes)) ws n ∙ length-sets m (w .address) (w .bytes))
-    (λ _. held-length m ws n)
+  -- what has been put in when more cycles are made, and at the end, from those left
+  pub held-more : (m : List ℕ) (n k : ℕ) → n ≤ k → (ws : List Carried) → Ordered ws → heldAtEnd rom (heldAfter rom m ws n) (due k (later n ws)) ≡ heldAfter rom m ws k
+  unfolding later heldAfter due heldAtEnd
+  held-more m n k h [] g = refl
+  held-more m n k h (w ∷ ws) g =
+      by-test (λ b. ltb (w .cycle) n ≡ b → heldAtEnd rom (heldAfter rom m (w ∷ ws) n) (due k (cond b (later n ws) (w ∷ ws))) ≡ heldAfter rom m (w ∷ ws) k) (ltb (w .cycle) n)
+      (λ _ e.
+      let l = ltb-true (w .cycle) n e in
+      let x = held-next m w ws n l in
+      let y = held-next m w ws k (omega arith) in
+      ap (λ (z : List ℕ). heldAtEnd rom z (due k (later n ws))) x ∙ held-more (replaced rom m (w .address) (w .bytes)) n k h ws (g .1) ∙ sym y)
+      (λ _ e. ap (λ (z : List ℕ). heldAtEnd rom z (due k (w ∷ ws))) (held-stops m w ws n (ltb-false _ _ e) g) ∙ held-due m k (w ∷ ws) g)
+      refl
 
--- RAM with what has landed
-pub landed-ram : (ws : List Carried) (m : Memory) → landed ws m .ram ≡ heldAtEnd (m .ram) ws
-unfolding landed heldAtEnd
-landed-ram [] m = refl
-landed-ram (w ∷ ws) m =
-    landed-ram ws (stored m (w .address) (w .bytes)) ∙ ap (λ (l : List ℕ). heldAtEnd l ws) (stored-ram m (w .address) (w .bytes))
+  pub held-rest : (m : List ℕ) (n : ℕ) (ws : List Carried) → Ordered ws → heldAtEnd rom (heldAfter rom m ws n) (later n ws) ≡ heldAtEnd rom m ws
+  unfolding later heldAfter heldAtEnd
+  held-rest m n [] g = refl
+  held-rest m n (w ∷ ws) g =
+      by-test (λ b. ltb (w .cycle) n ≡ b → heldAtEnd rom (heldAfter rom m (w ∷ ws) n) (cond b (later n ws) (w ∷ ws)) ≡ heldAtEnd rom m (w ∷ ws)) (ltb (w .cycle) n)
+      (λ _ e.
+      ap (λ (z : List ℕ). heldAtEnd rom z (later n ws)) (held-next m w ws n (ltb-true (w .cycle) n e)) ∙ held-rest (replaced rom m (w .address) (w .bytes)) n ws (g .1))
+      (λ _ e. ap (λ (z : List ℕ). heldAtEnd rom z (w ∷ ws)) (held-stops m w ws n (ltb-false _ _ e) g))
+      refl
+
+  pub held-length : (m : List ℕ) (ws : List Carried) (n : ℕ) → length (heldAfter rom m ws n) ≡ length m
+  unfolding heldAfter
+  held-length m [] n = refl
+  held-length m (w ∷ ws) n =
+      by-test (λ b. length (heldAfter rom (cond b (replaced rom m (w .address) (w .bytes)) m) ws n) ≡ length m) (ltb (w .cycle) n)
+      (λ _. held-length (replaced rom m (w .address) (w .bytes)) ws n ∙ replaced-length rom m (w .address) (w .bytes))
+      (λ _. held-length m ws n)
+
+  -- RAM with what has landed
+  pub landed-ram : (ws : List Carried) (m : Memory) → landed rom ws m .ram ≡ heldAtEnd rom (m .ram) ws
+  unfolding landed heldAtEnd
+  landed-ram [] m = refl
+  landed-ram (w ∷ ws) m =
+      landed-ram ws (written rom m (w .address) (w .bytes)) ∙ ap (λ (l : List ℕ). heldAtEnd rom l ws) (written-ram rom m (w .address) (w .bytes))

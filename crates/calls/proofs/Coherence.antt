@@ -1,7 +1,7 @@
 -- The invariant of demand 3: what every list keeps, and on top, beside the plain memory, that every held line lies in memory and has its bytes.
 use Prim.Native.Nat.{ℕ, _+_, _*_, _-_, _/_, _%_, _≤_, _<_}
 use mathlib.Core.Path.{_≡_, sym, _∙_, ap}
-use mathlib.Core.Bool.{true}
+use mathlib.Core.Bool.{true, false}
 use mathlib.Core.List.{List}
 use mathlib.Core.Logic.{_⊎_, ⊎-elim}
 use native.Mathlib.Omega.{arith}
@@ -11,15 +11,18 @@ use lib.Seq.{sets, length-sets}
 use Rattle.laws.proofs.Tests.{same-or}
 use Rattle.directory.specs.declared.steps.Directory.{Directory}
 use Rattle.ways.specs.Address.{setOf, tagOf, lineIndex, dataOffset}
-use Rattle.directory.specs.Steps.{afterFill}
+use Rattle.ranges.specs.Ranges.{Range, rangesOf, readOnly}
+use Rattle.directory.specs.Steps.{rangesKept, afterFill}
 use Rattle.directory.specs.WellFormed.{Held, Same, Sized, Apart}
 use Rattle.directory.proofs.Laws.{fill-held}
 use Rattle.words.specs.Bytes.{bytesAt}
-use Rattle.memory.specs.Parity.{stored}
+use Rattle.memory.specs.Parity.{written}
 use Rattle.refusal.specs.Call.{State, state}
 use Rattle.words.proofs.Places.{sets-below, sets-above, sets-in}
 use Rattle.words.proofs.Spans.{bytes-same}
-use Rattle.calls.proofs.Memories.{stored-ram}
+use Rattle.calls.specs.Plain.{replaced}
+use Rattle.calls.proofs.Memories.{written-ram}
+use Rattle.calls.proofs.Replaced.{by-range}
 use Rattle.calls.proofs.Kept.{Kept, KeptIn}
 
 -- the address of a line, by its set and tag
@@ -36,21 +39,27 @@ pub record Lines (d : Directory) (m array : List ℕ) : Type 0 where
 abbrev pub Empty : Directory → Type 0
 Empty d = (s w tag : ℕ) → s < 128 → w < 4 → Held d s w tag → ⊥
 
--- what agreement needs on top of what every list keeps, beside the plain memory; NW = 1 only while no line is held
-pub record Beside (s : State) (m : List ℕ) : Type 0 where
+-- no line is held that lies in a range
+abbrev pub Outside : List Range → Directory → Type 0
+Outside rom d = (s w tag : ℕ) → s < 128 → w < 4 → Held d s w tag → readOnly rom (addressOf s tag) ≡ false
+
+-- what agreement needs on top of what every list keeps, beside the plain memory and its ranges; NW = 1 only while no line is held
+pub record Beside (rom : List Range) (s : State) (m : List ℕ) : Type 0 where
   pub rams : s .memory .ram ≡ m
   pub apart : Apart (s .directory)
   pub lines : Lines (s .directory) m (s .array)
   pub nw : s .directory .nw ≡ true → Empty (s .directory)
+  pub ranges : rangesKept (s .directory) ≡ rom
+  pub outside : Outside rom (s .directory)
 
 -- the state of the unit beside the plain memory
-pub record Coherent (s : State) (m : List ℕ) : Type 0 where
+pub record Coherent (rom : List Range) (s : State) (m : List ℕ) : Type 0 where
   pub kept : Kept s
-  pub beside : Beside s m
+  pub beside : Beside rom s m
 
 -- its first part, with the plain memory's length
-pub kept-in : (s : State) (m : List ℕ) → Coherent s m → KeptIn (length m) s
-kept-in s m c = record { kept = c .kept; ramLength = ap length (c .beside .rams) }
+pub kept-in : (rom : List Range) (s : State) (m : List ℕ) → Coherent rom s m → KeptIn (length m) s
+kept-in rom s m c = record { kept = c .kept; ramLength = ap length (c .beside .rams) }
 
 -- fewer lines, and none
 pub fewer-lines : (d e : Directory) (m array : List ℕ) → ((s w tag : ℕ) → s < 128 → w < 4 → Held e s w tag → Held d s w tag) → Lines d m array → Lines e m array
@@ -67,30 +76,42 @@ no-lines d m array n =
       same = λ s w tag sl wl h. absurd (n s w tag sl wl h);
     }
 
--- another directory with the same NW, and no line that the first doesn't hold
-pub fewer-beside : (s : State) (m : List ℕ) → Beside s m → (d : Directory) → ((r w tag : ℕ) → r < 128 → w < 4 → Held d r w tag → Held (s .directory) r w tag) →
-    d .nw ≡ s .directory .nw → Apart d → Beside (state d (s .memory) (s .array)) m
-fewer-beside s m b d f k g =
+-- another directory with the same NW and ranges, and no line that the first doesn't hold
+pub fewer-beside : (rom : List Range) (s : State) (m : List ℕ) → Beside rom s m → (d : Directory) → ((r w tag : ℕ) → r < 128 → w < 4 → Held d r w tag → Held (s .directory) r w tag) →
+    d .nw ≡ s .directory .nw → d .ranges ≡ s .directory .ranges → Apart d → Beside rom (state d (s .memory) (s .array)) m
+fewer-beside rom s m b d f k e g =
     record {
       rams = b .rams;
       apart = g;
       lines = fewer-lines (s .directory) d m (s .array) f (b .lines);
       nw = λ h r w tag rl wl q. b .nw (sym k ∙ h) r w tag rl wl (f r w tag rl wl q);
+      ranges = ap rangesOf e ∙ b .ranges;
+      outside = λ r w tag rl wl h. b .outside r w tag rl wl (f r w tag rl wl h);
     }
 
 -- a directory that holds no line, whatever was held before
-pub empty-beside : (s : State) (m : List ℕ) → s .memory .ram ≡ m → Apart (s .directory) → Empty (s .directory) → Beside s m
-empty-beside s m e g n = record { rams = e; apart = g; lines = no-lines (s .directory) m (s .array) n; nw = λ _. n }
-
--- bytes stored in RAM with their parity, and in the plain memory, where the lines have them
-pub beside-stored : (s : State) (m : List ℕ) → Beside s m → (a : ℕ) (x array : List ℕ) → Lines (s .directory) (sets m a x) array →
-    Beside (state (s .directory) (stored (s .memory) a x) array) (sets m a x)
-beside-stored s m b a x array l =
+pub empty-beside : (rom : List Range) (s : State) (m : List ℕ) → s .memory .ram ≡ m → Apart (s .directory) → Empty (s .directory) → rangesKept (s .directory) ≡ rom → Beside rom s m
+empty-beside rom s m e g n q =
     record {
-      rams = stored-ram (s .memory) a x ∙ ap (λ (z : List ℕ). sets z a x) (b .rams);
+      rams = e;
+      apart = g;
+      lines = no-lines (s .directory) m (s .array) n;
+      nw = λ _. n;
+      ranges = q;
+      outside = λ r w tag rl wl h. absurd (n r w tag rl wl h);
+    }
+
+-- bytes written into RAM with their parity, and into the plain memory, where the lines have them
+pub beside-written : (rom : List Range) (s : State) (m : List ℕ) → Beside rom s m → (a : ℕ) (x array : List ℕ) → Lines (s .directory) (replaced rom m a x) array →
+    Beside rom (state (s .directory) (written rom (s .memory) a x) array) (replaced rom m a x)
+beside-written rom s m b a x array l =
+    record {
+      rams = written-ram rom (s .memory) a x ∙ ap (λ (z : List ℕ). replaced rom z a x) (b .rams);
       apart = b .apart;
       lines = l;
       nw = b .nw;
+      ranges = b .ranges;
+      outside = b .outside;
     }
 
 -- a line's address has one set and one tag
@@ -103,7 +124,7 @@ line-tag s tag line l e = omega arith
 pub line-around : (a : ℕ) → addressOf (setOf a) (tagOf a) ≡ a / 16 * 16
 line-around a = let k : a / 2048 ≡ a / 16 / 128 = omega arith in rw k (omega arith)
 
-line-back : (line : ℕ) → line % 16 ≡ 0 → addressOf (setOf line) (tagOf line) ≡ line
+pub line-back : (line : ℕ) → line % 16 ≡ 0 → addressOf (setOf line) (tagOf line) ≡ line
 line-back line h = line-around line ∙ omega arith
 
 -- the bytes of a held line
@@ -148,6 +169,10 @@ module _ (d : Directory) (m array : List ℕ) (l : Lines d m array) (line from :
         inside = λ s w tag sl wl h. rw length-sets (l .inside s w tag sl wl h);
         same = λ s w tag sl wl h o ol. l .same s w tag sl wl h o ol ∙ sym (other-line m line from x (addressOf s tag) o al (omega arith) fx ol (ne s w tag sl wl h));
       }
+
+  -- the same where a range may ignore them
+  pub replaced-miss : (rom : List Range) → ((s w tag : ℕ) → s < 128 → w < 4 → Held d s w tag → addressOf s tag ≡ line → ⊥) → Lines d (replaced rom m (line + from) x) array
+  replaced-miss rom ne = by-range rom (λ (z : List ℕ). Lines d z array) m (line + from) x (let e : (line + from) % 16 ≤ from = omega arith in omega arith) (λ _. l) (λ _. stored-miss ne)
 
   -- bytes put into a held line, in memory and in the data array
   pub stored-hit : Apart d → length array ≡ 8192 → line + 16 ≤ length m → (w : ℕ) → w < 4 → Held d (setOf line) w (tagOf line) →

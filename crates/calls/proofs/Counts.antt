@@ -11,6 +11,7 @@ use Rattle.ways.specs.declared.ways.Found.{Found}
 use Rattle.ways.specs.declared.ways.Found.the-variants.{At, Nothing}
 use Rattle.ways.specs.Address.{byteOf}
 use Rattle.words.proofs.Places.{sets-in}
+use Rattle.ranges.specs.Ranges.{Range}
 use Rattle.memory.specs.Parity.{Memory}
 use Rattle.carried.specs.Carried.{Carried, memoryAt}
 use Rattle.bus.specs.Bus.{Run, run, Cycle, cyclesOf, wantedAfter, ken}
@@ -36,28 +37,28 @@ records-most : (make : Cycle → Record) (xs : List ℕ) (ws : List Run) → len
 records-most make xs ws = rw (length-map (cyclesOf xs ws) make) (cycles-most xs ws)
 
 -- of a doubleword
-done-most : (f : Found) (victim : ℕ) (mayFill : Bool) (m : Memory) (ws : List Carried) (first : ℕ) (array : List ℕ) (w : Doubleword) →
-    length (readDone f victim mayFill m ws first array w .records) ≤ length (w .answers)
+done-most : (f : Found) (victim : ℕ) (mayFill : Bool) (rom : List Range) (m : Memory) (ws : List Carried) (first : ℕ) (array : List ℕ) (w : Doubleword) →
+    length (readDone f victim mayFill rom m ws first array w .records) ≤ length (w .answers)
 unfolding readDone readHit settled readMiss fillMiss plainMiss
-done-most (At way) victim mayFill m ws first array w = omega arith
-done-most Nothing victim mayFill m ws first array w =
-    by-test (λ b. length (cond b (fillMiss m ws first w) (plainMiss m ws first w) .records) ≤ length (w .answers)) (mayFill && ken (getD (w .answers) 0 0))
-    (λ _. rw (records-length _ (memoryAt m ws) (w .line) first _) (cycles-most (w .answers) _))
-    (λ _. rw (records-length _ (memoryAt m ws) (w .line) first _) (cycles-most (w .answers) _))
+done-most (At way) victim mayFill rom m ws first array w = omega arith
+done-most Nothing victim mayFill rom m ws first array w =
+    by-test (λ b. length (cond b (fillMiss rom m ws first w) (plainMiss rom m ws first w) .records) ≤ length (w .answers)) (mayFill && ken (getD (w .answers) 0 0))
+    (λ _. rw (records-length _ (memoryAt rom m ws) (w .line) first _) (cycles-most (w .answers) _))
+    (λ _. rw (records-length _ (memoryAt rom m ws) (w .line) first _) (cycles-most (w .answers) _))
 
-read-most : (pcd : Bool) (u : UnderWay) (w : Doubleword) → length (readOne pcd u w .records) ≤ length (w .answers)
+read-most : (pcd : Bool) (rom : List Range) (u : UnderWay) (w : Doubleword) → length (readOne pcd rom u w .records) ≤ length (w .answers)
 unfolding readOne
-read-most pcd u w = done-most _ _ _ (u .unit .memory) (u .writes) (u .cycle) (u .unit .array) w
+read-most pcd rom u w = done-most _ _ _ rom (u .unit .memory) (u .writes) (u .cycle) (u .unit .array) w
 
-sent-most : (f : Found) (stays : Bool) (m : Memory) (array operand : List ℕ) (w : Doubleword) → length (writeDone f stays m array operand w .records) ≤ length (w .answers)
+sent-most : (f : Found) (stays : Bool) (rom : List Range) (m : Memory) (array operand : List ℕ) (w : Doubleword) → length (writeDone f stays rom m array operand w .records) ≤ length (w .answers)
 unfolding writeDone writeThrough
-sent-most (At way) true m array operand w = omega arith
-sent-most (At way) false m array operand w = records-most _ (w .answers) _
-sent-most Nothing stays m array operand w = records-most _ (w .answers) _
+sent-most (At way) true rom m array operand w = omega arith
+sent-most (At way) false rom m array operand w = records-most _ (w .answers) _
+sent-most Nothing stays rom m array operand w = records-most _ (w .answers) _
 
-write-most : (operand : List ℕ) (s : State) (w : Doubleword) → length (writeOne operand s w .records) ≤ length (w .answers)
+write-most : (rom : List Range) (operand : List ℕ) (s : State) (w : Doubleword) → length (writeOne rom operand s w .records) ≤ length (w .answers)
 unfolding writeOne
-write-most operand s w = sent-most _ _ (s .memory) (s .array) operand w
+write-most rom operand s w = sent-most _ _ rom (s .memory) (s .array) operand w
 
 -- of an access: its doublewords one after the other, in states of a read or of a write
 module _ {S : Type 0} (one : S → Doubleword → Done) (most : (s : S) (w : Doubleword) → length (one s w .records) ≤ length (w .answers)) (rest : S → Doubleword → S)
@@ -75,13 +76,13 @@ module _ {S : Type 0} (one : S → Doubleword → Done) (most : (s : S) (w : Dou
       let r : length (all (rest s w) ws) ≤ groupSize * g = each-most g (drop groupSize xs) (a + k) (suc n - k) (place + k) (rest s w) in
       rw (parted s w ws, length-append (one s w .records) (all (rest s w) ws)) (omega arith)
 
-pub reads-most : (pcd : Bool) (g : ℕ) (xs : List ℕ) (a n place : ℕ) (u : UnderWay) → length (readEach pcd u (doublewordsOf g xs a n place) .records) ≤ groupSize * g
+pub reads-most : (pcd : Bool) (rom : List Range) (g : ℕ) (xs : List ℕ) (a n place : ℕ) (u : UnderWay) → length (readEach pcd rom u (doublewordsOf g xs a n place) .records) ≤ groupSize * g
 unfolding readEach
-reads-most pcd = each-most (readOne pcd) (read-most pcd) (λ u w. readNext u w (readOne pcd u w)) (λ u ws. readEach pcd u ws .records) (λ u. refl) (λ u w ws. refl)
+reads-most pcd rom = each-most (readOne pcd rom) (read-most pcd rom) (λ u w. readNext u w (readOne pcd rom u w)) (λ u ws. readEach pcd rom u ws .records) (λ u. refl) (λ u w ws. refl)
 
-pub writes-most : (operand : List ℕ) (g : ℕ) (xs : List ℕ) (a n place : ℕ) (s : State) → length (allOf (writeOne operand) s (doublewordsOf g xs a n place) .records) ≤ groupSize * g
+pub writes-most : (rom : List Range) (operand : List ℕ) (g : ℕ) (xs : List ℕ) (a n place : ℕ) (s : State) → length (allOf (writeOne rom operand) s (doublewordsOf g xs a n place) .records) ≤ groupSize * g
 unfolding allOf
-writes-most operand = each-most (writeOne operand) (write-most operand) (λ s w. next s w (writeOne operand s w)) (λ s ws. allOf (writeOne operand) s ws .records) (λ s. refl) (λ s w ws. refl)
+writes-most rom operand = each-most (writeOne rom operand) (write-most rom operand) (λ s w. next s w (writeOne rom operand s w)) (λ s ws. allOf (writeOne rom operand) s ws .records) (λ s. refl) (λ s w ws. refl)
 
 -- an accepted access leaves each of its records in the log
 pub records-there : (log : List ℕ) (rs : List Record) (n : ℕ) → length rs ≤ n → 3 * n ≤ length log → 3 * length rs ≤ length (logged log 0 rs)

@@ -4,10 +4,9 @@ use mathlib.Core.Path.{_≡_, refl, sym, _∙_, ap}
 use mathlib.Core.List.{List, [], _∷_, _++_}
 use native.Mathlib.Omega.{arith}
 use lib.ListN.{length, getD, drop, length-take, length-drop}
-use lib.Seq.{sets}
-use Rattle.laws.proofs.Lists.{sets-append}
 use Rattle.words.specs.Bytes.{bytesAt}
-use Rattle.memory.specs.Parity.{Memory, stored}
+use Rattle.ranges.specs.Ranges.{Range}
+use Rattle.memory.specs.Parity.{Memory, written}
 use Rattle.bus.specs.Bus.{memoryAfter, afterCycles}
 use Rattle.bus.specs.Groups.{groupSize, groupCount}
 use Rattle.doubleword.specs.Doubleword.{Doubleword, doublewordsOf, plainCycles}
@@ -15,9 +14,10 @@ use Rattle.writing.specs.Writing.{writeBuffer}
 use Rattle.words.proofs.Places.{bytes-length}
 use Rattle.words.proofs.Spans.{bytes-split}
 use Rattle.cycles.proofs.Brought.{OneDoubleword}
-use Rattle.cycles.proofs.Stored.{wanted-stored}
+use Rattle.cycles.proofs.Stored.{wanted-written}
 use Rattle.refusal.proofs.Accepted.{GoodArguments}
-use Rattle.calls.specs.Plain.{bytesBy}
+use Rattle.calls.specs.Plain.{replaced, bytesBy}
+use Rattle.calls.proofs.Replaced.{replaced-append}
 
 -- a doubleword of an accepted access, in a memory of so many bytes
 pub record Proper (size : ℕ) (w : Doubleword) : Type 0 where
@@ -43,18 +43,18 @@ allBy byte [] = []
 allBy byte (w ∷ ws) = bytesBy byte (w .line + w .wanted .from) (w .wanted .count) ++ allBy byte ws
 
 -- memory with what doublewords are given
-abbrev pub memoryWritten : List ℕ → List ℕ → Doubleword → List ℕ
-memoryWritten operand m w = sets m (w .line + w .wanted .from) (givenOf operand w)
+abbrev pub memoryWritten : List Range → List ℕ → List ℕ → Doubleword → List ℕ
+memoryWritten rom operand m w = replaced rom m (w .line + w .wanted .from) (givenOf operand w)
 
-abbrev pub allWritten : List ℕ → List ℕ → List Doubleword → List ℕ
-allWritten operand m [] = m
-allWritten operand m (w ∷ ws) = allWritten operand (memoryWritten operand m w) ws
+abbrev pub allWritten : List Range → List ℕ → List ℕ → List Doubleword → List ℕ
+allWritten rom operand m [] = m
+allWritten rom operand m (w ∷ ws) = allWritten rom operand (memoryWritten rom operand m w) ws
 
 -- the address of each of its bytes
 pub in-own : (size : ℕ) (w : Doubleword) → Proper size w → (o : ℕ) → o < w .wanted .count → (w .line + w .wanted .from + o) / 4 * 4 ≡ ownAddress w
 in-own size w p o l = let a = p .aligned in let b = p .within .lanes in omega arith
 
--- what a doubleword is given lies in its line, and write cycles store just that
+-- what a doubleword is given lies in its line, and write cycles write just that
 module _ (operand : List ℕ) (size : ℕ) (w : Doubleword) (ok : Proper size w) where
   abbrev x : List ℕ
   x = givenOf operand w
@@ -68,8 +68,9 @@ module _ (operand : List ℕ) (size : ℕ) (w : Doubleword) (ok : Proper size w)
   pub given-inside : w .line + w .wanted .from + length x ≤ size
   given-inside = omega (arith, given-in-line, ok .inside)
 
-  pub given-stored : (m : Memory) → afterCycles (memoryAfter (writeBuffer operand w) (w .line)) (plainCycles w) m ≡ stored m (w .line + w .wanted .from) x
-  given-stored m = wanted-stored x (w .line) (w .wanted) (ok .within) given-length (w .answers) (ok .enough) m
+  pub given-written : (rom : List Range) (m : Memory) →
+      afterCycles (memoryAfter rom (writeBuffer operand w) (w .line)) (plainCycles w) m ≡ written rom m (w .line + w .wanted .from) x
+  given-written rom m = wanted-written rom x (w .line) (w .wanted) (ok .within) given-length (w .answers) (ok .enough) m
 
 doublewords-proper : (g : ℕ) (xs : List ℕ) (a n place size : ℕ) → length xs ≡ groupSize * g → n ≤ 4 * g - a % 4 → a + n ≤ size → size % 16 ≡ 0 → EachProper size (doublewordsOf g xs a n place)
 unfolding doublewordsOf
@@ -168,18 +169,19 @@ above-same f g size d h (w ∷ ws) p a =
     let e = in-own size w (p .0) in
     rw (bytes-by-same f g (w .line + w .wanted .from) (w .wanted .count) (λ o l. h (w .line + w .wanted .from + o) (rw (e o l) (a .0))), above-same f g size d h ws (p .1) (a .1))
 
-pub doublewords-written : (g : ℕ) (operand m xs : List ℕ) (a n place : ℕ) → n ≤ 4 * g - a % 4 → allWritten operand m (doublewordsOf g xs a n place) ≡ sets m a (bytesAt operand place n)
-unfolding doublewordsOf bytesAt
-doublewords-written zero operand m xs a n place b = let e : n ≡ 0 = omega arith in rw e
-doublewords-written (suc g) operand m xs a zero place b = refl
-doublewords-written (suc g) operand m xs a (suc n) place b =
+pub doublewords-written : (rom : List Range) (g : ℕ) (operand m xs : List ℕ) (a n place : ℕ) → n ≤ 4 * g - a % 4 →
+    allWritten rom operand m (doublewordsOf g xs a n place) ≡ replaced rom m a (bytesAt operand place n)
+unfolding doublewordsOf bytesAt replaced
+doublewords-written rom zero operand m xs a n place b = let e : n ≡ 0 = omega arith in rw e
+doublewords-written rom (suc g) operand m xs a zero place b = refl
+doublewords-written rom (suc g) operand m xs a (suc n) place b =
     let k = min (suc n) (4 - a % 4) in
     let e : a / 16 * 16 + a % 16 ≡ a = omega arith in
     let f : k + (suc n - k) ≡ suc n = omega arith in
     let x = bytesAt operand place k in
     let y = bytesAt operand (place + k) (suc n - k) in
-    ap (λ (i : ℕ). allWritten operand (sets m i x) (doublewordsOf g (drop groupSize xs) (a + k) (suc n - k) (place + k))) e
-    ∙ doublewords-written g operand (sets m a x) (drop groupSize xs) (a + k) (suc n - k) (place + k) (omega arith)
-    ∙ ap (λ (i : ℕ). sets (sets m a x) (a + i) y) (sym (bytes-length operand place k))
-    ∙ sym (sets-append m a x y)
-    ∙ ap (sets m a) (rw f at (sym (bytes-split operand place k (suc n - k))))
+    ap (λ (i : ℕ). allWritten rom operand (replaced rom m i x) (doublewordsOf g (drop groupSize xs) (a + k) (suc n - k) (place + k))) e
+    ∙ doublewords-written rom g operand (replaced rom m a x) (drop groupSize xs) (a + k) (suc n - k) (place + k) (omega arith)
+    ∙ ap (λ (i : ℕ). replaced rom (replaced rom m a x) (a + i) y) (sym (bytes-length operand place k))
+    ∙ sym (replaced-append rom m a x y)
+    ∙ ap (replaced rom m a) (rw f at (sym (bytes-split operand place k (suc n - k))))

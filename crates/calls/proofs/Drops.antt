@@ -30,4 +30,4 @@ module _ (s : State) (a : ℕ) where
 
   pub reset-drops : foundAfter s reset a ≡ Nothing
   unfolding stepBy
-  reset-drops = reset-lookup a
+  reset-drops = reset-lookup (s .directory .ranges) a

@@ -13,6 +13,7 @@ use Rattle.laws.proofs.Below.{four}
 use Rattle.laws.proofs.Tests.{both, refuted, by-test, same-or}
 use Rattle.words.specs.Bytes.{bytesAt}
 use Rattle.words.proofs.Places.{bytes-length, sets-below, sets-above}
+use Rattle.ranges.specs.Ranges.{Range}
 use Rattle.memory.specs.Parity.{Memory, wrongIn}
 use Rattle.carried.specs.Carried.{Carried}
 use Rattle.bus.specs.Bus.{Run, run, Cycle, burstOrder, burst, none, wantedAfter, cyclesOf, afterCycles, bufferAfter}
@@ -174,7 +175,7 @@ module _ (kind : ℕ) (q : ReadKind kind) (line : ℕ) (al : line % 16 ≡ 0) (a
       rw (record-last kind q (at n) line al c (g .0), e .0, groups-first (d ∷ cs) (e .1) (g .1) (suc n) more)
 
   -- a byte that one of them moves is what memory holds then, which the plain memory has too
-  module _ (m : List ℕ) (ws : List Carried) (o : ℕ) (ol : o < 16) where
+  module _ (rom : List Range) (m : List ℕ) (ws : List Carried) (o : ℕ) (ol : o < 16) where
     other-byte : (ram : List ℕ) (r : Run) (b : List ℕ) → Within o (r .from) (r .count) ≡ false → getD (bufferAfter ram line r b) o 0 ≡ getD b o 0
     other-byte ram r b e =
         let x = bytesAt ram (line + r .from) (r .count) in
@@ -207,17 +208,17 @@ module _ (kind : ℕ) (q : ReadKind kind) (line : ℕ) (al : line % 16 ≡ 0) (a
         refl
         e
 
-    pub byte-moved : (cs : List Cycle) → EachCycle cs → (n : ℕ) → ((k : ℕ) → n ≤ k → at k .ram ≡ heldAfter m ws (suc k)) →
+    pub byte-moved : (cs : List Cycle) → EachCycle cs → (n : ℕ) → ((k : ℕ) → n ≤ k → at k .ram ≡ heldAfter rom m ws (suc k)) →
         (b : List ℕ) → length b ≡ 16 → (v : ℕ) → afterCycles (counted o) cs 0 ≡ 1 →
-        getD (bufferOf at line n cs b) o 0 ≡ byteMoved m ws n (recordsOf kind at line n cs) (line + o) v
+        getD (bufferOf at line n cs b) o 0 ≡ byteMoved rom m ws n (recordsOf kind at line n cs) (line + o) v
     unfolding bufferOf recordsOf byteMoved afterCycles
     byte-moved [] g n same b l v e = absurd (omega arith)
     byte-moved (c ∷ cs) g n same b l v e =
         let w = c .moved in
         let f = w .from in
         let b′ = bufferAfter (at n .ram) line w b in
-        let held = getD (heldAfter m ws (suc n)) (line + o) 0 in
-        let rest = byteMoved m ws (suc n) (recordsOf kind at line (suc n) cs) (line + o) v in
+        let held = getD (heldAfter rom m ws (suc n)) (line + o) 0 in
+        let rest = byteMoved rom m ws (suc n) (recordsOf kind at line (suc n) cs) (line + o) v in
         by-test (λ t. Within o f (w .count) ≡ t → afterCycles (counted o) cs (cond t 1 0) ≡ 1 → getD (bufferOf at line (suc n) cs b′) o 0 ≡ cond t held rest)
         (Within o f (w .count))
         (λ _ t k.
@@ -237,19 +238,19 @@ abbrev pub FirstAbove : ℕ → List (List Record) → Type 0
 FirstAbove a [] = Unit {0}
 FirstAbove a (g ∷ gs) = a < namedBy g
 
-module _ (m : List ℕ) (ws : List Carried) (n x : ℕ) where
+module _ (rom : List Range) (m : List ℕ) (ws : List Carried) (n x : ℕ) where
   -- of a byte whose doubleword has no group, of one whose doubleword the first group is of, of one above that
-  pub byte-hit : (gs : List (List Record)) → FirstAbove (x / 4 * 4) gs → byteRead m ws n gs x ≡ getD (heldAfter m ws n) x 0
+  pub byte-hit : (gs : List (List Record)) → FirstAbove (x / 4 * 4) gs → byteRead rom m ws n gs x ≡ getD (heldAfter rom m ws n) x 0
   unfolding byteRead byteMoved
   byte-hit [] h = refl
   byte-hit (g ∷ gs) h = rw (le-ltb (namedBy g) (x / 4 * 4) (omega arith), ne-eqb (namedBy g) (x / 4 * 4) (λ e. omega arith))
 
   module _ (g : List Record) (gs : List (List Record)) where
-    pub byte-own : namedBy g ≡ x / 4 * 4 → byteRead m ws n (g ∷ gs) x ≡ byteMoved m ws n g x (getD (heldAfter m ws n) x 0)
+    pub byte-own : namedBy g ≡ x / 4 * 4 → byteRead rom m ws n (g ∷ gs) x ≡ byteMoved rom m ws n g x (getD (heldAfter rom m ws n) x 0)
     unfolding byteRead
     byte-own e = rw (le-ltb (namedBy g) (x / 4 * 4) (omega arith), eq-eqb (namedBy g) (x / 4 * 4) e)
 
-    pub byte-above : namedBy g < x / 4 * 4 → byteRead m ws n (g ∷ gs) x ≡ byteRead m ws (n + length g) gs x
+    pub byte-above : namedBy g < x / 4 * 4 → byteRead rom m ws n (g ∷ gs) x ≡ byteRead rom m ws (n + length g) gs x
     unfolding byteRead
     byte-above l = rw (lt-ltb (namedBy g) (x / 4 * 4) l)
 

@@ -3,6 +3,7 @@
 -- `Drops` say what demand 3 cannot see.
 mod Bytes
 mod Memories
+mod Replaced
 mod Carrying
 mod Cycles
 mod Doublewords

@@ -1,16 +1,18 @@
--- Laws of RAM and its parity: bytes that are stored keep parity in agreement, and where it agrees no byte is wrong.
+-- Laws of RAM and its parity: bytes that are written keep parity in agreement, and where it agrees no byte is wrong.
 use Prim.Native.Nat.{ℕ, zero, suc, _+_, _*_, _/_, _%_, _≤_, _<_}
-use mathlib.Core.Path.{_≡_, refl, _∙_}
-use mathlib.Core.Bool.{false}
+use mathlib.Core.Path.{_≡_, refl, _∙_, ap}
+use mathlib.Core.Bool.{Bool, true, false, cond}
 use mathlib.Core.List.{List, [], _∷_}
 use native.Mathlib.Omega.{arith}
 use lib.ListN.{length, set, length-set}
-use lib.Seq.{sets, getD-set-same, getD-set-other}
+use lib.Seq.{getD-set-same, getD-set-other}
 use borrow.Author.Tests.{eq-eqb}
 use Rattle.laws.proofs.Below.{four}
-use Rattle.laws.proofs.Tests.{same-or}
-use Rattle.memory.specs.Parity.{Memory, dpOf, laneBit, dpAt, withDp, put, stored, wrongAt, wrongIn, Agrees}
+use Rattle.laws.proofs.Tests.{same-or, by-test}
+use Rattle.ranges.specs.Ranges.{Range, readOnly}
+use Rattle.memory.specs.Parity.{Memory, dpOf, laneBit, dpAt, withDp, put, written, wrongAt, wrongIn, Agrees}
 use Rattle.memory.proofs.Bits.{dp-below, put-lengths}
+use Rattle.calls.specs.Plain.{replaced}
 
 -- a bit that is written is read back
 same-lane : (p lane bit : ℕ) → lane < 4 → bit < 2 → laneBit (withDp p lane bit) lane ≡ bit
@@ -81,18 +83,24 @@ put-ram : (m : Memory) (a b : ℕ) → put m a b .ram ≡ set (m .ram) a b
 unfolding put
 put-ram m a b = refl
 
--- bytes stored one after another
-pub stored-ram : (m : Memory) (a : ℕ) (x : List ℕ) → stored m a x .ram ≡ sets (m .ram) a x
-unfolding stored
-stored-ram m a [] = refl
-stored-ram m a (b ∷ x) = stored-ram (put m a b) (suc a) x ∙ rw put-ram
+-- bytes that RAM takes or ignores, as the plain memory does
+module _ (rom : List Range) where
+  pub written-ram : (m : Memory) (a : ℕ) (x : List ℕ) → written rom m a x .ram ≡ replaced rom (m .ram) a x
+  unfolding written replaced
+  written-ram m a [] = refl
+  written-ram m a (b ∷ x) =
+      let e = by-test (λ (t : Bool). cond t m (put m a b) .ram ≡ cond t (m .ram) (set (m .ram) a b)) (readOnly rom a) (λ _. refl) (λ _. put-ram m a b) in
+      written-ram (cond (readOnly rom a) m (put m a b)) (suc a) x ∙ ap (λ (l : List ℕ). replaced rom l (suc a) x) e
 
-pub stored-agrees : (m : Memory) (a : ℕ) (x : List ℕ) → a + length x ≤ length (m .ram) → length (m .ram) ≤ 4 * length (m .parity) → Agrees m → Agrees (stored m a x)
-unfolding stored
-stored-agrees m a [] l z g = g
-stored-agrees m a (b ∷ x) l z g =
-    let k = put-lengths m a b in
-    stored-agrees (put m a b) (suc a) x (rw (k .0) (omega arith)) (rw (k .0, k .1) z) (put-agrees m a b (omega arith) (omega arith) g)
+  pub written-agrees : (m : Memory) (a : ℕ) (x : List ℕ) → a + length x ≤ length (m .ram) → length (m .ram) ≤ 4 * length (m .parity) → Agrees m → Agrees (written rom m a x)
+  unfolding written
+  written-agrees m a [] l z g = g
+  written-agrees m a (b ∷ x) l z g =
+      by-test (λ (t : Bool). Agrees (written rom (cond t m (put m a b)) (suc a) x)) (readOnly rom a)
+      (λ _. written-agrees m (suc a) x (omega arith) z g)
+      (λ _.
+      let k = put-lengths m a b in
+      written-agrees (put m a b) (suc a) x (rw (k .0) (omega arith)) (rw (k .0, k .1) z) (put-agrees m a b (omega arith) (omega arith) g))
 
 -- where parity agrees no byte is wrong
 pub never-wrong : (m : Memory) → Agrees m → (a n : ℕ) → a + n ≤ length (m .ram) → wrongIn m a n ≡ false

@@ -1,4 +1,4 @@
--- Numbers under the invariant: 1 to 3 and 21 to 23 are not met, so each call's number is the plain memory's.
+-- Numbers under the invariant: 1 to 3, 37 and 38 of the ranges that are kept, and 21 to 23 are not met, so each call's number is the plain memory's.
 use Prim.Native.Nat.{ℕ, _+_, _-_, _/_, _%_, _^_, _≤_}
 use mathlib.Core.Path.{_≡_, refl, sym, _∙_, ap}
 use mathlib.Core.Bool.{Bool, true, false, cond, not, _&&_, _||_}
@@ -12,19 +12,21 @@ use Rattle.laws.proofs.Tests.{same-or}
 use Rattle.ways.specs.Address.{setOf}
 use Rattle.directory.specs.Steps.{stateNumberOf, controlRefused}
 use Rattle.directory.proofs.SetState.{well-formed-zero}
+use Rattle.ranges.specs.Ranges.{Range, rangesIn, anyBad}
 use Rattle.carried.specs.Carried.{Carried}
 use Rattle.refusal.specs.Call.{State}
 use Rattle.access.specs.Access.{readNumber, writeNumber}
 use Rattle.masters.specs.Masters.{externalWriteNumber}
 use Rattle.bus.specs.Groups.{badWidth, highestAnswer, logSize}
-use Rattle.refusal.specs.Refusal.{when, orElse, anyAbove, ramNumber, memoryNumber, arrayNumber, lentNumber, badAnswers, argumentNumber, valueNumber, externalNumber, viewAddressNumber, viewInputNumber, inOrder, anyRefused, carriedNumber, statesNumberIn, statesNumberOf, carriedStatesNumberIn, carriedStatesNumber}
+use Rattle.refusal.specs.Refusal.{when, orElse, anyAbove, ramNumber, memoryNumber, arrayNumber, lentNumber, badAnswers, argumentNumber, valueNumber, externalNumber, rangesNumber, keptNumber, viewAddressNumber, viewInputNumber, inOrder, anyRefused, carriedNumber, statesNumberIn, statesNumberOf, carriedStatesNumberIn, carriedStatesNumber}
 use Rattle.refusal.proofs.Accepted.{zero-or, first-or, GoodMemory}
 use Rattle.views.specs.View.{viewNumberIn}
+use Rattle.read_only_ranges.specs.SetRanges.{setRangesNumber}
 use Rattle.diagnostics.specs.Diagnostics.{testNumber, testWriteNumber}
 use Rattle.diagnostics.proofs.Laws.{test-write-done, test-write-refused, test-number-arises, test-read-number}
-use Rattle.calls.specs.Calls.{Call, read, write, external, snoop, flush, control, view, reset, testWrite, testRead, step, stepBy, viewNumberOf}
+use Rattle.calls.specs.Calls.{Call, read, write, external, snoop, flush, control, view, reset, testWrite, testRead, setRanges, step, stepBy, viewNumberOf}
 use Rattle.calls.specs.Plain.{someAbove, outOfOrder, someRefused, plainNumber}
-use Rattle.calls.specs.Matches.{testWriting, testReading, reading, other, kindOf, numbersOf, oneOf, Arises}
+use Rattle.calls.specs.Matches.{testWriting, testReading, reading, setting, other, kindOf, numbersOf, oneOf, Arises}
 use Rattle.calls.proofs.Kept.{Kept}
 use Rattle.calls.proofs.Coherence.{Coherent}
 
@@ -48,7 +50,7 @@ module _ (ram parity : ℕ) (g : GoodMemory ram parity) where
       array-clear : (array : ℕ) → array ≡ 8192 → arrayNumber array ≡ 0
       array-clear array e = rw (eq-eqb array 8192 e)
 
-module _ (s : State) (m : List ℕ) (c : Coherent s m) where
+module _ (rom : List Range) (s : State) (m : List ℕ) (c : Coherent rom s m) where
   -- 21 to 23 are not met in any set
   pub state-zero : (a : ℕ) → stateNumberOf (s .directory) (setOf a) ≡ 0
   state-zero a = well-formed-zero (s .directory) (record { limits = c .kept .limits; apart = c .beside .apart }) (setOf a) (omega arith)
@@ -62,33 +64,43 @@ module _ (s : State) (m : List ℕ) (c : Coherent s m) where
   carried-clear [] = refl
   carried-clear (w ∷ ws) = zero-or (statesNumberOf (s .directory) (w .address) (length (w .bytes))) _ (states-clear (w .address) (length (w .bytes))) ∙ carried-clear ws
 
+  -- nor 37 and 38, before what comes after them
+  after-ranges : (later : ℕ) → later ≡ 0 → orElse (keptNumber (length (s .memory .ram)) (s .directory .ranges)) later ≡ 0
+  after-ranges later z = zero-or _ later (c .kept .ranges) ∙ z
+
   pub read-number : (a w : ℕ) (xs log : List ℕ) (ws : List Carried) →
       readNumber s a w xs log ws ≡ orElse (argumentNumber (length m) a w xs (length log)) (carriedNumber (length m) ws)
   unfolding readNumber
   read-number a w xs log ws =
       let states = zero-or (statesNumberOf (s .directory) a w) (carriedStatesNumber (s .directory) ws) (states-clear a w) ∙ carried-clear ws in
       zero-or (lentNumber (length (s .memory .ram)) (length (s .memory .parity)) (length (s .array))) _ (lent-clear _ _ (c .kept .lent) _ (c .kept .arrayLength))
-      ∙ ap (orElse (argumentNumber (length (s .memory .ram)) a w xs (length log))) (or-nothing (carriedNumber (length (s .memory .ram)) ws) _ states)
+      ∙ ap (orElse (argumentNumber (length (s .memory .ram)) a w xs (length log))) (or-nothing (carriedNumber (length (s .memory .ram)) ws) _ (after-ranges _ states))
       ∙ ap (λ (l : List ℕ). orElse (argumentNumber (length l) a w xs (length log)) (carriedNumber (length l) ws)) (c .beside .rams)
 
   pub write-number : (a w v : ℕ) (xs log : List ℕ) → writeNumber s a w v xs log ≡ orElse (argumentNumber (length m) a w xs (length log)) (valueNumber w v)
   unfolding writeNumber
   write-number a w v xs log =
       zero-or (lentNumber (length (s .memory .ram)) (length (s .memory .parity)) (length (s .array))) _ (lent-clear _ _ (c .kept .lent) _ (c .kept .arrayLength))
-      ∙ ap (orElse (argumentNumber (length (s .memory .ram)) a w xs (length log))) (or-nothing (valueNumber w v) _ (states-clear a w))
+      ∙ ap (orElse (argumentNumber (length (s .memory .ram)) a w xs (length log))) (or-nothing (valueNumber w v) _ (after-ranges _ (states-clear a w)))
       ∙ ap (λ (l : List ℕ). orElse (argumentNumber (length l) a w xs (length log)) (valueNumber w v)) (c .beside .rams)
+
+  pub setting-number : (words : List ℕ) → setRangesNumber (length (s .memory .ram)) words ≡ rangesNumber (length m) (rangesIn words) (length (rangesIn words))
+  unfolding setRangesNumber
+  setting-number words =
+      zero-or (ramNumber (length (s .memory .ram))) _ (ram-zero _ _ (c .kept .lent))
+      ∙ ap (λ (l : List ℕ). rangesNumber (length l) (rangesIn words) (length (rangesIn words))) (c .beside .rams)
 
   pub external-write-number : (a : ℕ) (x : List ℕ) → externalWriteNumber (s .directory) (s .memory) a x ≡ externalNumber (length m) a (length x)
   unfolding externalWriteNumber
   external-write-number a x =
       zero-or (memoryNumber (length (s .memory .ram)) (length (s .memory .parity))) _ (memory-clear _ _ (c .kept .lent))
-      ∙ or-nothing (externalNumber (length (s .memory .ram)) a (length x)) _ (states-clear a (length x))
+      ∙ or-nothing (externalNumber (length (s .memory .ram)) a (length x)) _ (after-ranges _ (states-clear a (length x)))
       ∙ ap (λ (l : List ℕ). externalNumber (length l) a (length x)) (c .beside .rams)
 
   pub view-number : (a : ℕ) → viewNumberOf s a ≡ viewAddressNumber (length m) a
   unfolding viewNumberIn viewInputNumber
   view-number a =
-      or-nothing (viewInputNumber (length (s .memory .ram)) (length (s .array)) a) _ (state-zero a)
+      or-nothing (viewInputNumber (length (s .memory .ram)) (length (s .array)) a) _ (after-ranges _ (state-zero a))
       ∙ zero-or (ramNumber (length (s .memory .ram))) _ (ram-zero _ _ (c .kept .lent))
       ∙ zero-or (arrayNumber (length (s .array))) _ (rw (eq-eqb (length (s .array)) 8192 (c .kept .arrayLength)))
       ∙ ap (λ (l : List ℕ). viewAddressNumber (length l) a) (c .beside .rams)
@@ -155,6 +167,15 @@ module _ (m : List ℕ) where
   unfolding plainNumber
   plain-control cd nw = refl
 
+  pub plain-ranges : (words : List ℕ) → plainNumber m (setRanges words) ≡ rangesNumber (length m) (rangesIn words) (length (rangesIn words))
+  unfolding plainNumber rangesNumber
+  plain-ranges words = two-tests (anyBad (length m) (rangesIn words)) (ltb 8 (length (rangesIn words)))
+    where
+      two-tests : (a b : Bool) → cond a 37 (cond b 38 0) ≡ orElse (when a 37) (when b 38)
+      two-tests true b = refl
+      two-tests false true = refl
+      two-tests false false = refl
+
   pub plain-view : (a : ℕ) → plainNumber m (view a) ≡ viewAddressNumber (length m) a
   unfolding plainNumber
   plain-view a = refl
@@ -177,7 +198,7 @@ module _ (ns : List ℕ) (none : oneOf 0 ns ≡ true) where
       (or-arises (when (badAnswers xs) 6) _ (when-arises (badAnswers xs) 6 h6) (when-arises (ltb log logSize) 7 h7)))
 
 pub plain-arises : (m : List ℕ) (c : Call) → Arises (kindOf c) (plainNumber m c)
-unfolding plainNumber valueNumber carriedNumber
+unfolding plainNumber valueNumber carriedNumber rangesNumber
 plain-arises m (read a w pcd xs log ws) =
     let ns = numbersOf reading in
     rw (plain-read m a w pcd xs log ws)
@@ -198,6 +219,10 @@ plain-arises m (view a) = when-arises (numbersOf other) refl (not (ltb a (length
 plain-arises m reset = refl
 plain-arises m (testWrite r w tag mark x) = refl
 plain-arises m (testRead r w) = refl
+plain-arises m (setRanges words) =
+    let ns = numbersOf setting in
+    rw (plain-ranges m words)
+    (or-arises ns refl (when (anyBad (length m) (rangesIn words)) 37) _ (when-arises ns refl (anyBad (length m) (rangesIn words)) 37 refl) (when-arises ns refl (ltb 8 (length (rangesIn words))) 38 refl))
 
 -- TEST CALLS: 3 is not met, so their numbers are 0, 31 and 32
 

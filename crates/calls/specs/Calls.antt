@@ -13,6 +13,7 @@ use Rattle.access.specs.Access.{readCall, writeCall}
 use Rattle.masters.specs.Masters.{externalCall}
 use Rattle.views.specs.View.{viewNumberIn, viewIn}
 use Rattle.diagnostics.specs.Diagnostics.{testWriteCall, testReadLine}
+use Rattle.read_only_ranges.specs.SetRanges.{setRangesCall}
 
 -- "the calls' arguments except directory, RAM, parity and data array": "The log, the board's answers and an external write's bytes are each call's own and may be anything."
 -- Numbers are ℕ, so that the claim covers lists that no caller can make too; the contracts tie steps with 32-bit arguments, 64-bit
@@ -28,15 +29,16 @@ pub data Call : Type 0 where
   reset : Call
   testWrite : (set way tag : ℕ) → (mark : Bool) → (bytes : List ℕ) → Call
   testRead : (set way : ℕ) → Call
+  setRanges : (words : List ℕ) → Call
 
 -- A view and its number, of the state of the unit: those that `views` gives for its arrays.
 abbrev pub viewNumberOf : State → ℕ → ℕ
 viewNumberOf s address =
-    viewNumberIn (s .directory .tags) (s .directory .valid) (s .directory .lru) (length (s .memory .ram)) (length (s .array)) address
+    viewNumberIn (s .directory .tags) (s .directory .valid) (s .directory .lru) (s .directory .ranges) (length (s .memory .ram)) (length (s .array)) address
 
 abbrev pub viewOf : State → ℕ → List ℕ
 viewOf s address =
-    viewIn (s .directory .tags) (s .directory .valid) (s .directory .lru) (s .memory .ram) (s .array) address
+    viewIn (s .directory .tags) (s .directory .valid) (s .directory .lru) (s .directory .ranges) (s .memory .ram) (s .array) address
 
 -- "the number (a view's is its companion question's)"; views change nothing.
 abbrev pub viewCall : State → ℕ → After
@@ -62,9 +64,10 @@ stepBy rule s (snoop address) = onDirectory s (snoopCall (s .directory) address)
 stepBy rule s flush = onDirectory s (flushCall rule (s .directory))
 stepBy rule s (control cd nw) = onDirectory s (controlCall (s .directory) cd nw)
 stepBy rule s (view address) = viewCall s address
-stepBy rule s reset = onDirectory s resetCall
+stepBy rule s reset = onDirectory s (resetCall (s .directory))
 stepBy rule s (testWrite set way tag mark bytes) = testWriteCall s set way tag mark bytes
 stepBy rule s (testRead set way) = testReadCall s set way
+stepBy rule s (setRanges words) = setRangesCall s words
 
 -- Document 02, C-14: "Comparisons use the new one."
 abbrev pub step : State → Call → After

@@ -3,21 +3,34 @@ use Prim.Native.Nat.{ℕ, zero, suc, _+_, _*_, _/_, _%_, _^_}
 use mathlib.Core.Bool.{Bool, false, cond, not, _&&_, _||_}
 use mathlib.Core.List.{List, [], _∷_, _++_}
 use lib.Dec.{eqb, ltb}
-use lib.ListN.{length, getD}
-use lib.Seq.{sets}
+use lib.ListN.{length, getD, set}
 use Rattle.words.specs.Bytes.{bytesAt, valueOf, bytesOf}
+use Rattle.ranges.specs.Ranges.{Range, rangesIn, readOnly, anyBad}
 use Rattle.carried.specs.Carried.{Carried}
 use Rattle.bus.specs.Groups.{badWidth, answerCount, highestAnswer, logSize}
 use Rattle.bus.specs.Record.{Record}
 use Rattle.refusal.specs.Call.{State}
-use Rattle.calls.specs.Calls.{Call, read, write, external, snoop, flush, control, view, reset, testWrite, testRead, step, recordsLeft}
+use Rattle.calls.specs.Calls.{Call, read, write, external, snoop, flush, control, view, reset, testWrite, testRead, setRanges, step, recordsLeft}
 
--- What it answers to a call, and its bytes afterwards.
+-- Document 02, C-17: "The plain memory ignores them too.": its bytes, and the read-only ranges that the setting call gave it.
+pub record PlainMemory : Type 0 where
+  pub bytes : List ℕ
+  pub rom : List Range
+
+abbrev pub plainMemory : List ℕ → List Range → PlainMemory
+plainMemory bytes rom = record { bytes = bytes; rom = rom }
+
+-- Bytes replaced from an address on, but those in a range.
+unfoldable pub replaced : List Range → List ℕ → ℕ → List ℕ → List ℕ
+replaced rom m a [] = m
+replaced rom m a (b ∷ bs) = replaced rom (cond (readOnly rom a) m (set m a b)) (suc a) bs
+
+-- What it answers to a call, and what it is afterwards.
 pub record Plain : Type 0 where
   pub number : ℕ
   pub value : ℕ
   pub shown : List ℕ
-  pub memory : List ℕ
+  pub memory : PlainMemory
 
 -- "Lowest number first": of some tests with their numbers, the number of the first that holds, 0 where none does.
 abbrev pub firstMet : List (Bool × ℕ) → ℕ
@@ -66,8 +79,13 @@ someRefused ram (w ∷ ws) = externalTest ram (w .address) (length (w .bytes)) .
 abbrev pub carriedTest : ℕ → List Carried → Bool × ℕ
 carriedTest ram writes = (ltb 4 (length writes) || outOfOrder writes || someRefused ram writes, 33)
 
+-- "37 where a range is empty, not whole lines or beyond RAM, after 10; 38 for more than eight, after 37": of those that are given.
+abbrev pub rangesTests : ℕ → List Range → List (Bool × ℕ)
+rangesTests ram given = (anyBad ram given, 37) ∷ (ltb 8 (length given), 38) ∷ []
+
 -- The number of a call that meets 4 to 10, from its own arguments; "For the plain memory 33 counts as 4 to 10 do"; "Any other call answers 0." RAM's length
--- is the plain memory's own, and no function of the unit is asked: it shares the sizes of an access alone.
+-- is the plain memory's own, and no function of the unit is asked: it shares the sizes of an access, and what a range is. Of a setting call 37 and 38 count as
+-- 4 to 10 do.
 unfoldable pub plainNumber : List ℕ → Call → ℕ
 plainNumber m (read address width pcd answers log writes) =
     firstMet (accessTests (length m) address width answers (length log) ++ (carriedTest (length m) writes ∷ []))
@@ -81,17 +99,18 @@ plainNumber m (view address) = firstMet ((not (ltb address (length m)), 5) ∷ [
 plainNumber m reset = 0
 plainNumber m (testWrite set way tag mark bytes) = 0
 plainNumber m (testRead set way) = 0
+plainNumber m (setRanges words) = firstMet (rangesTests (length m) (rangesIn words))
 
 -- Document 02, C-12: a read with the writes that it carries. "The plain memory takes the writes in between, told by the read's records where its cycles
 -- fall": its bytes when so many cycles of the read are made. The writes numbered below have been put in. "Equal numbers land in list order."
-unfoldable pub heldAfter : List ℕ → List Carried → ℕ → List ℕ
-heldAfter m [] n = m
-heldAfter m (w ∷ ws) n = heldAfter (cond (ltb (w .cycle) n) (sets m (w .address) (w .bytes)) m) ws n
+unfoldable pub heldAfter : List Range → List ℕ → List Carried → ℕ → List ℕ
+heldAfter rom m [] n = m
+heldAfter rom m (w ∷ ws) n = heldAfter rom (cond (ltb (w .cycle) n) (replaced rom m (w .address) (w .bytes)) m) ws n
 
 -- "Writes numbered past the last cycle, and all where there is none, land after the value is taken."
-unfoldable pub heldAtEnd : List ℕ → List Carried → List ℕ
-heldAtEnd m [] = m
-heldAtEnd m (w ∷ ws) = heldAtEnd (sets m (w .address) (w .bytes)) ws
+unfoldable pub heldAtEnd : List Range → List ℕ → List Carried → List ℕ
+heldAtEnd rom m [] = m
+heldAtEnd rom m (w ∷ ws) = heldAtEnd rom (replaced rom m (w .address) (w .bytes)) ws
 
 -- "64 the last cycle made for this doubleword of the access, in a fill only its very last": the records in groups, one for each doubleword that made cycles.
 abbrev pub withFirst : Record → List (List Record) → List (List Record)
@@ -113,18 +132,18 @@ moves r a = eqb (r .address) (a / 4 * 4) && eqb (r .flags / 2 ^ (a % 4) % 2) 1
 
 -- "every wanted byte is what it holds at that byte's cycle": the byte at an address, by the cycles of a group from number n on, or another where none moved
 -- it. Before cycle n the writes numbered up to n have been put in.
-unfoldable pub byteMoved : List ℕ → List Carried → ℕ → List Record → ℕ → ℕ → ℕ
-byteMoved m ws n [] a unmoved = unmoved
-byteMoved m ws n (r ∷ rs) a unmoved =
-    cond (moves r a) (getD (heldAfter m ws (suc n)) a 0) (byteMoved m ws (suc n) rs a unmoved)
+unfoldable pub byteMoved : List Range → List ℕ → List Carried → ℕ → List Record → ℕ → ℕ → ℕ
+byteMoved rom m ws n [] a unmoved = unmoved
+byteMoved rom m ws n (r ∷ rs) a unmoved =
+    cond (moves r a) (getD (heldAfter rom m ws (suc n)) a 0) (byteMoved rom m ws (suc n) rs a unmoved)
 
 -- "or at the lookup for a hit": the byte at an address, by the groups of the cycles from number n on. "the lower one completed first (H)": groups of lower
 -- doublewords come before its lookup. Without a group its doubleword hit.
-unfoldable pub byteRead : List ℕ → List Carried → ℕ → List (List Record) → ℕ → ℕ
-byteRead m ws n [] a = getD (heldAfter m ws n) a 0
-byteRead m ws n (g ∷ gs) a =
-    cond (ltb (namedBy g) (a / 4 * 4)) (byteRead m ws (n + length g) gs a)
-    (byteMoved m ws n (cond (eqb (namedBy g) (a / 4 * 4)) g []) a (getD (heldAfter m ws n) a 0))
+unfoldable pub byteRead : List Range → List ℕ → List Carried → ℕ → List (List Record) → ℕ → ℕ
+byteRead rom m ws n [] a = getD (heldAfter rom m ws n) a 0
+byteRead rom m ws n (g ∷ gs) a =
+    cond (ltb (namedBy g) (a / 4 * 4)) (byteRead rom m ws (n + length g) gs a)
+    (byteMoved rom m ws n (cond (eqb (namedBy g) (a / 4 * 4)) g []) a (getD (heldAfter rom m ws n) a 0))
 
 -- So many bytes from an address on, each by the same rule.
 unfoldable pub bytesBy : (ℕ → ℕ) → ℕ → ℕ → List ℕ
@@ -132,37 +151,44 @@ bytesBy byte a zero = []
 bytesBy byte a (suc n) = byte a ∷ bytesBy byte (suc a) n
 
 -- The bytes that a read wants.
-abbrev pub bytesRead : List ℕ → List Carried → List Record → ℕ → ℕ → List ℕ
-bytesRead m writes rs address width = bytesBy (byteRead m writes 0 (groupsOf rs)) address width
+abbrev pub bytesRead : List Range → List ℕ → List Carried → List Record → ℕ → ℕ → List ℕ
+bytesRead rom m writes rs address width = bytesBy (byteRead rom m writes 0 (groupsOf rs)) address width
 
 -- A call that is done.
-abbrev pub plainAccepted : ℕ → List ℕ → List ℕ → Plain
+abbrev pub plainAccepted : ℕ → List ℕ → PlainMemory → Plain
 plainAccepted value bytes m = record { number = 0; value = value; shown = bytes; memory = m }
 
+-- One after which it has other bytes.
+abbrev pub withBytes : PlainMemory → List ℕ → PlainMemory
+withBytes m bytes = plainMemory bytes (m .rom)
+
 -- "A write or external write replaces its bytes; a read gives its bytes; a view gives its sixteen; snoop, flush, control and reset do nothing";
--- a read's value is that "with the bytes taken little-endian". Test calls change no RAM, so it does nothing at them either. It is told the records that the
--- call left. Only a read asks for them, and one that carries nothing gives the same bytes whatever they are (`told-alone`).
-unfoldable pub plainDone : List ℕ → Call → List Record → Plain
-plainDone m (read address width pcd answers log writes) rs = plainAccepted (valueOf (bytesRead m writes rs address width)) [] (heldAtEnd m writes)
-plainDone m (write address width value answers log) rs = plainAccepted 0 [] (sets m address (bytesOf width value))
-plainDone m (external address bytes) rs = plainAccepted 0 [] (sets m address bytes)
+-- a read's value is that "with the bytes taken little-endian". Test calls change no RAM, so it does nothing at them either. "One call sets them all anew". It is
+-- told the records that the call left. Only a read asks for them, and one that carries nothing gives the same bytes whatever they are (`told-alone`).
+unfoldable pub plainDone : PlainMemory → Call → List Record → Plain
+plainDone m (read address width pcd answers log writes) rs =
+    plainAccepted (valueOf (bytesRead (m .rom) (m .bytes) writes rs address width)) [] (withBytes m (heldAtEnd (m .rom) (m .bytes) writes))
+plainDone m (write address width value answers log) rs =
+    plainAccepted 0 [] (withBytes m (replaced (m .rom) (m .bytes) address (bytesOf width value)))
+plainDone m (external address bytes) rs = plainAccepted 0 [] (withBytes m (replaced (m .rom) (m .bytes) address bytes))
 plainDone m (snoop address) rs = plainAccepted 0 [] m
 plainDone m flush rs = plainAccepted 0 [] m
 plainDone m (control cd nw) rs = plainAccepted 0 [] m
-plainDone m (view address) rs = plainAccepted 0 (bytesAt m (address / 16 * 16) 16) m
+plainDone m (view address) rs = plainAccepted 0 (bytesAt (m .bytes) (address / 16 * 16) 16) m
 plainDone m reset rs = plainAccepted 0 [] m
 plainDone m (testWrite set way tag mark bytes) rs = plainAccepted 0 [] m
 plainDone m (testRead set way) rs = plainAccepted 0 [] m
+plainDone m (setRanges words) rs = plainAccepted 0 [] (plainMemory (m .bytes) (rangesIn words))
 
--- "a call meeting 4 to 10 does nothing and answers that number."; so does one meeting 33.
-abbrev pub plainRefused : ℕ → List ℕ → Plain
+-- "a call meeting 4 to 10 does nothing and answers that number."; so does one meeting 33, 37 or 38.
+abbrev pub plainRefused : ℕ → PlainMemory → Plain
 plainRefused number m = record { number = number; value = 0; shown = []; memory = m }
 
 -- A call, done or refused.
-unfoldable pub plain : List ℕ → Call → List Record → Plain
+unfoldable pub plain : PlainMemory → Call → List Record → Plain
 plain m c rs =
-    cond (eqb (plainNumber m c) 0) (plainDone m c rs) (plainRefused (plainNumber m c) m)
+    cond (eqb (plainNumber (m .bytes) c) 0) (plainDone m c rs) (plainRefused (plainNumber (m .bytes) c) m)
 
 -- Beside the unit it is "told by the read's records where its cycles fall": the records that the unit's call left.
-abbrev pub plainTold : State → List ℕ → Call → Plain
+abbrev pub plainTold : State → PlainMemory → Call → Plain
 plainTold s m c = plain m c (recordsLeft (step s c))

@@ -71,7 +71,7 @@ module _ (kind line first : ℕ) (carried : CarriedWrites) (from : ℕ) (m₀ : 
   ws = leftFrom carried from
 
   abbrev at : ℕ → Memory
-  at = memoryAt m₀ ws
+  at = memoryAt [] m₀ ws
 
   abbrev Brings : List Cycle → Brought → Brought → Memory → List ℕ → List ℕ → List ℕ → List ℕ → Type 0
   Brings = CyclesBrought kind line first carried from m₀
@@ -112,10 +112,10 @@ module _ (kind line first : ℕ) (carried : CarriedWrites) (from : ℕ) (m₀ : 
       record {
         memories =
             l .memories
-            ∙ ap (λ (x : List Carried). landed x m) e
-            ∙ ap (landed (due (suc n) (later n ws))) (g .memories)
-            ∙ sym (landed-append (due n ws) (due (suc n) (later n ws)) m₀)
-            ∙ ap (λ (x : List Carried). landed x m₀) t;
+            ∙ ap (λ (x : List Carried). landed [] x m) e
+            ∙ ap (landed [] (due (suc n) (later n ws))) (g .memories)
+            ∙ sym (landed-append [] (due n ws) (due (suc n) (later n ws)) m₀)
+            ∙ ap (λ (x : List Carried). landed [] x m₀) t;
         those =
             ap (writesFrom carried from) k
             ∙ writes-append carried from (a .landed - from) (b .landed - a .landed)

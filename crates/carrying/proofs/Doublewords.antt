@@ -85,7 +85,7 @@ module _ (cursor : AccessCursor) (xs : List ℕ) (carried : CarriedWrites) (land
     abbrev here : Doubleword
     here = doublewordOf (wantedOf cursor) group
 
-    missed-next : (missed : Missed) → readMiss mayFill m ws first here ≡ missed → LandedTo carried landed m (first + b .used) m′ (b .landed) → log ≡ logged log₀ first (missed .records) → b .used ≡ length (missed .records) →
+    missed-next : (missed : Missed) → readMiss mayFill [] m ws first here ≡ missed → LandedTo carried landed m (first + b .used) m′ (b .landed) → log ≡ logged log₀ first (missed .records) → b .used ≡ length (missed .records) →
         buffer ≡ missed .buffer → (not (b .spoiled) && last) ≡ missed .kept → Leaves group r m′ log
     unfolding begunBy
     missed-next missed em lands el en eb ek =
@@ -108,16 +108,16 @@ module _ (cursor : AccessCursor) (xs : List ℕ) (carried : CarriedWrites) (land
       used-is : b .used ≡ length cs
       used-is = omega (arith, made .made)
 
-      records-made : b .used ≡ length (recordsOf kind (memoryAt m ws) (lineAddress cursor) first cs)
-      records-made = used-is ∙ sym (records-length (memoryAt m ws) (lineAddress cursor) kind first cs)
+      records-made : b .used ≡ length (recordsOf kind (memoryAt [] m ws) (lineAddress cursor) first cs)
+      records-made = used-is ∙ sym (records-length (memoryAt [] m ws) (lineAddress cursor) kind first cs)
 
       zero-more : first + 0 ≡ first
       zero-more = omega arith
 
-      logs-made : log ≡ logged log₀ first (recordsOf kind (memoryAt m ws) (lineAddress cursor) first cs)
+      logs-made : log ≡ logged log₀ first (recordsOf kind (memoryAt [] m ws) (lineAddress cursor) first cs)
       logs-made = rw zero-more at (made .logs)
 
-      buffers-made : buffer ≡ bufferOf (memoryAt m ws) (lineAddress cursor) first cs (replicate 16 0)
+      buffers-made : buffer ≡ bufferOf (memoryAt [] m ws) (lineAddress cursor) first cs (replicate 16 0)
       buffers-made = rw zero-more at (made .buffers)
 
     -- as the code has it, from its own wanted bytes and group of answers
@@ -128,7 +128,7 @@ module _ (cursor : AccessCursor) (xs : List ℕ) (carried : CarriedWrites) (land
       plain-next p el k =
           let cs = plainCycles here in
           let made : CyclesBrought plainKind (lineAddress cursor) first carried landed m cs (noneBrought landed) b m′ (replicate 16 0) buffer log₀ log = rw (ew, eg) at k in
-          missed-next (plainMiss m ws first here) (cond-false _ _ _ (rw eg at p)) (made .lands) (logs-made plainKind cs made) (records-made plainKind cs made) (buffers-made plainKind cs made) (rw el (and-false (not (b .spoiled))))
+          missed-next (plainMiss [] m ws first here) (cond-false _ _ _ (rw eg at p)) (made .lands) (logs-made plainKind cs made) (records-made plainKind cs made) (buffers-made plainKind cs made) (rw el (and-false (not (b .spoiled))))
 
       -- kept where the last answer used has KEN# and no write landed in the line after the first cycle
       pub fill-next : (mayFill && ken (getD given 0 0)) ≡ true → CyclesBrought fillKind (w .line) first carried landed m (cyclesOf given (burst (w .from / 4))) (noneBrought landed) b m′ (replicate 16 0) buffer log₀ log → 0 < b .used →
@@ -141,4 +141,4 @@ module _ (cursor : AccessCursor) (xs : List ℕ) (carried : CarriedWrites) (land
           let u = used-is fillKind cs made in
           let s : b .spoiled ≡ spoiled ws first here = made .spoils start ∙ ap (spoiledAt carried landed (lineAddress cursor) first) (ap (λ (i : ℕ). first + i) u) in
           let l : ken (lastAnswer 0 cs) ≡ ken (getD group (b .used - 1) 0) = ap ken (last-answer group (burst (cursor .address % 16 / 4)) (b .used) u some) in
-          missed-next (fillMiss m ws first here) (cond-true _ _ _ (rw eg at p)) (made .lands) (logs-made fillKind cs made) (records-made fillKind cs made) (buffers-made fillKind cs made) (rw (s, l, el, eg))
+          missed-next (fillMiss [] m ws first here) (cond-true _ _ _ (rw eg at p)) (made .lands) (logs-made fillKind cs made) (records-made fillKind cs made) (buffers-made fillKind cs made) (rw (s, l, el, eg))

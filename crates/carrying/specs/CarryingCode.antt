@@ -1,4 +1,4 @@
--- What the parts of the code of a read that carries writes leave.
+-- What the parts of the code of a read that carries writes leave. The writes have the bytes that RAM takes of them, so that no range is asked here.
 use Prim.Native.Nat.{ℕ, suc, _+_, _*_, _-_, _%_, _^_, _≤_, _<_}
 use mathlib.Core.Path.{_≡_}
 use mathlib.Core.Bool.{Bool, false, cond, not, _&&_, _||_}
@@ -30,7 +30,7 @@ use Rattle.carrying.specs.declared.next.CarriedRead.{CarriedRead}
 
 -- What landing before cycle n leaves.
 pub record LandsDue (carried : CarriedWrites) (line n : ℕ) (at r : Brought) (m₀ m : Memory) : Type 0 where
-  pub memories : m ≡ landed (due (suc n) (leftFrom carried (at .landed))) m₀
+  pub memories : m ≡ landed [] (due (suc n) (leftFrom carried (at .landed))) m₀
   pub those : writesFrom carried (at .landed) (r .landed - at .landed) ≡ due (suc n) (leftFrom carried (at .landed))
   pub lefts : leftFrom carried (r .landed) ≡ later (suc n) (leftFrom carried (at .landed))
   pub above : at .landed ≤ r .landed
@@ -50,7 +50,7 @@ pub record MovesBytes (kind : ℕ) (m : Memory) (line from count : ℕ) (last : 
 
 -- Memory and the writes once n cycles of the access are made, of those from a place on.
 pub record LandedTo (carried : CarriedWrites) (from : ℕ) (m₀ : Memory) (n : ℕ) (m : Memory) (to : ℕ) : Type 0 where
-  pub memories : m ≡ landed (due n (leftFrom carried from)) m₀
+  pub memories : m ≡ landed [] (due n (leftFrom carried from)) m₀
   pub those : writesFrom carried from (to - from) ≡ due n (leftFrom carried from)
   pub lefts : leftFrom carried to ≡ later n (leftFrom carried from)
   pub above : from ≤ to
@@ -63,8 +63,8 @@ spoiledAt carried from line first n = inLine line (due n (later (suc first) (lef
 -- What cycles of a doubleword leave, by memory as it is at each of them.
 pub record CyclesBrought (kind line first : ℕ) (carried : CarriedWrites) (from : ℕ) (m₀ : Memory) (cs : List Cycle) (at r : Brought) (m : Memory) (buffer₀ buffer log₀ log : List ℕ) : Type 0 where
   pub made : r .used ≡ at .used + length cs
-  pub logs : log ≡ logged log₀ (first + at .used) (recordsOf kind (memoryAt m₀ (leftFrom carried from)) line (first + at .used) cs)
-  pub buffers : buffer ≡ bufferOf (memoryAt m₀ (leftFrom carried from)) line (first + at .used) cs buffer₀
+  pub logs : log ≡ logged log₀ (first + at .used) (recordsOf kind (memoryAt [] m₀ (leftFrom carried from)) line (first + at .used) cs)
+  pub buffers : buffer ≡ bufferOf (memoryAt [] m₀ (leftFrom carried from)) line (first + at .used) cs buffer₀
   pub lands : LandedTo carried from m₀ (first + r .used) m (r .landed)
   pub spoils : at .spoiled ≡ spoiledAt carried from line first (first + at .used) → r .spoiled ≡ spoiledAt carried from line first (first + r .used)
 
@@ -130,7 +130,7 @@ begunBy (At way) mayFill m ws first array w =
       records = [];
     }
 begunBy Nothing mayFill m ws first array w =
-    let missed = readMiss mayFill m ws first w in
+    let missed = readMiss mayFill [] m ws first w in
     record {
       kept = missed .kept;
       buffer = missed .buffer;

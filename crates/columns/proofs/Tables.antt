@@ -10,7 +10,7 @@ use borrow.Author.Tests.{ltb-false, le-ltb}
 use Rattle.laws.proofs.Tests.{neither}
 use Rattle.bus.specs.Groups.{highestAnswer}
 use Rattle.calls.specs.Calls.{read, write}
-use Rattle.calls.specs.Plain.{someAbove, plainNumber, plainDone, plain}
+use Rattle.calls.specs.Plain.{PlainMemory, someAbove, plainNumber, plainDone, plain}
 use Rattle.board.specs.Board.{blockAnswers, GoodTable, boardAnswers}
 use Rattle.board.proofs.Within.{board-length, board-within}
 use Rattle.lines.specs.declared.Event.{Event}
@@ -51,7 +51,7 @@ unfolding someAbove
 ours-good = each-within highestAnswer blockAnswers refl
 
 -- of answers the plain memory asks how many they are, and whether one is above 7
-module _ (m xs ys : List ℕ) (l : length xs ≡ length ys) (b : someAbove highestAnswer xs ≡ someAbove highestAnswer ys) where
+module _ (m : PlainMemory) (xs ys : List ℕ) (l : length xs ≡ length ys) (b : someAbove highestAnswer xs ≡ someAbove highestAnswer ys) where
   read-same : (address width : ℕ) (pcd : Bool) → plain m (read address width pcd xs zeroLog []) [] ≡ plain m (read address width pcd ys zeroLog []) []
   unfolding plain plainNumber plainDone
   read-same address width pcd = rw (l, b)
@@ -70,7 +70,7 @@ module _ (table : List ℕ) (good : GoodTable table) where
       none-above highestAnswer _ (board-within table address width highestAnswer good)
       ∙ sym (none-above highestAnswer _ (board-within blockAnswers address width highestAnswer ours-good))
 
-  event-plain-same : (m line : List ℕ) (e : Event) → plainCall m (callOf table line e) ≡ plainCall m (callOf blockAnswers line e)
+  event-plain-same : (m : PlainMemory) (line : List ℕ) (e : Event) → plainCall m (callOf table line e) ≡ plainCall m (callOf blockAnswers line e)
   unfolding callOf plainCall
   event-plain-same m line Malformed = refl
   event-plain-same m line (Read address width pcd) = read-same m _ _ (length-same address width) (above-same address width) address width pcd
@@ -81,5 +81,5 @@ module _ (table : List ℕ) (good : GoodTable table) where
   event-plain-same m line (Control cd nw) = refl
   event-plain-same m line Reset = refl
 
-  pub plain-same : (m line : List ℕ) → plainCall m (lineCall table line) ≡ plainLine m line
+  pub plain-same : (m : PlainMemory) (line : List ℕ) → plainCall m (lineCall table line) ≡ plainLine m line
   plain-same m line = event-plain-same m line (scanned line)

@@ -14,22 +14,22 @@ use Rattle.fields.specs.Fields.{linesOf}
 use Rattle.rows.specs.Row.{header, rowOf}
 use Rattle.performing.specs.Perform.{lineCall, lineDone}
 use Rattle.events.specs.Output.{start, outputOf}
-use Rattle.calls.specs.Plain.{Plain, plain, plainRefused}
+use Rattle.calls.specs.Plain.{PlainMemory, plainMemory, Plain, plain, plainRefused}
 use Rattle.calls.specs.Matches.{setsNw}
 
 -- The plain memory's answer to a line: to the call that its event makes, and 11 to a malformed line, which "changes nothing". No event's read carries
 -- writes, so that it asks for no records.
-unfoldable pub plainCall : List ℕ → Option Call → Plain
+unfoldable pub plainCall : PlainMemory → Option Call → Plain
 plainCall m none = plainRefused 11 m
 plainCall m (some c) = plain m c []
 
 -- The plain memory has no table, and looks at a call's answers for number 6 alone: every table of answers up to 7 gives the same (`plain-same`). Ours is
 -- taken.
-abbrev pub plainLine : List ℕ → List ℕ → Plain
+abbrev pub plainLine : PlainMemory → List ℕ → Plain
 plainLine m line = plainCall m (lineCall blockAnswers line)
 
 -- Rows whose answers and values are the plain memory's, and whose counts of cycles are given.
-unfoldable pub plainRows : List ℕ → ℕ → List (List ℕ) → List ℕ → List ℕ
+unfoldable pub plainRows : PlainMemory → ℕ → List (List ℕ) → List ℕ → List ℕ
 plainRows m event [] counts = []
 plainRows m event (line ∷ lines) counts =
     rowOf event (plainLine m line .number) (plainLine m line .value) (getD counts 0 0)
@@ -41,11 +41,11 @@ countsOf table s [] = []
 countsOf table s (line ∷ lines) =
     lineDone table s line .outcome .cycles ∷ countsOf table (nextState (lineDone table s line)) lines
 
--- The output of a program on the plain memory, whose 65,536 bytes are 0 at first.
+-- The output of a program on the plain memory, whose 65,536 bytes are 0 at first; it has no range, since no line sets one.
 unfoldable pub plainOutput : List ℕ → List ℕ → List ℕ
 plainOutput input counts =
     header
-    ++ cond (ltb 65536 (length input)) (rowOf 0 12 0 0) (plainRows (replicate 65536 0) 1 (linesOf input) counts)
+    ++ cond (ltb 65536 (length input)) (rowOf 0 12 0 0) (plainRows (plainMemory (replicate 65536 0) []) 1 (linesOf input) counts)
 
 -- An accepted control line that sets NW to 1.
 abbrev pub lineSetsNw : Option Call → Bool

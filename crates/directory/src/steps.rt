@@ -61,11 +61,7 @@ impl Directory {
         ensures { λ r. ⌜ r ≡ afterReset self ⌝ }
     {
         self.tags = [0u32; LINES];
-        self.valid = [false; LINES];
-        self.lru = [0u8; SETS];
-        self.cd = true;
-        self.nw = true;
-        self
+        self.flushed().with_control(true, true)
     }
 
     // The plain step of the setting call: any ranges.

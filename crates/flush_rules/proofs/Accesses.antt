@@ -12,6 +12,7 @@ use Rattle.ways.specs.declared.ways.Found.the-variants.{At, Nothing}
 use Rattle.ways.specs.Address.{setOf, tagOf}
 use Rattle.ways.proofs.FourWays.{victim-below}
 use Rattle.directory.specs.declared.steps.Directory.{Directory}
+use Rattle.ranges.specs.Ranges.{Range}
 use Rattle.directory.specs.Steps.{lookupOf}
 use Rattle.directory.specs.Alike.{Alike}
 use Rattle.directory.proofs.Laws.{lookup-at}
@@ -76,19 +77,19 @@ otherUnit e u = underWay (withDirectory e (u .unit)) (u .writes) (u .cycle)
 kept-below : (kept : Bool) (victim : ℕ) → victim < 4 → BelowFour (keptChange kept victim)
 kept-below kept victim l = by-test (λ b. BelowFour (keptChange b victim)) kept (λ _. l) (λ _. tt)
 
-module _ (pcd : Bool) (u : UnderWay) (w : Doubleword) where
+module _ (pcd : Bool) (rom : List Range) (u : UnderWay) (w : Doubleword) where
   abbrev d : Directory
   d = u .unit .directory
 
   abbrev here : Done
-  here = readOne pcd u w
+  here = readOne pcd rom u w
 
   -- its change names a way below 4
   found-below : (mayFill : Bool) (victim : ℕ) → victim < 4 → (f : Found) → lookupOf d (w .line) ≡ f →
-      BelowFour (readDone f victim mayFill (u .unit .memory) (u .writes) (u .cycle) (u .unit .array) w .change)
+      BelowFour (readDone f victim mayFill rom (u .unit .memory) (u .writes) (u .cycle) (u .unit .array) w .change)
   unfolding readDone readHit settled
   found-below mayFill victim l (At way) q = lookup-at d (w .line) way q .0
-  found-below mayFill victim l Nothing q = kept-below (readMiss mayFill (u .unit .memory) (u .writes) (u .cycle) w .kept) victim l
+  found-below mayFill victim l Nothing q = kept-below (readMiss mayFill rom (u .unit .memory) (u .writes) (u .cycle) w .kept) victim l
 
   read-below : BelowFour (here .change)
   unfolding readOne
@@ -96,10 +97,10 @@ module _ (pcd : Bool) (u : UnderWay) (w : Doubleword) where
 
   module _ (e : Directory) (a : Alike d e) where
     -- either unit's doubleword finds, brings and asks for the same, the victim after the snoops of what landed
-    one-same : readOne pcd (otherUnit e u) w ≡ here
+    one-same : readOne pcd rom (otherUnit e u) w ≡ here
     unfolding readOne
     one-same =
-        let n = length (readMiss (not (e .cd) && not pcd) (u .unit .memory) (u .writes) (u .cycle) w .records) in
+        let n = length (readMiss (not (e .cd) && not pcd) rom (u .unit .memory) (u .writes) (u .cycle) w .records) in
         let landed = snooped-alike (due (u .cycle + n) (u .writes)) d e a in
         rw (alike-victim _ _ landed (setOf (w .line)) (omega arith), alike-lookup d e a (w .line), alike-control d e a .0)
 
@@ -109,44 +110,44 @@ module _ (pcd : Bool) (u : UnderWay) (w : Doubleword) where
         change-alike _ _ landed (w .line) (here .change) read-below
 
 -- all its doublewords, and what is left of the writes after them
-pub each-alike : (pcd : Bool) (ws : List Doubleword) (u : UnderWay) (e : Directory) → Alike (u .unit .directory) e → ProgressAlike (readEach pcd u ws) (readEach pcd (otherUnit e u) ws)
+pub each-alike : (pcd : Bool) (rom : List Range) (ws : List Doubleword) (u : UnderWay) (e : Directory) → Alike (u .unit .directory) e → ProgressAlike (readEach pcd rom u ws) (readEach pcd rom (otherUnit e u) ws)
 unfolding readEach landedAfter
-each-alike pcd [] u e a = record { directory = snoopedBy (u .writes) e; same = refl; alike = snooped-alike (u .writes) _ e a }
-each-alike pcd (w ∷ ws) u e a =
-    let here = readOne pcd u w in
+each-alike pcd rom [] u e a = record { directory = snoopedBy (u .writes) e; same = refl; alike = snooped-alike (u .writes) _ e a }
+each-alike pcd rom (w ∷ ws) u e a =
+    let here = readOne pcd rom u w in
     let v = otherUnit e u in
-    subst (λ (x : Done). ProgressAlike (thenRest here (readEach pcd (readNext u w here) ws)) (thenRest x (readEach pcd (readNext v w x) ws))) (sym (one-same pcd u w e a))
-    (then-alike here _ _ (each-alike pcd ws (readNext u w here) (readNext v w here .unit .directory) (next-alike pcd u w e a)))
+    subst (λ (x : Done). ProgressAlike (thenRest here (readEach pcd rom (readNext u w here) ws)) (thenRest x (readEach pcd rom (readNext v w x) ws))) (sym (one-same pcd rom u w e a))
+    (then-alike here _ _ (each-alike pcd rom ws (readNext u w here) (readNext v w here .unit .directory) (next-alike pcd rom u w e a)))
 
 -- A WRITE
 
-module _ (operand : List ℕ) (s : State) (w : Doubleword) where
+module _ (rom : List Range) (operand : List ℕ) (s : State) (w : Doubleword) where
   abbrev given : Directory
   given = s .directory
 
   -- likewise
-  write-found-below : (stays : Bool) (f : Found) → lookupOf given (w .line) ≡ f → BelowFour (writeDone f stays (s .memory) (s .array) operand w .change)
+  write-found-below : (stays : Bool) (f : Found) → lookupOf given (w .line) ≡ f → BelowFour (writeDone f stays rom (s .memory) (s .array) operand w .change)
   unfolding writeDone writeThrough
   write-found-below stays (At way) q =
       let l = lookup-at given (w .line) way q .0 in
-      by-test (λ b. BelowFour (writeDone (At way) b (s .memory) (s .array) operand w .change)) stays (λ _. l) (λ _. l)
+      by-test (λ b. BelowFour (writeDone (At way) b rom (s .memory) (s .array) operand w .change)) stays (λ _. l) (λ _. l)
   write-found-below stays Nothing q = tt
 
-  write-below : BelowFour (writeOne operand s w .change)
+  write-below : BelowFour (writeOne rom operand s w .change)
   unfolding writeOne
   write-below = write-found-below _ (lookupOf given (w .line)) refl
 
-  write-same : (e : Directory) → Alike given e → writeOne operand (withDirectory e s) w ≡ writeOne operand s w
+  write-same : (e : Directory) → Alike given e → writeOne rom operand (withDirectory e s) w ≡ writeOne rom operand s w
   unfolding writeOne
   write-same e a = let c = alike-control given e a in rw (c .0, c .1, alike-lookup given e a (w .line))
 
-pub all-alike : (operand : List ℕ) (ws : List Doubleword) (s : State) (e : Directory) → Alike (s .directory) e → ProgressAlike (allOf (writeOne operand) s ws) (allOf (writeOne operand) (withDirectory e s) ws)
+pub all-alike : (rom : List Range) (operand : List ℕ) (ws : List Doubleword) (s : State) (e : Directory) → Alike (s .directory) e → ProgressAlike (allOf (writeOne rom operand) s ws) (allOf (writeOne rom operand) (withDirectory e s) ws)
 unfolding allOf
-all-alike operand [] s e a = record { directory = e; same = refl; alike = a }
-all-alike operand (w ∷ ws) s e a =
-    let one = writeOne operand in
+all-alike rom operand [] s e a = record { directory = e; same = refl; alike = a }
+all-alike rom operand (w ∷ ws) s e a =
+    let one = writeOne rom operand in
     let here = one s w in
     let t = withDirectory e s in
-    let changes = change-alike (s .directory) e a (w .line) (here .change) (write-below operand s w) in
-    subst (λ (x : Done). ProgressAlike (thenRest here (allOf one (next s w here) ws)) (thenRest x (allOf one (next t w x) ws))) (sym (write-same operand s w e a))
-    (then-alike here _ _ (all-alike operand ws (next s w here) (changed e (w .line) (here .change)) changes))
+    let changes = change-alike (s .directory) e a (w .line) (here .change) (write-below rom operand s w) in
+    subst (λ (x : Done). ProgressAlike (thenRest here (allOf one (next s w here) ws)) (thenRest x (allOf one (next t w x) ws))) (sym (write-same rom operand s w e a))
+    (then-alike here _ _ (all-alike rom operand ws (next s w here) (changed e (w .line) (here .change)) changes))

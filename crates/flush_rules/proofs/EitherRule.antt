@@ -1,7 +1,7 @@
 -- Under either flush rule every list of calls from reset without an accepted test write has the same answers and records. By induction over the list: the
 -- two units differ in alike directories only.
 use Prim.Native.Nat.{ℕ}
-use mathlib.Core.Path.{_≡_, refl, sym, _∙_, ap}
+use mathlib.Core.Path.{_≡_, refl, sym, _∙_, ap, subst}
 use mathlib.Core.Bool.{Bool, false, cond}
 use mathlib.Core.List.{List, [], _∷_}
 use native.Mathlib.Omega.{arith}
@@ -12,24 +12,28 @@ use Rattle.laws.proofs.Tests.{by-test, same-or, differ}
 use Rattle.ways.specs.Address.{setOf}
 use Rattle.directory.specs.declared.steps.Directory.{Directory}
 use Rattle.directory.specs.Outcome.{outcome}
-use Rattle.directory.specs.Steps.{stateNumberOf, afterReset, afterControl, controlRefused, afterFlush, afterSnoop}
+use Rattle.directory.specs.Steps.{rangesKept, stateNumberOf, withRanges, resetKeeping, afterReset, noRanges, firstReset, afterControl, controlRefused, afterFlush, afterSnoop}
 use Rattle.directory.specs.Alike.{Alike}
 use Rattle.directory.proofs.Laws.{control-accepted, control-refused, snoop-accepted, snoop-refused}
-use Rattle.directory.proofs.Alike.{alike-lookup, alike-control, alike-number, reset-alike, control-alike, flush-alike, snoop-alike}
+use Rattle.directory.proofs.Alike.{alike-lookup, alike-control, alike-number, alike-ranges, reset-alike, ranges-alike, control-alike, flush-alike, snoop-alike}
+use Rattle.ranges.specs.declared.Ranges.{Ranges}
+use Rattle.ranges.specs.Ranges.{rangesOf}
+use Rattle.memory.specs.Parity.{written}
 use Rattle.carried.specs.Carried.{Carried}
 use Rattle.bus.specs.Groups.{groupCount}
 use Rattle.words.specs.Bytes.{valueOf}
 use Rattle.doubleword.specs.Doubleword.{doublewordsOf}
-use Rattle.refusal.specs.Call.{State, state, After, onDirectory, refused, nextState}
-use Rattle.access.specs.Access.{Progress, accepted, operandOf, underWay, readNumber, writeNumber, readAll, writeAll, readCall, writeCall}
+use Rattle.refusal.specs.Call.{State, state, After, after, onDirectory, refused, nextState}
+use Rattle.access.specs.Access.{Progress, accepted, operandOf, writeOne, allOf, underWay, readEach, readNumber, writeNumber, readAll, writeAll, readCall, writeCall}
 use Rattle.masters.specs.Masters.{externalWriteNumber, externalCall}
 use Rattle.views.specs.View.{viewNumberIn, viewIn}
 use Rattle.diagnostics.specs.Diagnostics.{testWriteNumber, testReadNumber}
 use Rattle.diagnostics.proofs.Laws.{test-write-done, test-write-refused, test-read-number}
-use Rattle.calls.specs.Calls.{Call, read, write, external, snoop, flush, control, view, reset, testWrite, testRead, stepBy, step, viewNumberOf, viewOf}
+use Rattle.read_only_ranges.specs.SetRanges.{setRangesNumber, rangesSet, setRangesCall}
+use Rattle.calls.specs.Calls.{Call, read, write, external, snoop, flush, control, view, reset, testWrite, testRead, setRanges, stepBy, step, viewNumberOf, viewOf}
 use Rattle.calls.specs.Matches.{kindOf, plants}
 use Rattle.flush_rules.specs.FlushRules.{marksCleared, Answered, answered, answersBy, NeverPlants, EitherFlushRule}
-use Rattle.flush_rules.proofs.Accesses.{withDirectory, states-same, carried-same, each-alike, all-alike}
+use Rattle.flush_rules.proofs.Accesses.{withDirectory, ProgressAlike, states-same, carried-same, each-alike, all-alike}
 
 -- what a call leaves, with another directory
 abbrev leavesWith : Directory → After → After
@@ -67,35 +71,43 @@ module _ (s : State) (e : Directory) (a : Alike (s .directory) e) where
 
   read-number-same : (address width : ℕ) (answers log : List ℕ) (ws : List Carried) → readNumber t address width answers log ws ≡ readNumber s address width answers log ws
   unfolding readNumber
-  read-number-same address width answers log ws = rw (states-same d e a address width, carried-same d e a ws)
+  read-number-same address width answers log ws = rw (states-same d e a address width, carried-same d e a ws, alike-ranges d e a)
 
   read-alike : (address width : ℕ) (pcd : Bool) (answers log : List ℕ) (ws : List Carried) → AfterAlike (readCall s address width pcd answers log ws) (readCall t address width pcd answers log ws)
   unfolding readCall readAll
   read-alike address width pcd answers log ws =
-      let r = each-alike pcd (doublewordsOf groupCount answers address width 0) (underWay s ws 0) e a in
+      let ds = doublewordsOf groupCount answers address width 0 in
+      let here = readEach pcd (rangesKept d) (underWay s ws 0) ds in
+      let r = subst (λ (kept : Ranges). ProgressAlike here (readEach pcd (rangesOf kept) (underWay t ws 0) ds)) (sym (alike-ranges d e a)) (each-alike pcd (rangesKept d) ds (underWay s ws 0) e a) in
       by-number _ _ (read-number-same address width answers log ws) log _ _
       (record { directory = r .directory; same = ap (λ (p : Progress). accepted (valueOf (p .bytes)) p log) (r .same); alike = r .alike })
 
   write-number-same : (address width value : ℕ) (answers log : List ℕ) → writeNumber t address width value answers log ≡ writeNumber s address width value answers log
   unfolding writeNumber
-  write-number-same address width value answers log = rw (states-same d e a address width)
+  write-number-same address width value answers log = rw (states-same d e a address width, alike-ranges d e a)
 
   write-alike : (address width value : ℕ) (answers log : List ℕ) → AfterAlike (writeCall s address width value answers log) (writeCall t address width value answers log)
   unfolding writeCall writeAll
   write-alike address width value answers log =
-      let r = all-alike (operandOf value) (doublewordsOf groupCount answers address width 0) s e a in
+      let ds = doublewordsOf groupCount answers address width 0 in
+      let here = allOf (writeOne (rangesKept d) (operandOf value)) s ds in
+      let r = subst (λ (kept : Ranges). ProgressAlike here (allOf (writeOne (rangesOf kept) (operandOf value)) t ds)) (sym (alike-ranges d e a)) (all-alike (rangesKept d) (operandOf value) ds s e a) in
       by-number _ _ (write-number-same address width value answers log) log _ _
       (record { directory = r .directory; same = ap (λ (p : Progress). accepted 0 p log) (r .same); alike = r .alike })
 
   external-number-same : (address : ℕ) (bytes : List ℕ) → externalWriteNumber e (s .memory) address bytes ≡ externalWriteNumber d (s .memory) address bytes
   unfolding externalWriteNumber
-  external-number-same address bytes = rw (states-same d e a address (length bytes))
+  external-number-same address bytes = rw (states-same d e a address (length bytes), alike-ranges d e a)
 
   external-alike : (address : ℕ) (bytes : List ℕ) → AfterAlike (externalCall s address bytes) (externalCall t address bytes)
   unfolding externalCall
   external-alike address bytes =
       by-number _ _ (external-number-same address bytes) [] _ _
-      (record { directory = afterSnoop e address; same = refl; alike = snoop-alike d e a address })
+      (record {
+        directory = afterSnoop e address;
+        same = ap (λ (kept : Ranges). after (outcome (afterSnoop e address) 0 0 0) (written (rangesOf kept) (s .memory) address bytes) (s .array) []) (alike-ranges d e a);
+        alike = snoop-alike d e a address;
+      })
 
   snoop-call-alike : (address : ℕ) → AfterAlike (step s (snoop address)) (stepBy marksCleared t (snoop address))
   unfolding stepBy
@@ -121,7 +133,7 @@ module _ (s : State) (e : Directory) (a : Alike (s .directory) e) where
 
   view-number-same : (address : ℕ) → viewNumberOf t address ≡ viewNumberOf s address
   unfolding viewNumberIn
-  view-number-same address = rw (alike-number d e a (setOf address) (omega arith))
+  view-number-same address = rw (alike-number d e a (setOf address) (omega arith), alike-ranges d e a)
 
   view-same : (address : ℕ) → viewOf t address ≡ viewOf s address
   unfolding viewIn
@@ -156,6 +168,23 @@ module _ (s : State) (e : Directory) (a : Alike (s .directory) e) where
   unfolding stepBy marksCleared
   flush-call-alike = record { directory = marksCleared e; same = refl; alike = flush-alike d e a }
 
+  reset-call-alike : AfterAlike (step s reset) (stepBy marksCleared t reset)
+  unfolding stepBy
+  reset-call-alike =
+      record {
+        directory = afterReset d;
+        same = ap (λ (kept : Ranges). onDirectory t (outcome (resetKeeping kept) 0 0 0)) (alike-ranges d e a);
+        alike = reset-alike (d .ranges);
+      }
+
+  set-ranges-alike : (words : List ℕ) → AfterAlike (step s (setRanges words)) (stepBy marksCleared t (setRanges words))
+  unfolding stepBy setRangesCall
+  set-ranges-alike words =
+      let n = setRangesNumber (length (s .memory .ram)) words in
+      let kept = rangesSet words in
+      by-number n n refl [] (onDirectory s (outcome (withRanges d kept) 0 0 0)) (onDirectory t (outcome (withRanges e kept) 0 0 0))
+      (record { directory = withRanges e (rangesSet words); same = refl; alike = ranges-alike d e a (rangesSet words) })
+
   -- every call but an accepted test write
   call-alike : (c : Call) → plants (kindOf c) (step s c .outcome .number) ≡ false → AfterAlike (step s c) (stepBy marksCleared t c)
   unfolding stepBy
@@ -166,9 +195,10 @@ module _ (s : State) (e : Directory) (a : Alike (s .directory) e) where
   call-alike flush n = flush-call-alike
   call-alike (control cd nw) n = control-call-alike cd nw
   call-alike (view address) n = view-alike address
-  call-alike reset n = record { directory = afterReset; same = refl; alike = reset-alike }
+  call-alike reset n = reset-call-alike
   call-alike (testWrite set way tag mark bytes) n = test-write-alike set way tag mark bytes n
   call-alike (testRead set way) n = test-read-alike set way
+  call-alike (setRanges words) n = set-ranges-alike words
 
 -- A LIST
 
@@ -181,4 +211,4 @@ from-alike (c ∷ cs) s e a n =
     (ap (λ (x : List Answered). answered (step s c) ∷ x) (from-alike cs (nextState (step s c)) (r .directory) (r .alike) (n .1)))
 
 pub either-flush-rule : EitherFlushRule
-either-flush-rule m array cs n = from-alike cs (state afterReset m array) afterReset reset-alike n
+either-flush-rule m array cs n = from-alike cs (state firstReset m array) firstReset (reset-alike noRanges) n

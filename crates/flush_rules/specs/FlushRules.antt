@@ -7,7 +7,7 @@ use mathlib.Core.List.{List, [], _∷_}
 use lib.ListN.{replicate}
 use Rattle.ways.specs.Address.{lineCount}
 use Rattle.directory.specs.declared.steps.Directory.{Directory}
-use Rattle.directory.specs.Steps.{afterReset, afterFlush}
+use Rattle.directory.specs.Steps.{firstReset, afterFlush}
 use Rattle.memory.specs.Parity.{Memory}
 use Rattle.bus.specs.Record.{Record}
 use Rattle.refusal.specs.Call.{State, state, After, nextState}
@@ -23,6 +23,7 @@ marksCleared d =
       lru = d .lru;
       cd = d .cd;
       nw = d .nw;
+      ranges = d .ranges;
     }
 
 -- "the same answers and records": of a call, "number, value (0 except from a read), cycle count (0 except from reads and writes)", and its records.
@@ -55,5 +56,5 @@ NeverPlants s (c ∷ cs) = (plants (kindOf c) (step s c .outcome .number) ≡ fa
 -- The claim, for every list "from reset", whatever RAM, parity and data array are and whatever the calls set.
 abbrev pub EitherFlushRule : Type 0
 EitherFlushRule =
-    (m : Memory) (array : List ℕ) (cs : List Call) → NeverPlants (state afterReset m array) cs →
-    answersBy afterFlush (state afterReset m array) cs ≡ answersBy marksCleared (state afterReset m array) cs
+    (m : Memory) (array : List ℕ) (cs : List Call) → NeverPlants (state firstReset m array) cs →
+    answersBy afterFlush (state firstReset m array) cs ≡ answersBy marksCleared (state firstReset m array) cs

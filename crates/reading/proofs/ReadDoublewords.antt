@@ -2,7 +2,7 @@
 use Prim.Native.Nat.{ℕ, _+_, _*_, _-_, _/_, _%_, _^_, _≤_, _<_}
 use mathlib.Core.Path.{_≡_, refl, sym, _∙_, ap}
 use mathlib.Core.Bool.{Bool, true, false, _&&_}
-use mathlib.Core.List.{List, map}
+use mathlib.Core.List.{List, [], map}
 use native.Mathlib.Omega.{arith}
 use native.Mathlib.Nat.{add-zero, zero-add}
 use lib.ListN.{length, getD, length-map}
@@ -67,7 +67,7 @@ module _ (f : Found) (victim : ℕ) (mayFill : Bool) (m : Memory) (array : List 
       Reads (readAlone f victim mayFill m array w) (w .wanted .count) first log₀ (Use way) value 0 array log₀
   unfolding doneAlone readHit wordsOf
   hit-reads way offset value e b eo ev small =
-      rw (done-alone f victim mayFill m 0 array w, e)
+      rw (done-alone f victim mayFill [] m 0 array w, e)
       (record {
         changes = refl;
         below = b;
@@ -89,7 +89,7 @@ module _ (f : Found) (victim : ℕ) (mayFill : Bool) (m : Memory) (array : List 
         Reads (readAlone f victim mayFill m array w) (w .wanted .count) first log₀ Unchanged value cycles array log
     unfolding doneAlone missAlone settledAlone plainAlone
     plain-reads p made most =
-        rw (done-alone f victim mayFill m 0 array w, e, cond-false _ (fillAlone m w) (plainAlone m w) p)
+        rw (done-alone f victim mayFill [] m 0 array w, e, cond-false _ (fillAlone m w) (plainAlone m w) p)
         (record {
           changes = refl;
           below = tt;
@@ -117,7 +117,7 @@ module _ (f : Found) (victim : ℕ) (mayFill : Bool) (m : Memory) (array : List 
       unfolding doneAlone missAlone settledAlone fillAlone
       dropped-reads k =
           let q = last-is ∙ k in
-          rw (done-alone f victim mayFill m 0 array w, e, cond-true _ (fillAlone m w) (plainAlone m w) p)
+          rw (done-alone f victim mayFill [] m 0 array w, e, cond-true _ (fillAlone m w) (plainAlone m w) p)
           (record {
             changes = rw q;
             below = tt;
@@ -136,7 +136,7 @@ module _ (f : Found) (victim : ℕ) (mayFill : Bool) (m : Memory) (array : List 
       kept-reads k way ew b array′ ea =
           let q = last-is ∙ k in
           let line : bytesAt (bufferAlone m w (fillCycles w)) 0 16 ≡ bytesAt (m .ram) (w .line) 16 = rw (add-zero (w .line)) at (filled-bytes m w 0 16 enough (omega arith)) in
-          rw (done-alone f victim mayFill m 0 array w, e, cond-true _ (fillAlone m w) (plainAlone m w) p)
+          rw (done-alone f victim mayFill [] m 0 array w, e, cond-true _ (fillAlone m w) (plainAlone m w) p)
           (record {
             changes = rw (q, ew);
             below = b;

@@ -3,6 +3,7 @@ ghost use Rattle.io.specs.Counts.{Counts};
 use crate::print::board_row;
 use crate::print::call_row;
 use crate::print::end_with_digests;
+use crate::print::ranges_row;
 use crate::print::test_fields;
 use crate::print::view_fields;
 use crate::script::at_most;
@@ -12,12 +13,15 @@ use crate::script::digits;
 use crate::script::letter_of;
 use crate::script::number;
 use crate::script::wide_number;
+use crate::script::words;
 use crate::stores::store_line;
 use carried::CarriedWrites;
 use directory::Directory;
 use directory::LINES;
 use directory::Outcome;
 use directory::SETS;
+use ranges::BOUNDS;
+use read_only_ranges::set_ranges;
 
 // Address and width of an access, then PCD or the value; and the place after them.
 struct Access {
@@ -27,7 +31,7 @@ struct Access {
     next: usize,
 }
 
-// Any letter but a call's, a view's and the board's is a store's.
+// Any letter but a call's, a view's, the ranges' and the board's is a store's.
 pub fn run_line(
     line: &[u8],
     d: Directory,
@@ -46,6 +50,11 @@ pub fn run_line(
         b'V' => view_line(line, d, ram, parity, data, log),
         b'p' => test_write_line(line, d, ram, parity, data, log),
         b't' => test_read_line(line, d, ram, parity, data, log),
+        b'O' => set_ranges_line(line, d, ram, parity, data, log),
+        b'g' => {
+            ranges_row(d);
+            d
+        }
         b'B' => {
             board_line(line);
             d
@@ -251,7 +260,16 @@ fn view_line<'a>(
     log: &'a [u32],
 ) -> Directory {
     let address = number(line, 1);
-    view_answer(&d.tags, &d.valid, &d.lru, ram, data, address.value);
+    view_answer(
+        &d.tags,
+        &d.valid,
+        &d.lru,
+        d.ranges.count,
+        &d.ranges.bounds,
+        ram,
+        data,
+        address.value,
+    );
     end_with_digests(d, ram, parity, data, log);
     d
 }
@@ -261,12 +279,14 @@ fn view_answer<'a>(
     tags: &'a [u32; LINES],
     valid: &'a [bool; LINES],
     lru: &'a [u8; SETS],
+    range_count: u32,
+    bounds: &'a [u32; BOUNDS],
     ram: &'a [u8],
     data: &'a [u8],
     address: u32,
 ) {
-    let number = views::view_number(tags, valid, lru, ram, data, address);
-    let shown = views::view(tags, valid, lru, ram, data, address);
+    let number = views::view_number(tags, valid, lru, range_count, bounds, ram, data, address);
+    let shown = views::view(tags, valid, lru, range_count, bounds, ram, data, address);
     view_fields(number, shown);
 }
 
@@ -312,6 +332,21 @@ fn test_read_line(
     done.directory
 }
 
+// The words that the line gives are lent, a start without a length too.
+fn set_ranges_line(
+    line: &[u8],
+    d: Directory,
+    ram: &[u8],
+    parity: &[u8],
+    data: &[u8],
+    log: &[u32],
+) -> Directory {
+    let mut given = [0u32; 32];
+    let n = words(line, 1, &mut given);
+    let done = set_ranges(d, ram, &given[..n]);
+    call_row(b'O', done, ram, parity, data, log)
+}
+
 // Of S, F, C and Z.
 fn directory_call(letter: u8, line: &[u8], d: Directory) -> Outcome {
     let first = number(line, 1);
@@ -320,6 +355,6 @@ fn directory_call(letter: u8, line: &[u8], d: Directory) -> Outcome {
         b'S' => d.snoop(first.value),
         b'F' => d.flushed().answered(0),
         b'C' => d.control(first.value == 1, second.value == 1),
-        _ => Directory::reset().answered(0),
+        _ => d.reset().answered(0),
     }
 }

@@ -50,7 +50,7 @@ impl Adler {
     }
 
     // Four bytes, the lowest first.
-    fn word(self, value: u32) -> Self {
+    pub fn word(self, value: u32) -> Self {
         let lower = self.byte((value % 256) as u8)
             .byte((value / 256 % 256) as u8);
         lower

@@ -75,6 +75,13 @@ fn pair(byte: u8) {
     io::print_hex(STDOUT_FILENO, byte as u64, 2);
 }
 
+// A digest of the count of ranges and of all their words. Calls' rows leave it out.
+pub fn ranges_row(d: Directory) {
+    label(b"g");
+    digest(Adler::start().word(d.ranges.count).words(&d.ranges.bounds));
+    end_row();
+}
+
 pub fn unit_row(d: Directory, ram: &[u8], parity: &[u8], data: &[u8], log: &[u32]) {
     label(b"N");
     end_with_digests(d, ram, parity, data, log);

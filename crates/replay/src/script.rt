@@ -97,6 +97,24 @@ pub fn bytes(line: &[u8], at: usize, values: &mut [u8]) -> usize
     k
 }
 
+// Fields that are each a word: how many there are, as far as they have room.
+pub fn words(line: &[u8], at: usize, values: &mut [u32]) -> usize
+    ensures { λ r. ⌜ Counts r (now (values .exit)) ⌝ }
+{
+    let mut next = at;
+    let mut k = 0;
+    while k < values.len() {
+        if !is_blank(line, next) {
+            return k;
+        }
+        let field = number(line, next);
+        values[k] = field.value;
+        next = field.next;
+        k += 1;
+    }
+    k
+}
+
 // So many fields that are each a byte, into places from one on: the place after them.
 pub fn bytes_from(
     line: &[u8],

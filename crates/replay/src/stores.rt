@@ -2,9 +2,12 @@
 // that no list of calls gives.
 use crate::script::letter_of;
 use crate::script::number;
+use crate::script::words;
 use directory::Directory;
 use directory::LINES;
 use directory::SETS;
+use ranges::BOUNDS;
+use ranges::Ranges;
 
 // A line of another letter is passed over.
 pub fn store_line(line: &[u8], d: Directory, parity: &mut [u8]) -> Directory {
@@ -13,6 +16,7 @@ pub fn store_line(line: &[u8], d: Directory, parity: &mut [u8]) -> Directory {
         b'K' => store_mark(line, d),
         b'L' => store_lru(line, d),
         b'M' => store_mode(line, d),
+        b'G' => store_ranges(line, d),
         b'P' => {
             flip_parity(line, parity);
             d
@@ -57,6 +61,19 @@ fn store_mode(line: &[u8], mut d: Directory) -> Directory {
     let nw = number(line, cd.next);
     d.cd = cd.value == 1;
     d.nw = nw.value == 1;
+    d
+}
+
+// The count of ranges, which may be any, and their words; those that the line does not give are 0.
+fn store_ranges(line: &[u8], mut d: Directory) -> Directory {
+    let count = number(line, 1);
+    let mut bounds = [0u32; BOUNDS];
+    words(line, count.next, &mut bounds);
+    let ranges = Ranges {
+        count: count.value,
+        bounds,
+    };
+    d.ranges = ranges;
     d
 }
 

@@ -80,7 +80,7 @@ fn run_calls(
 {
     set_contents(seeds, ram, parity, data);
     fresh_log(log);
-    unit_row(Directory::reset(), ram, parity, data, log);
+    unit_row(Directory::first(), ram, parity, data, log);
     run_lines(script, begin, ram, parity, data, log)
 }
 
@@ -95,7 +95,7 @@ fn run_lines(
 ) -> usize
     ensures { λ r. ⌜ begin ≤ r ⌝ }
 {
-    let mut d = Directory::reset();
+    let mut d = Directory::first();
     let mut at = begin;
     while at < script.len() && script[at] != b'N' {
         let end = line_end(script, at);

@@ -1,7 +1,7 @@
 -- Laws of one doubleword of a write: what the code leaves in each case.
 use Prim.Native.Nat.{ℕ, _+_, _*_, _/_, _%_, _^_, _≤_, _<_, min}
 use mathlib.Core.Path.{_≡_, refl, sym, _∙_, ap}
-use mathlib.Core.Bool.{Bool, true, false}
+use mathlib.Core.Bool.{Bool, true, false, cond}
 use mathlib.Core.List.{List}
 use native.Mathlib.Omega.{arith}
 use native.Mathlib.Nat.{add-zero, zero-add, mod-mod, mul-div-cancel}
@@ -14,13 +14,16 @@ use Rattle.words.specs.Bytes.{bytesAt, bytesOf, lanesValue, lanesWord}
 use Rattle.words.proofs.Numbers.{bytes-of-lower, bytes-of-part}
 use Rattle.words.proofs.Parts.{powers-some}
 use Rattle.words.proofs.Places.{bytes-length}
-use Rattle.memory.specs.Parity.{Memory, stored}
+use Rattle.ranges.specs.Ranges.{Range, readOnly}
+use Rattle.ranges.proofs.Laws.{same-line}
+use Rattle.memory.specs.Parity.{Memory, stored, written}
+use Rattle.memory.proofs.Written.{written-line}
 use Rattle.bus.specs.Groups.{widest}
 use Rattle.bus.specs.Record.{writeRecord, wordsOf}
 use Rattle.parts.specs.Made.{CyclesMade}
 use Rattle.cycles.proofs.Brought.{OneDoubleword}
 use Rattle.cycles.specs.Sent.{sentLine}
-use Rattle.cycles.proofs.Stored.{wanted-stored}
+use Rattle.cycles.proofs.Stored.{wanted-written}
 use Rattle.doubleword.specs.declared.change.Change.{Change}
 use Rattle.doubleword.specs.declared.change.Change.the-variants.{Unchanged, Use}
 use Rattle.doubleword.specs.declared.change.Wanted.{Wanted}
@@ -33,8 +36,15 @@ use Rattle.writing.specs.declared.next.NextWritten.{NextWritten}
 use Rattle.writing.specs.declared.writing.DoublewordWritten.{DoublewordWritten}
 use Rattle.writing.specs.WritingCode.{Writes, WriteNext}
 
+-- a place of a line, by the line's address
+in-line : (line from : ℕ) → line % 16 ≡ 0 → from < 16 → (line + from) / 16 ≡ line / 16
+in-line line from h l = omega arith
+
+line-room : (line from count : ℕ) → line % 16 ≡ 0 → from + count ≤ 16 → 0 < count → (line + from) % 16 + count ≤ 16
+line-room line from count h l s = omega arith
+
 -- the bytes that a doubleword sends
-module _ (f : Found) (stays : Bool) (m₀ : Memory) (array operand : List ℕ) (w : Doubleword) (first : ℕ) (log₀ sent : List ℕ) (es : bytesAt operand (w .place) (w .wanted .count) ≡ sent) where
+module _ (f : Found) (stays : Bool) (rs : List Range) (m₀ : Memory) (array operand : List ℕ) (w : Doubleword) (first : ℕ) (log₀ sent : List ℕ) (es : bytesAt operand (w .place) (w .wanted .count) ≡ sent) where
   -- put into the data array
   hit-array : (way offset : ℕ) (array′ : List ℕ) → offset ≡ dataOffset (w .line) way → array′ ≡ sets array (offset + w .wanted .from) sent → array′ ≡ hitArray way array operand w
   unfolding hitArray
@@ -42,7 +52,7 @@ module _ (f : Found) (stays : Bool) (m₀ : Memory) (array operand : List ℕ) (
 
   -- a hit that stays in the cache
   pub stay-writes : (way offset : ℕ) (array′ : List ℕ) → f ≡ At way → way < 4 → stays ≡ true → offset ≡ dataOffset (w .line) way → array′ ≡ sets array (offset + w .wanted .from) sent →
-      Writes (writeDone f stays m₀ array operand w) first log₀ (Use way) 0 m₀ array′ log₀
+      Writes (writeDone f stays rs m₀ array operand w) first log₀ (Use way) 0 m₀ array′ log₀
   unfolding writeDone wordsOf
   stay-writes way offset array′ e b s eo ea =
       let h = hit-array way offset array′ eo ea in
@@ -58,7 +68,8 @@ module _ (f : Found) (stays : Bool) (m₀ : Memory) (array operand : List ℕ) (
       })
 
   -- sent through to RAM, in cycles
-  module _ (g : OneDoubleword (w .wanted)) (enough : 16 ≤ length (w .answers)) (cycles : ℕ) (m : Memory) (log : List ℕ) (em : m ≡ stored m₀ (w .line + w .wanted .from) sent)
+  module _ (g : OneDoubleword (w .wanted)) (enough : 16 ≤ length (w .answers)) (aligned : w .line % 16 ≡ 0) (rom : Bool) (ro : readOnly rs (w .line) ≡ rom) (cycles : ℕ) (m : Memory) (log : List ℕ)
+      (em : m ≡ cond rom m₀ (stored m₀ (w .line + w .wanted .from) sent))
       (made : CyclesMade (writeRecord (sentLine (w .wanted .from) sent) (w .line)) (plainCycles w) first 0 log₀ cycles log) (most : cycles ≤ 4) where
     sent-buffer : writeBuffer operand w ≡ sentLine (w .wanted .from) sent
     sent-buffer = ap (sentLine (w .wanted .from)) es
@@ -66,13 +77,21 @@ module _ (f : Found) (stays : Bool) (m₀ : Memory) (array operand : List ℕ) (
     sent-length : length sent ≡ w .wanted .count
     sent-length = rw (← es) (bytes-length operand (w .place) (w .wanted .count))
 
-    through-writes : (change : Change) → BelowFour change → (array′ : List ℕ) → Writes (writeThrough change m₀ array′ operand w) first log₀ change cycles m array′ log
+    -- RAM takes them but for a read-only line
+    sent-taken : m ≡ written rs m₀ (w .line + w .wanted .from) sent
+    sent-taken =
+        let a = w .line + w .wanted .from in
+        let here : readOnly rs a ≡ rom = same-line rs a (w .line) (in-line (w .line) (w .wanted .from) aligned (omega (arith, g .line, g .some))) ∙ ro in
+        let room : a % 16 + length sent ≤ 16 = rw sent-length (line-room (w .line) (w .wanted .from) (w .wanted .count) aligned (g .line) (g .some)) in
+        em ∙ rw (← here) (sym (written-line rs m₀ a sent room))
+
+    through-writes : (change : Change) → BelowFour change → (array′ : List ℕ) → Writes (writeThrough change rs m₀ array′ operand w) first log₀ change cycles m array′ log
     unfolding writeThrough
     through-writes change b array′ =
         record {
           changes = refl;
           below = b;
-          memories = rw sent-buffer (em ∙ sym (wanted-stored sent (w .line) (w .wanted) g sent-length (w .answers) enough m₀));
+          memories = rw sent-buffer (sent-taken ∙ sym (wanted-written rs sent (w .line) (w .wanted) g sent-length (w .answers) enough m₀));
           arrays = refl;
           logs = rw sent-buffer (rw (add-zero first) at (made .logs));
           made = made .made ∙ zero-add (length (plainCycles w)) ∙ sym (length-map (plainCycles w) (writeRecord (writeBuffer operand w) (w .line)));
@@ -80,22 +99,22 @@ module _ (f : Found) (stays : Bool) (m₀ : Memory) (array operand : List ℕ) (
         }
 
     pub hit-writes : (way offset : ℕ) (array′ : List ℕ) → f ≡ At way → way < 4 → stays ≡ false → offset ≡ dataOffset (w .line) way → array′ ≡ sets array (offset + w .wanted .from) sent →
-        Writes (writeDone f stays m₀ array operand w) first log₀ (Use way) cycles m array′ log
+        Writes (writeDone f stays rs m₀ array operand w) first log₀ (Use way) cycles m array′ log
     unfolding writeDone
     hit-writes way offset array′ e b s eo ea =
         let h = hit-array way offset array′ eo ea in
         rw (e, s, h) (through-writes (Use way) b (hitArray way array operand w))
 
-    pub miss-writes : f ≡ Nothing → Writes (writeDone f stays m₀ array operand w) first log₀ Unchanged cycles m array log
+    pub miss-writes : f ≡ Nothing → Writes (writeDone f stays rs m₀ array operand w) first log₀ Unchanged cycles m array log
     unfolding writeDone
     miss-writes e = rw e (through-writes Unchanged tt array)
 
 -- a write fills no line
-pub write-no-fill : (f : Found) (stays : Bool) (m : Memory) (array operand : List ℕ) (w : Doubleword) → NoFill (writeDone f stays m array operand w .change)
+pub write-no-fill : (f : Found) (stays : Bool) (rs : List Range) (m : Memory) (array operand : List ℕ) (w : Doubleword) → NoFill (writeDone f stays rs m array operand w .change)
 unfolding writeDone writeThrough
-write-no-fill (At way) true m array operand w = tt
-write-no-fill (At way) false m array operand w = tt
-write-no-fill Nothing stays m array operand w = tt
+write-no-fill (At way) true rs m array operand w = tt
+write-no-fill (At way) false rs m array operand w = tt
+write-no-fill Nothing stays rs m array operand w = tt
 
 -- the place of some lanes of a doubleword
 pub lane-place : (at from : ℕ) → at + from / 4 * 4 + from % 4 ≡ at + from

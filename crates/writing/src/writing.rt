@@ -1,8 +1,10 @@
 // One doubleword of a write.
 ghost use mathlib.Core.Path.{_≡_};
 ghost use mathlib.Core.List.{List, [], _∷_};
-ghost use Prim.Native.Nat.{ℕ, _+_, _%_, _≤_};
+ghost use mathlib.Core.Bool.{cond};
+ghost use Prim.Native.Nat.{ℕ, _+_, _*_, _%_, _≤_, _<_};
 ghost use lib.ListN.{length};
+ghost use Rattle.ranges.specs.Ranges.{Range, readOnly};
 ghost use Rattle.ways.specs.Ways.{lookupIn};
 ghost use Rattle.ways.specs.Address.{dataSize};
 ghost use Rattle.words.specs.Bytes.{bytesAt, bytesOf, lanesValue, lanesWord};
@@ -29,8 +31,29 @@ pub struct DoublewordWritten {
     pub cycles: usize,
 }
 
-// A doubleword that goes to RAM: its bytes are stored at once, since no cycle reads them, and its cycles are recorded.
+// Lanes of a doubleword stored as memory stores them, but for a read-only line, which ignores them.
+fn store_writable(
+    rom: bool,
+    ram: &mut [u8],
+    parity: &mut [u8],
+    base: usize,
+    lane: usize,
+    count: usize,
+    word: u32,
+)
+    requires { ⌜ (0 < count) × (lane + count ≤ 4) × (base % 4 ≡ 0) × (base + 4 ≤ length (now ram)) × (base + 4 ≤ 4 * length (now parity)) × (word ≡ lanesWord word lane count) ⌝ }
+    ensures { λ _. ⌜ lentMemory (ram .exit) (parity .exit)
+        ≡ cond rom (lentMemory (ram .entry) (parity .entry)) (stored (lentMemory (ram .entry) (parity .entry)) (base + lane) (bytesOf count (lanesValue word lane count))) ⌝ }
+{
+    if !rom {
+        store_lanes(ram, parity, base, lane, count, word);
+    }
+}
+
+// A doubleword that goes to RAM: its bytes are stored at once, since no cycle reads them, and its cycles are recorded. rom: its line is
+// read-only.
 fn write_through(
+    rom: bool,
     ram: &mut [u8],
     parity: &mut [u8],
     answers: &[u8],
@@ -40,21 +63,23 @@ fn write_through(
     first: usize,
 ) -> usize
     requires { ⌜ DoublewordNeeds w first (length (now ram)) (length (now parity)) (length (now answers)) (length (now log)) × (word ≡ lanesWord word (w .from % 4) (w .count)) ⌝ }
-    ensures { λ r. ⌜ (lentMemory (ram .exit) (parity .exit) ≡ stored (lentMemory (ram .entry) (parity .entry)) (w .line + w .from) (bytesOf (w .count) (lanesValue word (w .from % 4) (w .count))))
+    ensures { λ r. ⌜ (lentMemory (ram .exit) (parity .exit)
+        ≡ cond rom (lentMemory (ram .entry) (parity .entry)) (stored (lentMemory (ram .entry) (parity .entry)) (w .line + w .from) (bytesOf (w .count) (lanesValue word (w .from % 4) (w .count)))))
         × CyclesMade (writeRecord (sentLine (w .from) (bytesOf (w .count) (lanesValue word (w .from % 4) (w .count)))) (w .line)) (cyclesOf (now (answers .entry)) (run (w .from) (w .count) ∷ [])) first 0 (now (log .entry)) r (now (log .exit)) × (r ≤ 4) ⌝ }
 {
     let line = w.line as usize;
     let base = line + w.from / 4 * 4;
-    store_lanes(ram, parity, base, w.from % 4, w.count, word);
+    store_writable(rom, ram, parity, base, w.from % 4, w.count, word);
     write_cycles(&answers[..], log, line, w.from, w.count, word, first)
 }
 
-// One doubleword of a write, whose bytes are given in their lanes, the other lanes 0. stays: CD = NW = 1, where a hit makes no cycle. first: the
-// records already in the log.
+// One doubleword of a write, whose bytes are given in their lanes, the other lanes 0. stays: CD = NW = 1, where a hit makes no cycle. rom: its
+// line is read-only. first: the records already in the log.
 pub fn write_doubleword<'a>(
     tags: &'a [u32; LINES],
     valid: &'a [bool; LINES],
     stays: bool,
+    rom: bool,
     ram: &mut [u8],
     parity: &mut [u8],
     data: &mut [u8],
@@ -65,8 +90,8 @@ pub fn write_doubleword<'a>(
     first: usize,
 ) -> DoublewordWritten
     requires { ⌜ DoublewordNeeds w first (length (now ram)) (length (now parity)) (length (now answers)) (length (now log)) × (length (now «data») ≡ dataSize) × (word ≡ lanesWord word (w .from % 4) (w .count)) ⌝ }
-    ensures { λ r. ⌜ ((operand : List ℕ) → bytesAt operand (w .place) (w .count) ≡ bytesOf (w .count) (lanesValue word (w .from % 4) (w .count)) →
-        Writes (writeDone (lookupIn (now (tags .entry)) (now (valid .entry)) (w .line)) stays (lentMemory (ram .entry) (parity .entry)) (now («data» .entry)) operand (doublewordOf w (now (answers .entry))))
+    ensures { λ r. ⌜ ((rs : List Range) (operand : List ℕ) → readOnly rs (w .line) ≡ rom → bytesAt operand (w .place) (w .count) ≡ bytesOf (w .count) (lanesValue word (w .from % 4) (w .count)) →
+        Writes (writeDone (lookupIn (now (tags .entry)) (now (valid .entry)) (w .line)) stays rs (lentMemory (ram .entry) (parity .entry)) (now («data» .entry)) operand (doublewordOf w (now (answers .entry))))
         first (now (log .entry)) (r .change) (r .cycles) (lentMemory (ram .exit) (parity .exit)) (now («data» .exit)) (now (log .exit))) ⌝ }
 {
     if let Found::At(way) = ways::lookup(tags, valid, w.line) {
@@ -78,13 +103,13 @@ pub fn write_doubleword<'a>(
                 cycles: 0,
             };
         }
-        let cycles = write_through(ram, parity, &answers[..], log, w, word, first);
+        let cycles = write_through(rom, ram, parity, &answers[..], log, w, word, first);
         return DoublewordWritten {
             change: Change::Use(way),
             cycles,
         };
     }
-    let cycles = write_through(ram, parity, &answers[..], log, w, word, first);
+    let cycles = write_through(rom, ram, parity, &answers[..], log, w, word, first);
     DoublewordWritten {
         change: Change::Unchanged,
         cycles,

@@ -5,7 +5,7 @@ use Rattle.carried.specs.Carried.{Carried, landed, inLine}
 use Rattle.memory.specs.Parity.{memory}
 use denote.Ref.{now}
 use lib.Dec.{ltb}
-use mathlib.Core.List.{List}
+use mathlib.Core.List.{List, []}
 use mathlib.Core.Bool.{Bool, _&&_, _||_}
 use mathlib.Core.Path.{_≡_, refl, _∙_, ap}
 use borrow.Author.Needs.{needs}
@@ -52,7 +52,7 @@ returns-2 c =
     let n : a .first + a .at .used + 1 ≡ suc (a .first + a .at .used) = omega arith in
     let d = rw n at (at-due-end .due-end .ensures) in
     record {
-      memories = at-land .land .ensures ∙ ap (λ (l : List Carried). landed l (memory (now (a .ram)) (now (a .parity)))) (d .2);
+      memories = at-land .land .ensures ∙ ap (λ (l : List Carried). landed [] l (memory (now (a .ram)) (now (a .parity)))) (d .2);
       those = d .2;
       lefts = d .3;
       above = d

@@ -12,8 +12,8 @@ mul-base c = search needs
 add-base : tie.Need-add-base
 add-base c = search needs
 
-store-lanes-requires : tie.Need-store-lanes-requires
-store-lanes-requires c κs = search needs
+store-writable-requires : tie.Need-store-writable-requires
+store-writable-requires c κs = search needs
 
 write-cycles-requires : tie.Need-write-cycles-requires
 write-cycles-requires c κs = search needs
@@ -33,7 +33,7 @@ returns c =
     let at-store = at-cycles .before .before .before .before .before .before in
     let w = at-store .before .before .before .before .before .before .before .before .before .before .args .w in
     let t = at-cycles .write-cycles .ensures in
-    (rw (lane-place (w .line) (w .from)) at (at-store .store-lanes .ensures), t .0, t .2)
+    (rw (lane-place (w .line) (w .from)) at (at-store .store-writable .ensures), t .0, t .2)
 
 pub write-through-spec : {M : Type 1} → statement M
 write-through-spec =
@@ -42,7 +42,7 @@ write-through-spec =
     cast-line
     mul-base
     add-base
-    store-lanes-requires
+    store-writable-requires
     write-cycles-requires
     same-length
     same-length-2
