@@ -1,9 +1,10 @@
-// Test calls on a directory whose arrays are lent. Neither looks at NW, and a test write not at the LRU numbers: the contracts hold
-// whatever those are.
+// Test calls on a directory whose arrays are lent. Neither looks at NW or the ranges, and a test write not at the LRU numbers: the
+// contracts hold whatever those are.
 ghost use mathlib.Core.Path.{_≡_};
 ghost use mathlib.Core.Bool.{Bool};
 ghost use mathlib.Core.List.{List, []};
 ghost use Prim.Native.Nat.{ℕ};
+ghost use Rattle.ranges.specs.declared.Ranges.{Ranges};
 ghost use Rattle.directory.specs.Outcome.{outcome};
 ghost use Rattle.directory.specs.Steps.{directoryOf, lentDirectory};
 ghost use Rattle.memory.specs.Parity.{Memory};
@@ -29,8 +30,9 @@ pub fn test_write_in_place(
     mark: bool,
     bytes: &[u8; 16],
 ) -> u32
-    ensures { λ r. ⌜ ((lru : List ℕ) (nw : Bool) (m : Memory) → after (outcome (directoryOf (now (tags .exit)) (now (valid .exit)) lru cd nw) r 0 0) m (now («data» .exit)) []
-        ≡ testWriteCall (state (directoryOf (now (tags .entry)) (now (valid .entry)) lru cd nw) m (now («data» .entry))) set way tag mark (now (bytes .entry))) ⌝ }
+    ensures { λ r. ⌜ ((lru : List ℕ) (nw : Bool) (ranges : Ranges) (m : Memory) →
+        after (outcome (directoryOf (now (tags .exit)) (now (valid .exit)) lru cd nw ranges) r 0 0) m (now («data» .exit)) []
+        ≡ testWriteCall (state (directoryOf (now (tags .entry)) (now (valid .entry)) lru cd nw ranges) m (now («data» .entry))) set way tag mark (now (bytes .entry))) ⌝ }
 {
     let number = test_write_number(data.len(), cd, set, way, tag);
     if number != 0 {
@@ -63,7 +65,7 @@ pub fn test_read_in_place<'a>(
     set: u32,
     way: u32,
 ) -> TestLine
-    ensures { λ r. ⌜ ((nw : Bool) → r ≡ testReadLine (lentDirectory (tags .entry) (valid .entry) (lru .entry) cd nw) (now («data» .entry)) set way) ⌝ }
+    ensures { λ r. ⌜ ((nw : Bool) (ranges : Ranges) → r ≡ testReadLine (lentDirectory (tags .entry) (valid .entry) (lru .entry) cd nw ranges) (now («data» .entry)) set way) ⌝ }
 {
     let number = test_read_number(data.len(), cd, set, way);
     let mut bytes = [0u8; 16];

@@ -22,7 +22,7 @@ fn control_row(cd: bool, nw: bool) {
     label(b"control");
     flag(cd);
     flag(nw);
-    let result = Directory::reset().control(cd, nw);
+    let result = Directory::first().control(cd, nw);
     number(result.number as u64);
     flag(result.directory.cd);
     flag(result.directory.nw);
@@ -51,7 +51,7 @@ fn snoop_row(cd: bool, nw: bool) {
 
 // The pair CD = 0, NW = 1, which a control call refuses, is wanted here too.
 fn two_lines(cd: bool, nw: bool) -> Directory {
-    let mut d = Directory::reset().with_control(cd, nw);
+    let mut d = Directory::first().with_control(cd, nw);
     d = with_line(d, SET, 1, 7);
     d = with_line(d, SET, 2, 9);
     with_lru(d, SET, 3)

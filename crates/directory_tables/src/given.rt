@@ -34,7 +34,7 @@ pub fn with_lru(mut d: Directory, set: usize, lru: u8) -> Directory
 
 // A reset directory but for SET, whose ways are valid with tags 10 to 13.
 pub fn full_set(lru: u8) -> Directory {
-    let mut d = Directory::reset();
+    let mut d = Directory::first();
     d = with_line(d, SET, 0, 10);
     d = with_line(d, SET, 1, 11);
     d = with_line(d, SET, 2, 12);

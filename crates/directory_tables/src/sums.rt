@@ -15,7 +15,7 @@ use ways::SETS;
 
 pub fn reset_row() {
     label(b"reset");
-    end_with_sums(Directory::reset());
+    end_with_sums(Directory::first());
 }
 
 // Lines of two sets are valid before the flush.

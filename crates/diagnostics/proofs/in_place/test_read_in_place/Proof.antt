@@ -11,9 +11,9 @@ test-read-number-requires : tie.Need-test-read-number-requires
 test-read-number-requires c κs = search needs
 
 returns : tie.Need-returns
-returns c nw =
+returns c nw ranges =
     let a = c .before .before .before .args in
-    read-refused (directoryOf (now (a .tags)) (now (a .valid)) (now (a .lru)) (a .cd) nw) (now (a .«data»)) (a .set) (a .way) _
+    read-refused (directoryOf (now (a .tags)) (now (a .valid)) (now (a .lru)) (a .cd) nw ranges) (now (a .«data»)) (a .set) (a .way) _
     (c .before .test-read-number .ensures) (c .if1 .taken)
 
 -- the line is one of the directory's
@@ -48,12 +48,12 @@ element-copy-out-t26 : tie.Need-element-copy-out-t26
 element-copy-out-t26 c = let p = place (c .before .before .before .before .before .before) in omega arith
 
 returns-2 : tie.Need-returns-2
-returns-2 c nw =
+returns-2 c nw ranges =
     let at-copy-line = c .before .before .before .before in
     let at-line-offset = at-copy-line .before .before in
     let k = at-line-offset .before in
     let a = k .before .before .before .args in
-    read-made (directoryOf (now (a .tags)) (now (a .valid)) (now (a .lru)) (a .cd) nw) (now (a .«data»)) (a .set) (a .way) _
+    read-made (directoryOf (now (a .tags)) (now (a .valid)) (now (a .lru)) (a .cd) nw ranges) (now (a .«data»)) (a .set) (a .way) _
     (k .before .test-read-number .ensures) (k .if1 .left) _ (at-line-offset .line-offset .ensures .0) _ (at-copy-line .copy-line .ensures)
 
 pub test-read-in-place-spec : {M : Type 1} → statement M

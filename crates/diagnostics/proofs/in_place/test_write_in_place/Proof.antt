@@ -12,9 +12,9 @@ test-write-number-requires : tie.Need-test-write-number-requires
 test-write-number-requires c κs = search needs
 
 returns : tie.Need-returns
-returns c lru nw m =
+returns c lru nw ranges m =
     let a = c .before .before .before .args in
-    write-refused (state (directoryOf (now (a .tags)) (now (a .valid)) lru (a .cd) nw) m (now (a .«data»))) (a .set) (a .way) (a .tag) (a .mark) (now (a .bytes)) _
+    write-refused (state (directoryOf (now (a .tags)) (now (a .valid)) lru (a .cd) nw ranges) m (now (a .«data»))) (a .set) (a .way) (a .tag) (a .mark) (now (a .bytes)) _
     (c .before .test-write-number .ensures) (c .if1 .taken)
 
 -- the line is one of the directory's
@@ -34,14 +34,14 @@ same-length : tie.Need-same-length
 same-length c = search needs
 
 returns-2 : tie.Need-returns-2
-returns-2 c lru nw m =
+returns-2 c lru nw ranges m =
     let at-copy-line = c .before .before .before .before .before in
     let at-line-offset = at-copy-line .before in
     let k = at-line-offset .before .before .before in
     let a = k .before .before .before .args in
     let whole : length (now (a .bytes)) ≡ 16 = search needs in
-    write-made (state (directoryOf (now (a .tags)) (now (a .valid)) lru (a .cd) nw) m (now (a .«data»))) (a .set) (a .way) (a .tag) (a .mark) (now (a .bytes)) _
-    (k .before .test-write-number .ensures) (k .if1 .left) whole _ (c .line-in-place .ensures lru (a .cd) nw)
+    write-made (state (directoryOf (now (a .tags)) (now (a .valid)) lru (a .cd) nw ranges) m (now (a .«data»))) (a .set) (a .way) (a .tag) (a .mark) (now (a .bytes)) _
+    (k .before .test-write-number .ensures) (k .if1 .left) whole _ (c .line-in-place .ensures lru (a .cd) nw ranges)
     _ (at-line-offset .line-offset .ensures .0) _ (at-copy-line .copy-line .ensures)
 
 pub test-write-in-place-spec : {M : Type 1} → statement M
