@@ -21,7 +21,7 @@ use Rattle.directory.specs.Outcome.{outcome}
 use Rattle.refusal.specs.Call.{State, state, after, refused}
 use Rattle.access.specs.Access.{Progress, progress, allOf, writeOne, accepted, readNumber, writeNumber, readAll, writeAll, operandOf, readCall, writeCall}
 use Rattle.doubleword.specs.Cursor.{accessBegin, AccessNeeds}
-use Rattle.refusal.proofs.Accepted.{or-zero, lent-accepted, arguments-accepted}
+use Rattle.refusal.proofs.Accepted.{or-zero, zero-or, lent-accepted, arguments-accepted}
 use Rattle.access.proofs.Alone.{oneAlone, each-alone, number-alone}
 use Rattle.access.proofs.AccessLoop.{restOf, AccessInvariant, access-invariant-begin, access-invariant-end, all-done}
 use Rattle.access.proofs.WriteLoop.{WriteKept}
@@ -100,15 +100,28 @@ module _ (d : Directory) (m : Memory) (array : List ℕ) (address width : ℕ) (
         operands = omega (arith, r .within);
       }
 
-  module _ (pcd : Bool) where
-    abbrev readsNumber : ℕ
-    readsNumber = orElse lent (orElse argument states)
+  abbrev readsNumber : ℕ
+  readsNumber = orElse lent (orElse argument states)
 
-    pub read-begin : readsNumber ≡ 0 → ReadKept pcd answers (allOf (oneAlone pcd) s (restOf (accessBegin address width) answers)) log array m (accessBegin address width) d array log 0
-    read-begin z =
+  -- a read's number without 37 and 38 of the ranges, which tell a read without writes nothing more
+  abbrev unrangedNumber : ℕ
+  unrangedNumber = orElse lent (orElse argument (statesNumberOf d address width))
+
+  pub ranges-apart : readsNumber ≡ 0 → (keptNumber (length (m .ram)) (d .ranges) ≡ 0) × (unrangedNumber ≡ 0)
+  ranges-apart z =
+      let later = statesNumberOf d address width in
+      let k = or-zero (keptNumber (length (m .ram)) (d .ranges)) later (or-zero argument states (or-zero lent (orElse argument states) z .1) .1) .0 in
+      (k, ap (λ (n : ℕ). orElse lent (orElse argument n)) (sym (zero-or (keptNumber (length (m .ram)) (d .ranges)) later k)) ∙ z)
+
+  pub ranges-among : keptNumber (length (m .ram)) (d .ranges) ≡ 0 → unrangedNumber ≡ 0 → readsNumber ≡ 0
+  ranges-among k z = ap (λ (n : ℕ). orElse lent (orElse argument n)) (zero-or (keptNumber (length (m .ram)) (d .ranges)) (statesNumberOf d address width) k) ∙ z
+
+  module _ (pcd : Bool) where
+    pub read-begin : (later : ℕ) → orElse lent (orElse argument later) ≡ 0 → ReadKept pcd answers (allOf (oneAlone pcd) s (restOf (accessBegin address width) answers)) log array m (accessBegin address width) d array log 0
+    read-begin later z =
         record {
           reading = reading-begin (allOf (oneAlone pcd) s (restOf (accessBegin address width) answers)) log;
-          needs = needs-begin states z;
+          needs = needs-begin later z;
           arrays = refl;
           logs = refl;
         }

@@ -3,7 +3,7 @@ ghost use mathlib.Core.Path.{_≡_};
 ghost use mathlib.Core.List.{[]};
 ghost use lib.ListN.{length};
 ghost use Rattle.memory.specs.Parity.{lentMemory};
-ghost use Rattle.refusal.specs.Refusal.{argumentNumber, lentNumber, orElse, statesNumberOf};
+ghost use Rattle.refusal.specs.Refusal.{argumentNumber, keptNumber, lentNumber, orElse, statesNumberOf};
 ghost use Rattle.refusal.specs.Call.{after, state};
 ghost use Rattle.access.specs.Access.{readCall};
 use directory::Directory;
@@ -28,7 +28,8 @@ fn read_all(
     log: &mut [u32],
 ) -> Outcome
     requires { ⌜ orElse (lentNumber (length (now ram)) (length (now parity)) (length (now «data»)))
-        (orElse (argumentNumber (length (now ram)) address width (now answers) (length (now log))) (statesNumberOf given address width)) ≡ 0 ⌝ }
+        (orElse (argumentNumber (length (now ram)) address width (now answers) (length (now log)))
+        (orElse (keptNumber (length (now ram)) (given .ranges)) (statesNumberOf given address width))) ≡ 0 ⌝ }
     ensures { λ r. ⌜ after r (lentMemory (ram .entry) (parity .entry)) (now («data» .exit)) (now (log .exit))
         ≡ readCall (state given (lentMemory (ram .entry) (parity .entry)) (now («data» .entry))) address width pcd (now (answers .entry)) (now (log .entry)) [] ⌝ }
 {
@@ -81,6 +82,8 @@ pub fn read(
         &given.tags,
         &given.valid,
         &given.lru,
+        given.ranges.count,
+        &given.ranges.bounds,
         ram,
         parity,
         data,

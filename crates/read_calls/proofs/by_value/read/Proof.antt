@@ -20,7 +20,7 @@ same-length-2 c = search needs
 returns : tie.Need-returns
 returns c =
     let at-number = c .before .before in
-    let a = at-number .before .before .before .before .before .before .before .before .before .before .before .before .args in
+    let a = at-number .before .before .before .before .before .before .before .before .before .before .before .before .before .args in
     rw (c .answered .ensures)
     (read-turned (a .t1) (memory (now (a .ram)) (now (a .parity))) (now (a .«data»)) (a .address) (a .width) (now (a .answers)) (now (a .log))
     (a .pcd) _ (at-number .read-number .ensures) (c .before .if1 .taken))

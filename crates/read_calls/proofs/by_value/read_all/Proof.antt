@@ -32,7 +32,7 @@ loop-holds c =
     let a = start .args in
     rw (c .begin .ensures)
     (read-begin (a .t1) (memory (now (a .ram)) (now (a .parity))) (now (a .«data»)) (a .address) (a .width) (now (a .answers)) (now (a .log))
-    (a .pcd) (start .pre))
+    (a .pcd) _ (start .pre))
 
 read-next-requires : tie.Need-read-next-requires Inv-loop μ-loop
 read-next-requires c κs =
