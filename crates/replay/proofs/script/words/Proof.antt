@@ -28,8 +28,8 @@ returns c = counts _ _ (omega arith)
 number-requires : tie.Need-number-requires Inv-loop μ-loop
 number-requires c κs = search needs
 
-low-byte-requires : tie.Need-low-byte-requires Inv-loop μ-loop
-low-byte-requires c κs = search needs
+mul-values : tie.Need-mul-values Inv-loop μ-loop
+mul-values c = search needs
 
 slice-write-values : tie.Need-slice-write-values Inv-loop μ-loop
 slice-write-values c = search needs
@@ -60,7 +60,7 @@ words-spec =
     same-length
     returns
     number-requires
-    low-byte-requires
+    mul-values
     slice-write-values
     add-k
     loop-less

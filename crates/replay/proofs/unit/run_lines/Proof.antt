@@ -11,8 +11,8 @@ Inv-loop script begin ram₀ parity₀ data₀ log₀ d₀ at₀ ram parity «da
 abbrev μ-loop : tie.MeasureT-loop
 μ-loop script begin ram₀ parity₀ data₀ log₀ d₀ at₀ ram parity «data» log d at = length script - at
 
-reset-requires : tie.Need-reset-requires Inv-loop μ-loop
-reset-requires c κs = search needs
+first-requires : tie.Need-first-requires Inv-loop μ-loop
+first-requires c κs = search needs
 
 loop-holds : tie.Need-loop-holds Inv-loop μ-loop
 loop-holds c = search needs
@@ -77,7 +77,7 @@ run-lines-spec =
     (tie.spec
     Inv-loop
     μ-loop
-    reset-requires
+    first-requires
     loop-holds
     shared-slice-read-if1
     line-end-requires
