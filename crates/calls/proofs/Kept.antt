@@ -14,7 +14,8 @@ use Rattle.ways.specs.Address.{setOf, tagOf, lineOffset, dataOffset}
 use Rattle.directory.specs.Steps.{rangesKept, lookupOf, victimOf, stateNumberOf, afterUse, withRanges, afterReset, afterControl, afterSnoop, controlRefused}
 use Rattle.directory.specs.WellFormed.{WithinLimits}
 use Rattle.ways.proofs.FourWays.{victim-below}
-use Rattle.directory.proofs.Laws.{lookup-at, reset-control, reset-ranges, reset-limits, ranges-set, ranges-control, ranges-limits, use-control, use-ranges, use-limits, line-control, line-ranges, line-limits, fill-control, fill-ranges, fill-address-limits, control-ranges, control-limits, control-disabled, control-accepted, control-refused, flush-control, flush-ranges, flush-limits, snoop-ranges, snoop-control, snoop-limits, snoop-accepted, snoop-refused}
+use Rattle.directory.proofs.Laws.{lookup-at, reset-control, reset-ranges, reset-limits, ranges-set, ranges-control, ranges-limits, use-control, use-ranges, use-limits}
+use Rattle.directory.proofs.Laws.{line-control, line-ranges, line-limits, fill-control, fill-ranges, fill-address-limits, control-ranges, control-limits, control-disabled, control-accepted, control-refused, flush-control, flush-ranges, flush-limits, snoop-ranges, snoop-control, snoop-limits, snoop-accepted, snoop-refused}
 use Rattle.words.specs.Bytes.{bytesAt}
 use Rattle.ranges.specs.Ranges.{Range}
 use Rattle.memory.specs.Parity.{Agrees, written}

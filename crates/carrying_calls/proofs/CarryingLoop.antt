@@ -1,4 +1,4 @@
--- Laws of the loops over the doublewords of a read that carries writes.
+-- Laws of the loops over the doublewords of a read that carries writes, by the bytes that RAM takes of each: no range is asked in them.
 use Prim.Native.Nat.{ℕ, _+_, _*_, _^_, _≤_, _<_}
 use mathlib.Core.Path.{_≡_, refl, sym, _∙_, ap}
 use mathlib.Core.Bool.{Bool, not, _&&_}
@@ -11,11 +11,11 @@ use Rattle.ways.specs.declared.ways.Found.the-variants.{At, Nothing}
 use Rattle.ways.proofs.FourWays.{lookup-below}
 use Rattle.directory.specs.declared.steps.Directory.{Directory}
 use Rattle.directory.specs.Outcome.{outcome}
-use Rattle.directory.specs.Steps.{lookupOf, victimOf}
+use Rattle.directory.specs.Steps.{lookupOf, victimOf, rangesKept}
 use Rattle.words.specs.Bytes.{valueOf}
 use Rattle.memory.specs.Parity.{Memory}
 use Rattle.carried.specs.declared.CarriedWrites.{CarriedWrites}
-use Rattle.carried.specs.Carried.{Carried, due, later, landed}
+use Rattle.carried.specs.Carried.{Carried, due, later, landed, taken}
 use Rattle.carried.specs.CarriedCode.{carriedOf, leftFrom, CarriedNeeds}
 use Rattle.carried.proofs.Due.{due-zero, due-none}
 use Rattle.bus.specs.Groups.{groupCount, widest}
@@ -26,13 +26,14 @@ use Rattle.doubleword.specs.Doubleword.{Doubleword, Done, doublewordsOf, change
 use Rattle.doubleword.specs.Cursor.{lineAddress, countOf, accessBegin, accessNext, nextDoubleword, AccessNeeds}
 use Rattle.doubleword.proofs.Cursors.{needs-lengths, needs-more, cursor-needs}
 use Rattle.reading.specs.Reading.{keptArray, readHit, readMiss, settled, readDone}
-use Rattle.refusal.specs.Refusal.{orElse, lentNumber, argumentNumber, carriedNumber, statesNumberOf, carriedStatesNumber}
+use Rattle.refusal.specs.Refusal.{orElse, lentNumber, argumentNumber, carriedNumber, keptNumber, statesNumberOf, carriedStatesNumber}
 use Rattle.refusal.specs.Call.{State, state, after, refused}
 use Rattle.refusal.proofs.Accepted.{or-zero, lent-accepted}
 use Rattle.refusal.proofs.Carried.{all-left, carried-accepted}
 use Rattle.access.specs.Access.{Progress, progress, thenRest, UnderWay, underWay, snoopedBy, directoryAfter, readOne, readNext, landedAfter, readEach, readNumber, readAll, readCall, accepted}
 use Rattle.access.proofs.AccessLoop.{restOf, rest-next, rest-done}
 use Rattle.access.proofs.Alone.{done-length}
+use Rattle.access.proofs.Landing.{carried-lines, each-taken}
 use Rattle.access.proofs.ReadLoop.{ReadInvariant, reading-begin, reading-next, reading-end, number-fits}
 use Rattle.access.proofs.Calls.{read-refused, read-done, whole, needs-begin}
 use Rattle.carrying.specs.declared.next.CarriedRead.{CarriedRead}
@@ -51,9 +52,9 @@ record Whole (done : Done) (b : Begun) (change : Change) (m′ : Memory) (array�
 in-stages : (f : Found) (victim : ℕ → ℕ) (mayFill : Bool) (m : Memory) (ws : List Carried) (first : ℕ) (array : List ℕ) (w : Doubleword) → due first ws ≡ [] →
     let b = begunBy f mayFill m ws first array w in
     let n = length (b .records) in
-    Whole (readDone f (victim (length (readMiss mayFill m ws first w .records))) mayFill m ws first array w) b
+    Whole (readDone f (victim (length (readMiss mayFill [] m ws first w .records))) mayFill [] m ws first array w) b
     (settledChange (b .kept) (victim n) f)
-    (landed (due (first + n) ws) m)
+    (landed [] (due (first + n) ws) m)
     (keptArray (b .kept) (victim n) (w .line) (b .buffer) array)
 unfolding begunBy readDone readHit settled landed
 in-stages (At way) victim mayFill m ws first array w none =
@@ -80,25 +81,25 @@ module _ (pcd : Bool) (xs : List ℕ) (carried : CarriedWrites) (cursor : Access
   begun = begunBy found (not (d .cd) && not pcd) m (leftFrom carried from) (cursor .cycles) array w
 
   abbrev done : Done
-  done = readOne pcd u w
+  done = readOne pcd [] u w
 
   -- all doublewords left are the next one and those after it
-  each-next : 0 < cursor .left → cursor .group < groupCount → (n : ℕ) → readEach pcd u (restOf cursor xs) ≡ thenRest done (readEach pcd (readNext u w done) (restOf (accessNext cursor (countOf cursor) n) xs))
+  each-next : 0 < cursor .left → cursor .group < groupCount → (n : ℕ) → readEach pcd [] u (restOf cursor xs) ≡ thenRest done (readEach pcd [] (readNext u w done) (restOf (accessNext cursor (countOf cursor) n) xs))
   unfolding readEach
   each-next some more n = rw (rest-next cursor xs n some more)
 
-  each-done : cursor .left ≡ 0 → readEach pcd u (restOf cursor xs) ≡ progress (landedAfter u) [] []
+  each-done : cursor .left ≡ 0 → readEach pcd [] u (restOf cursor xs) ≡ progress (landedAfter [] u) [] []
   unfolding readEach
   each-done z = rw (rest-done cursor xs z)
 
   one-length : length (done .bytes) ≡ countOf cursor
   unfolding readOne
-  one-length = done-length _ _ _ _ _ _ _ w
+  one-length = done-length _ _ _ _ _ _ _ _ w
 
   module _ (none : due (cursor .cycles) (leftFrom carried from) ≡ []) {r : CarriedRead} {m′ : Memory} {log′ : List ℕ} (k : CarriedNext found begun carried from m cursor log r m′ log′) where
     whole-done : Whole done begun
         (settledChange (begun .kept) (victimOf (directoryAfter u (length (begun .records))) (setOf (lineAddress cursor))) found)
-        (landed (due (cursor .cycles + length (begun .records)) (leftFrom carried from)) m)
+        (landed [] (due (cursor .cycles + length (begun .records)) (leftFrom carried from)) m)
         (keptArray (begun .kept) (victimOf (directoryAfter u (length (begun .records))) (setOf (lineAddress cursor))) (lineAddress cursor) (begun .buffer) array)
     unfolding readOne
     whole-done = in-stages found (λ n. victimOf (directoryAfter u n) (setOf (lineAddress cursor))) (not (d .cd) && not pcd) m (leftFrom carried from) (cursor .cycles) array w none
@@ -128,7 +129,7 @@ module _ (pcd : Bool) (xs : List ℕ) (carried : CarriedWrites) (cursor : Access
           ∙ ap (λ (n : ℕ). changed (directoryAfter u n) (lineAddress cursor) (done .change)) (ap length (whole-done .records))
 
       memories : m′ ≡ done .memory
-      memories = k .lands .memories ∙ ap (λ (n : ℕ). landed (due (cursor .cycles + n) (leftFrom carried from)) m) (k .made) ∙ whole-done .memories
+      memories = k .lands .memories ∙ ap (λ (n : ℕ). landed [] (due (cursor .cycles + n) (leftFrom carried from)) m) (k .made) ∙ whole-done .memories
 
       arrays : array′ ≡ done .array
       arrays = (rw (snooped, k .line, k .kept, k .buffers) at (e .arrays)) ∙ whole-done .arrays
@@ -141,7 +142,7 @@ module _ (pcd : Bool) (xs : List ℕ) (carried : CarriedWrites) (cursor : Access
 
 -- the loop of a read that carries writes, with the lengths of its buffers
 pub record CarryKept (pcd : Bool) (xs : List ℕ) (carried : CarriedWrites) (p : Progress) (log₀ array₀ : List ℕ) (m₀ : Memory) (cursor : AccessCursor) (d : Directory) (m : Memory) (array log : List ℕ) (value from : ℕ) : Type 0 where
-  pub reading : ReadInvariant (readEach pcd (underWay (state d m array) (leftFrom carried from) (cursor .cycles)) (restOf cursor xs)) p log₀ (cursor .place) (cursor .cycles) log value
+  pub reading : ReadInvariant (readEach pcd [] (underWay (state d m array) (leftFrom carried from) (cursor .cycles)) (restOf cursor xs)) p log₀ (cursor .place) (cursor .cycles) log value
   pub needs : AccessNeeds cursor (length (m₀ .ram)) (length (m₀ .parity)) (length array₀) (length xs) (length log₀)
   pub writes : CarriedNeeds carried (length (m₀ .ram)) (length (m₀ .parity))
   pub none : due (cursor .cycles) (leftFrom carried from) ≡ []
@@ -202,58 +203,74 @@ pub ended-by : {carried : CarriedWrites} {from : ℕ} {read : CarriedRead} {d : 
 ended-by {read = read} d₁ change es ec ed ea = record { directories = rw (← es) (ed ∙ ap (changed d₁ (read .line)) ec); arrays = rw (← es) ea }
 
 -- the call by the number that the code has asked for
-module _ (d : Directory) (m : Memory) (array : List ℕ) (address width : ℕ) (answers log : List ℕ) (pcd : Bool) (carried : CarriedWrites) where
+module _ (d : Directory) (m : Memory) (array : List ℕ) (address width : ℕ) (answers log : List ℕ) (pcd : Bool) where
   abbrev s : State
   s = state d m array
 
-  abbrev lent : ℕ
-  lent = lentNumber (length (m .ram)) (length (m .parity)) (length array)
+  abbrev pub allCarried : CarriedWrites → Progress
+  allCarried c = readEach pcd [] (underWay s (leftFrom c 0) 0) (restOf (accessBegin address width) answers)
 
-  abbrev argument : ℕ
-  argument = argumentNumber (length (m .ram)) address width answers (length log)
+  module _ (carried : CarriedWrites) where
+    abbrev lent : ℕ
+    lent = lentNumber (length (m .ram)) (length (m .parity)) (length array)
 
-  abbrev wrong : ℕ
-  wrong = carriedNumber (length (m .ram)) (carriedOf carried)
+    abbrev argument : ℕ
+    argument = argumentNumber (length (m .ram)) address width answers (length log)
 
-  abbrev states : ℕ
-  states = orElse (statesNumberOf d address width) (carriedStatesNumber d (carriedOf carried))
+    abbrev wrong : ℕ
+    wrong = carriedNumber (length (m .ram)) (carriedOf carried)
 
-  abbrev number : ℕ
-  number = orElse lent (orElse argument (orElse wrong states))
+    -- of the ranges that the directory keeps, then of the touched sets
+    abbrev states : ℕ
+    states = orElse (keptNumber (length (m .ram)) (d .ranges)) (orElse (statesNumberOf d address width) (carriedStatesNumber d (carriedOf carried)))
 
-  abbrev pub allCarried : Progress
-  allCarried = readEach pcd (underWay s (leftFrom carried 0) 0) (restOf (accessBegin address width) answers)
+    abbrev number : ℕ
+    number = orElse lent (orElse argument (orElse wrong states))
 
-  pub carry-begin : number ≡ 0 → CarryKept pcd answers carried allCarried log array m (accessBegin address width) d m array log 0 0
-  carry-begin z =
-      let p = or-zero lent (orElse argument (orElse wrong states)) z in
-      let q = or-zero argument (orElse wrong states) (p .1) in
-      let l = lent-accepted _ _ _ (p .0) .0 in
-      record {
-        reading = reading-begin allCarried log;
-        needs = needs-begin d m array address width answers log (orElse wrong states) z;
-        writes = carried-accepted carried _ _ (or-zero wrong states (q .1) .0) (omega (arith, l .bits, l .whole));
-        none = due-zero (leftFrom carried 0);
-        within = omega arith;
-        rams = refl;
-        parities = refl;
-        arrays = refl;
-        logs = refl;
-      }
+    pub carry-turned : (k : ℕ) → k ≡ number → (k ≡ 0 → ⊥) → refused k s log ≡ readCall s address width pcd answers log (carriedOf carried)
+    unfolding readNumber
+    carry-turned k e h = sym (rw (← e) at (read-refused s address width pcd answers log (carriedOf carried) (λ z. h (e ∙ z))))
 
-  pub carry-turned : (k : ℕ) → k ≡ number → (k ≡ 0 → ⊥) → refused k s log ≡ readCall s address width pcd answers log (carriedOf carried)
-  unfolding readNumber
-  carry-turned k e h = sym (rw (← e) at (read-refused s address width pcd answers log (carriedOf carried) (λ z. h (e ∙ z))))
+    module _ (z : number ≡ 0) where
+      not-wrong : wrong ≡ 0
+      not-wrong = or-zero wrong states (or-zero argument (orElse wrong states) (or-zero lent (orElse argument (orElse wrong states)) z .1) .1) .0
 
-  -- what is left of the writes has landed and is snooped
-  pub carry-made : number ≡ 0 → {cursor : AccessCursor} {d₁ : Directory} {m₁ : Memory} {array₁ log₁ : List ℕ} {value from : ℕ} → CarryKept pcd answers carried allCarried log array m cursor d₁ m₁ array₁ log₁ value from →
-      cursor .left ≡ 0 → (d₂ : Directory) (m₂ : Memory) → d₂ ≡ snoopedBy (leftFrom carried from) d₁ → m₂ ≡ landed (leftFrom carried from) m₁ →
-      after (outcome d₂ 0 value (cursor .cycles)) m₂ array₁ log₁ ≡ readCall s address width pcd answers log (carriedOf carried)
-  unfolding readNumber readAll restOf landedAfter
-  carry-made z {cursor} {d₁} {m₁} {array₁} {log₁} {value} {from} g e d₂ m₂ ed em =
-      let words = doublewordsOf groupCount answers address width 0 in
-      let l : state (snoopedBy (leftFrom carried from) d₁) (landed (leftFrom carried from) m₁) array₁ ≡ state d₂ m₂ array₁ = rw (ed, em) in
-      let n = each-done pcd answers carried cursor d₁ m₁ array₁ log₁ from e ∙ ap (λ (t : State). progress t [] []) l in
-      whole (g .reading .invariant) d₂ m₂ array₁ n value (valueOf (allCarried .bytes)) (reading-end (g .reading) (state d₂ m₂ array₁) n)
-      ∙ ap (λ (ws : List Carried). accepted (valueOf (readEach pcd (underWay s ws 0) words .bytes)) (readEach pcd (underWay s ws 0) words) log) (all-left carried)
-      ∙ sym (read-done s address width pcd answers log (carriedOf carried) z)
+      carry-needs : CarriedNeeds carried (length (m .ram)) (length (m .parity))
+      carry-needs =
+          let l = lent-accepted _ _ _ (or-zero lent (orElse argument (orElse wrong states)) z .0) .0 in
+          carried-accepted carried _ _ not-wrong (omega (arith, l .bits, l .whole))
+
+      pub carry-few : carried .count ≤ 4
+      carry-few = carry-needs .few
+
+      -- by the bytes that RAM takes
+      module _ (c : CarriedWrites) where
+        pub carry-begin : ((ram parity : ℕ) → CarriedNeeds carried ram parity → CarriedNeeds c ram parity) → CarryKept pcd answers c (allCarried c) log array m (accessBegin address width) d m array log 0 0
+        carry-begin fits =
+            record {
+              reading = reading-begin (allCarried c) log;
+              needs = needs-begin d m array address width answers log (orElse wrong states) z;
+              writes = fits _ _ carry-needs;
+              none = due-zero (leftFrom c 0);
+              within = omega arith;
+              rams = refl;
+              parities = refl;
+              arrays = refl;
+              logs = refl;
+            }
+
+        -- what is left of the writes has landed and is snooped
+        pub carry-made : carriedOf c ≡ taken (rangesKept d) (carriedOf carried) → {cursor : AccessCursor} {d₁ : Directory} {m₁ : Memory} {array₁ log₁ : List ℕ} {value from : ℕ} →
+            CarryKept pcd answers c (allCarried c) log array m cursor d₁ m₁ array₁ log₁ value from → cursor .left ≡ 0 → (d₂ : Directory) (m₂ : Memory) → d₂ ≡ snoopedBy (leftFrom c from) d₁ → m₂ ≡ landed [] (leftFrom c from) m₁ →
+            after (outcome d₂ 0 value (cursor .cycles)) m₂ array₁ log₁ ≡ readCall s address width pcd answers log (carriedOf carried)
+        unfolding readNumber readAll restOf landedAfter
+        carry-made ec {cursor} {d₁} {m₁} {array₁} {log₁} {value} {from} g e d₂ m₂ ed em =
+            let words = doublewordsOf groupCount answers address width 0 in
+            let l : state (snoopedBy (leftFrom c from) d₁) (landed [] (leftFrom c from) m₁) array₁ ≡ state d₂ m₂ array₁ = rw (ed, em) in
+            let n = each-done pcd answers c cursor d₁ m₁ array₁ log₁ from e ∙ ap (λ (t : State). progress t [] []) l in
+            let q : allCarried c ≡ readEach pcd (rangesKept d) (underWay s (carriedOf carried) 0) words =
+            ap (λ (ws : List Carried). readEach pcd [] (underWay s ws 0) words) (all-left c ∙ ec)
+            ∙ sym (each-taken (rangesKept d) pcd s (carriedOf carried) 0 (carried-lines (length (m .ram)) (carriedOf carried) not-wrong) words) in
+            whole (g .reading .invariant) d₂ m₂ array₁ n value (valueOf (allCarried c .bytes)) (reading-end (g .reading) (state d₂ m₂ array₁) n)
+            ∙ ap (λ (p : Progress). accepted (valueOf (p .bytes)) p log) q
+            ∙ sym (read-done s address width pcd answers log (carriedOf carried) z)

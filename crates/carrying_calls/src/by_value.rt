@@ -4,12 +4,13 @@ ghost use Prim.Native.Nat.{_≤_};
 ghost use lib.ListN.{length};
 ghost use Rattle.memory.specs.Parity.{lentMemory};
 ghost use Rattle.carried.specs.CarriedCode.{carriedOf};
-ghost use Rattle.refusal.specs.Refusal.{argumentNumber, carriedNumber, carriedStatesNumber, lentNumber, orElse, statesNumberOf};
+ghost use Rattle.refusal.specs.Refusal.{argumentNumber, carriedNumber, carriedStatesNumber, keptNumber, lentNumber, orElse, statesNumberOf};
 ghost use Rattle.refusal.specs.Call.{after, state};
 ghost use Rattle.access.specs.Access.{readCall};
 ghost use Rattle.carrying_calls.specs.CarryingCalls.{EndNeeds, Ended, snoopedTo};
 use carried::CarriedWrites;
 use carried::land;
+use carried::taken_writes;
 use carrying::CarriedRead;
 use carrying::carried_next;
 use carrying::settle;
@@ -55,7 +56,7 @@ fn ended(
     }
 }
 
-// The doublewords of a read whose number is 0, and the writes left after them.
+// The doublewords of a read whose number is 0, and the writes left after them, by the bytes that RAM takes of each.
 fn read_all(
     mut given: Directory,
     ram: &mut [u8],
@@ -70,10 +71,12 @@ fn read_all(
 ) -> Outcome
     requires { ⌜ orElse (lentNumber (length (now ram)) (length (now parity)) (length (now «data»)))
         (orElse (argumentNumber (length (now ram)) address width (now answers) (length (now log)))
-        (orElse (carriedNumber (length (now ram)) (carriedOf carried)) (orElse (statesNumberOf given address width) (carriedStatesNumber given (carriedOf carried))))) ≡ 0 ⌝ }
+        (orElse (carriedNumber (length (now ram)) (carriedOf carried))
+        (orElse (keptNumber (length (now ram)) (given .ranges)) (orElse (statesNumberOf given address width) (carriedStatesNumber given (carriedOf carried)))))) ≡ 0 ⌝ }
     ensures { λ r. ⌜ after r (lentMemory (ram .exit) (parity .exit)) (now («data» .exit)) (now (log .exit))
         ≡ readCall (state given (lentMemory (ram .entry) (parity .entry)) (now («data» .entry))) address width pcd (now (answers .entry)) (now (log .entry)) (carriedOf carried) ⌝ }
 {
+    let taken = taken_writes(carried, given.ranges.count, &given.ranges.bounds);
     let mut value: u64 = 0;
     let mut landed: usize = 0;
     let mut cursor = AccessCursor::begin(address, width);
@@ -88,18 +91,18 @@ fn read_all(
             answers,
             log,
             cursor,
-            carried,
+            taken,
             landed,
         );
-        given = ended(given, data, carried, landed, read);
+        given = ended(given, data, taken, landed, read);
         value = with_part(value, cursor.place, read.value);
         cursor = cursor.next(read.count, read.cycles);
         landed = read.landed;
     }
-    let count = carried.count as usize;
-    land(carried, landed, count, ram, parity);
+    let count = taken.count as usize;
+    land(taken, landed, count, ram, parity);
     Outcome {
-        directory: snooped_by(given, carried, landed, count),
+        directory: snooped_by(given, taken, landed, count),
         number: 0,
         value,
         cycles: cursor.cycles as u32,
@@ -125,6 +128,8 @@ pub fn read_carrying(
         &given.tags,
         &given.valid,
         &given.lru,
+        given.ranges.count,
+        &given.ranges.bounds,
         ram,
         parity,
         data,

@@ -4,9 +4,11 @@ ghost use mathlib.Core.Bool.{Bool};
 ghost use mathlib.Core.List.{List};
 ghost use Prim.Native.Nat.{ℕ, _≤_};
 ghost use lib.ListN.{length};
+ghost use Rattle.ranges.specs.declared.Ranges.{Ranges};
+ghost use Rattle.ranges.specs.Ranges.{lentRanges};
 ghost use Rattle.directory.specs.Steps.{directoryOf, lentDirectory};
 ghost use Rattle.carried.specs.CarriedCode.{carriedOf};
-ghost use Rattle.refusal.specs.Refusal.{argumentNumber, carriedNumber, carriedStatesNumberIn, lentNumber, orElse, statesNumberIn};
+ghost use Rattle.refusal.specs.Refusal.{argumentNumber, carriedNumber, carriedStatesNumberIn, keptNumber, lentNumber, orElse, statesNumberIn};
 ghost use Rattle.refusal.specs.Call.{lentState};
 ghost use Rattle.access.specs.Access.{leaves, readCall};
 ghost use Rattle.carrying_calls.specs.CarryingCalls.{EndNeeds, Ended, snoopedTo};
@@ -14,11 +16,13 @@ use access::CallResult;
 use access::number_only;
 use carried::CarriedWrites;
 use carried::land;
+use carried::taken_writes;
 use carrying::CarriedRead;
 use carrying::carried_next;
 use carrying::settle;
 use doubleword::AccessCursor;
 use doubleword::change_in_place;
+use ranges::BOUNDS;
 use reading::with_part;
 use refusal::read_carrying_number;
 use steps_in_place::invalidate_in_place;
@@ -35,8 +39,8 @@ fn snoop_in_place<'a>(
     to: usize,
 )
     requires { ⌜ (from ≤ to) × (to ≤ carried .count) × (carried .count ≤ 4) ⌝ }
-    ensures { λ _. ⌜ ((lru : List ℕ) (cd : Bool) → directoryOf (now (tags .entry)) (now (valid .exit)) lru cd nw
-        ≡ snoopedTo carried from to (directoryOf (now (tags .entry)) (now (valid .entry)) lru cd nw)) ⌝ }
+    ensures { λ _. ⌜ ((lru : List ℕ) (cd : Bool) (ranges : Ranges) → directoryOf (now (tags .entry)) (now (valid .exit)) lru cd nw ranges
+        ≡ snoopedTo carried from to (directoryOf (now (tags .entry)) (now (valid .entry)) lru cd nw ranges)) ⌝ }
 {
     let mut k = from;
     while k < to {
@@ -58,8 +62,8 @@ fn end_in_place<'a>(
     read: CarriedRead,
 )
     requires { ⌜ EndNeeds carried from read (length (now «data»)) ⌝ }
-    ensures { λ _. ⌜ ((cd : Bool) → Ended carried from read (lentDirectory (tags .entry) (valid .entry) (lru .entry) cd nw) (now («data» .entry))
-        (lentDirectory (tags .exit) (valid .exit) (lru .exit) cd nw) (now («data» .exit))) ⌝ }
+    ensures { λ _. ⌜ ((cd : Bool) (ranges : Ranges) → Ended carried from read (lentDirectory (tags .entry) (valid .entry) (lru .entry) cd nw ranges) (now («data» .entry))
+        (lentDirectory (tags .exit) (valid .exit) (lru .exit) cd nw ranges) (now («data» .exit))) ⌝ }
 {
     snoop_in_place(tags, valid, nw, carried, from, read.landed);
     let kept = !read.spoiled & read.ken;
@@ -67,13 +71,15 @@ fn end_in_place<'a>(
     change_in_place(tags, valid, lru, read.line, change);
 }
 
-// The doublewords of a read whose number is 0, and the writes left after them.
+// The doublewords of a read whose number is 0, and the writes left after them, by the bytes that RAM takes of each.
 fn read_accepted<'a>(
     tags: &'a mut [u32; LINES],
     valid: &'a mut [bool; LINES],
     lru: &'a mut [u8; SETS],
     cd: bool,
     nw: bool,
+    range_count: u32,
+    bounds: &'a [u32; BOUNDS],
     ram: &mut [u8],
     parity: &mut [u8],
     data: &mut [u8],
@@ -87,10 +93,12 @@ fn read_accepted<'a>(
     requires { ⌜ orElse (lentNumber (length (now ram)) (length (now parity)) (length (now «data»)))
         (orElse (argumentNumber (length (now ram)) address width (now answers) (length (now log)))
         (orElse (carriedNumber (length (now ram)) (carriedOf carried))
-        (orElse (statesNumberIn (now tags) (now valid) (now lru) address width) (carriedStatesNumberIn (now tags) (now valid) (now lru) (carriedOf carried))))) ≡ 0 ⌝ }
-    ensures { λ r. ⌜ leaves r (lentState (tags .exit) (valid .exit) (lru .exit) cd nw (ram .exit) (parity .exit) («data» .exit)) (now (log .exit))
-        ≡ readCall (lentState (tags .entry) (valid .entry) (lru .entry) cd nw (ram .entry) (parity .entry) («data» .entry)) address width pcd (now (answers .entry)) (now (log .entry)) (carriedOf carried) ⌝ }
+        (orElse (keptNumber (length (now ram)) (lentRanges «range_count» bounds))
+        (orElse (statesNumberIn (now tags) (now valid) (now lru) address width) (carriedStatesNumberIn (now tags) (now valid) (now lru) (carriedOf carried)))))) ≡ 0 ⌝ }
+    ensures { λ r. ⌜ leaves r (lentState (tags .exit) (valid .exit) (lru .exit) cd nw (lentRanges «range_count» (bounds .entry)) (ram .exit) (parity .exit) («data» .exit)) (now (log .exit))
+        ≡ readCall (lentState (tags .entry) (valid .entry) (lru .entry) cd nw (lentRanges «range_count» (bounds .entry)) (ram .entry) (parity .entry) («data» .entry)) address width pcd (now (answers .entry)) (now (log .entry)) (carriedOf carried) ⌝ }
 {
+    let taken = taken_writes(carried, range_count, bounds);
     let mut value: u64 = 0;
     let mut landed: usize = 0;
     let mut cursor = AccessCursor::begin(address, width);
@@ -105,17 +113,17 @@ fn read_accepted<'a>(
             &answers[..],
             log,
             cursor,
-            carried,
+            taken,
             landed,
         );
-        end_in_place(tags, valid, lru, nw, data, carried, landed, read);
+        end_in_place(tags, valid, lru, nw, data, taken, landed, read);
         value = with_part(value, cursor.place, read.value);
         cursor = cursor.next(read.count, read.cycles);
         landed = read.landed;
     }
-    let count = carried.count as usize;
-    land(carried, landed, count, ram, parity);
-    snoop_in_place(tags, valid, nw, carried, landed, count);
+    let count = taken.count as usize;
+    land(taken, landed, count, ram, parity);
+    snoop_in_place(tags, valid, nw, taken, landed, count);
     CallResult {
         number: 0,
         cycles: cursor.cycles as u32,
@@ -129,6 +137,8 @@ pub fn read_carrying_in_place<'a>(
     lru: &'a mut [u8; SETS],
     cd: bool,
     nw: bool,
+    range_count: u32,
+    bounds: &'a [u32; BOUNDS],
     ram: &mut [u8],
     parity: &mut [u8],
     data: &mut [u8],
@@ -139,13 +149,15 @@ pub fn read_carrying_in_place<'a>(
     log: &mut [u32],
     carried: CarriedWrites,
 ) -> CallResult
-    ensures { λ r. ⌜ leaves r (lentState (tags .exit) (valid .exit) (lru .exit) cd nw (ram .exit) (parity .exit) («data» .exit)) (now (log .exit))
-        ≡ readCall (lentState (tags .entry) (valid .entry) (lru .entry) cd nw (ram .entry) (parity .entry) («data» .entry)) address width pcd (now (answers .entry)) (now (log .entry)) (carriedOf carried) ⌝ }
+    ensures { λ r. ⌜ leaves r (lentState (tags .exit) (valid .exit) (lru .exit) cd nw (lentRanges «range_count» (bounds .entry)) (ram .exit) (parity .exit) («data» .exit)) (now (log .exit))
+        ≡ readCall (lentState (tags .entry) (valid .entry) (lru .entry) cd nw (lentRanges «range_count» (bounds .entry)) (ram .entry) (parity .entry) («data» .entry)) address width pcd (now (answers .entry)) (now (log .entry)) (carriedOf carried) ⌝ }
 {
     let number = read_carrying_number(
         tags,
         valid,
         lru,
+        range_count,
+        bounds,
         ram,
         parity,
         data,
@@ -164,6 +176,8 @@ pub fn read_carrying_in_place<'a>(
         lru,
         cd,
         nw,
+        range_count,
+        bounds,
         ram,
         parity,
         data,

@@ -2,6 +2,7 @@
 use Prim.Native.Nat.{ℕ, _^_, _≤_, _<_}
 use mathlib.Core.Path.{_≡_, refl, sym, _∙_, ap}
 use mathlib.Core.Bool.{Bool, true, false, cond, not, _&&_}
+use mathlib.Core.List.{List}
 use mathlib.Core.Logic.{_⊎_, inl, inr, ⊎-elim}
 use native.Mathlib.Omega.{arith}
 use lib.Dec.{eqb}
@@ -16,7 +17,7 @@ use Rattle.ways.specs.Lru.{lruAfter}
 use Rattle.ways.specs.Ways.{holds, lookupIn}
 use Rattle.directory.specs.declared.steps.Outcome.{Outcome}
 use Rattle.directory.specs.Outcome.{outcome}
-use Rattle.directory.specs.Steps.{validAt, tagAt, lruAt, lookupOf, stateNumberOf, afterUse, withLine, afterFill, withRanges, resetKeeping, afterControl, controlRefused, controlCall, afterFlush, invalidated, afterSnoop, snoopCall}
+use Rattle.directory.specs.Steps.{directoryOf, validAt, tagAt, lruAt, lookupOf, stateNumberOf, afterUse, withLine, afterFill, withRanges, resetKeeping, afterControl, controlRefused, controlCall, afterFlush, invalidated, afterSnoop, snoopCall}
 use Rattle.directory.specs.WellFormed.{Held, Same, SetApart, Sized, WithinLimits, Apart}
 use Rattle.ranges.specs.declared.Ranges.{Ranges}
 use Rattle.laws.proofs.Tests.{both, refuted, differ, cond-true, cond-false, by-test, same-or}
@@ -86,6 +87,11 @@ module _ (ranges : Ranges) where
   reset-apart = none-apart (resetKeeping ranges) reset-none
 
 -- RANGES: setting them changes nothing else
+
+pub ranges-of : (tags : List ℕ) (valid : List Bool) (lru : List ℕ) (cd nw : Bool) (old ranges : Ranges) →
+    directoryOf tags valid lru cd nw ranges ≡ withRanges (directoryOf tags valid lru cd nw old) ranges
+unfolding withRanges
+ranges-of tags valid lru cd nw old ranges = refl
 
 module _ (d : Directory) (ranges : Ranges) where
   pub ranges-set : withRanges d ranges .ranges ≡ ranges

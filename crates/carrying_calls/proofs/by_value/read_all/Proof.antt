@@ -4,27 +4,34 @@ use denote.Ref.{now}
 use mathlib.Core.Path.{_∙_}
 use Rattle.memory.specs.Parity.{memory}
 use Rattle.doubleword.proofs.Cursors.{cursor-less, cursor-next}
-use Rattle.carrying_calls.proofs.CarryingLoop.{CarryKept, allCarried, carry-begin, carry-made, kept-writes, kept-needs, end-needs, part-fits, kept-next}
+use Rattle.carrying_calls.proofs.CarryingLoop.{CarryKept, allCarried, carry-few, carry-begin, carry-made, kept-writes, kept-needs, end-needs, part-fits, kept-next}
 use Rattle.carrying_calls.proofs.by_value.read_all.Statement.{statement}
 use Rattle.carrying_calls.proofs.by_value.read_all.Tie as tie
 
 abbrev Inv-loop : tie.InvT-loop
-Inv-loop ram₀ parity₀ data₀ address width pcd answers log₀ carried given₀ value₀ landed₀ cursor₀ ram parity «data» log given value landed cursor =
-    CarryKept pcd answers carried (allCarried given₀ (memory ram₀ parity₀) data₀ address width answers log₀ pcd carried) log₀ data₀
+Inv-loop ram₀ parity₀ data₀ address width pcd answers log₀ given₀ taken value₀ landed₀ cursor₀ ram parity «data» log given value landed cursor =
+    CarryKept pcd answers taken (allCarried given₀ (memory ram₀ parity₀) data₀ address width answers log₀ pcd taken) log₀ data₀
     (memory ram₀ parity₀) cursor given (memory ram parity) «data» log value landed
 
 abbrev μ-loop : tie.MeasureT-loop
-μ-loop ram₀ parity₀ data₀ address width pcd answers log₀ carried given₀ value₀ landed₀ cursor₀ ram parity «data» log given value landed cursor = cursor .left
+μ-loop ram₀ parity₀ data₀ address width pcd answers log₀ given₀ taken value₀ landed₀ cursor₀ ram parity «data» log given value landed cursor = cursor .left
+
+taken-writes-requires : tie.Need-taken-writes-requires Inv-loop μ-loop
+taken-writes-requires c κs =
+    let start = c .before .before .before .before .before .before .before in
+    let a = start .args in
+    carry-few (a .t1) (memory (now (a .ram)) (now (a .parity))) (now (a .«data»)) (a .address) (a .width) (now (a .answers)) (now (a .log)) (a .pcd) (a .carried) (start .pre)
 
 begin-requires : tie.Need-begin-requires Inv-loop μ-loop
 begin-requires c κs = search needs
 
 loop-holds : tie.Need-loop-holds Inv-loop μ-loop
 loop-holds c =
-    let start = c .before .before .before .before .before .before in
+    let at-taken-writes = c .before in
+    let start = at-taken-writes .before .before .before .before .before .before .before .before in
     let a = start .args in
     rw (c .begin .ensures) (carry-begin (a .t1) (memory (now (a .ram)) (now (a .parity))) (now (a .«data»)) (a .address) (a .width) (now (a .answers)) (now (a .log))
-    (a .pcd) (a .carried) (start .pre))
+    (a .pcd) (a .carried) (start .pre) _ (at-taken-writes .taken-writes .ensures .2))
 
 carried-next-requires : tie.Need-carried-next-requires Inv-loop μ-loop
 carried-next-requires c κs =
@@ -37,9 +44,10 @@ ended-requires c κs =
     let at-carried-next = c .before .before .before .before .before .before .before in
     let at-if1 = at-carried-next .before .before .before .before .before .before .before .before in
     let at-loop = at-if1 .before .before in
-    let start = at-loop .before .before .before .before .before .before .before in
+    let at-taken-writes = at-loop .before .before in
+    let start = at-taken-writes .before .before .before .before .before .before .before .before in
     let a = start .args in
-    end-needs (a .pcd) (now (a .answers)) (a .carried) (at-loop .loop .cursor) (at-loop .loop .given) _ _ _ (at-loop .loop .landed) (at-loop .loop .inv .none)
+    end-needs (a .pcd) (now (a .answers)) (at-taken-writes .taken-writes .result) (at-loop .loop .cursor) (at-loop .loop .given) _ _ _ (at-loop .loop .landed) (at-loop .loop .inv .none)
     (at-carried-next .carried-next .ensures) (kept-writes (at-loop .loop .inv)) (kept-needs (at-loop .loop .inv) (at-if1 .if1 .taken) .arrayLength)
 
 with-part-requires : tie.Need-with-part-requires Inv-loop μ-loop
@@ -84,8 +92,8 @@ snooped-by-requires c κs =
     let at-loop = c .before .before .before .before .before .before .before .before .before .before in
     (omega (arith, at-loop .loop .inv .within), omega (arith, at-loop .loop .inv .within), at-loop .loop .inv .writes .few)
 
-cast-t42 : tie.Need-cast-t42 Inv-loop μ-loop
-cast-t42 c =
+cast-t18 : tie.Need-cast-t18 Inv-loop μ-loop
+cast-t18 c =
     let at-loop = c .before .before .before .before .before .before .before .before .before .before .before .before in
     omega (arith, at-loop .loop .inv .needs .made, at-loop .loop .inv .needs .last)
 
@@ -114,11 +122,13 @@ same-length-4 c =
 returns : tie.Need-returns Inv-loop μ-loop
 returns c =
     let at-land = c .before .before .before .before .before .before in
-    let at-loop = at-land .before .before .before .before .before .before in
-    let start = at-loop .before .before .before .before .before .before .before in
+    let at-if1 = at-land .before .before .before .before in
+    let at-loop = at-if1 .before .before in
+    let at-taken-writes = at-loop .before .before in
+    let start = at-taken-writes .before .before .before .before .before .before .before .before in
     let a = start .args in
     carry-made (a .t1) (memory (now (a .ram)) (now (a .parity))) (now (a .«data»)) (a .address) (a .width) (now (a .answers)) (now (a .log)) (a .pcd) (a .carried)
-    (start .pre) (at-loop .loop .inv) (omega arith) _ _ (c .before .snooped-by .ensures) (at-land .land .ensures)
+    (start .pre) _ (at-taken-writes .taken-writes .ensures .1) (at-loop .loop .inv) (omega (arith, at-if1 .if1 .left)) _ _ (c .before .snooped-by .ensures) (at-land .land .ensures)
 
 pub read-all-spec : {M : Type 1} → statement M
 read-all-spec =
@@ -126,6 +136,7 @@ read-all-spec =
     (tie.spec
     Inv-loop
     μ-loop
+    taken-writes-requires
     begin-requires
     loop-holds
     carried-next-requires
@@ -137,7 +148,7 @@ read-all-spec =
     cast-count
     land-requires
     snooped-by-requires
-    cast-t42
+    cast-t18
     same-length
     same-length-2
     same-length-3

@@ -26,7 +26,7 @@ same-length-4 c = search needs
 returns : tie.Need-returns
 returns c =
     let at-read-carrying-number = c .before .before in
-    let start = at-read-carrying-number .before .before .before .before .before .before .before .before .before .before .before .before .before .before in
+    let start = at-read-carrying-number .before .before .before .before .before .before .before .before .before .before .before .before .before .before .before in
     let a = start .args in
     rw (c .answered .ensures) (carry-turned (a .t1) (memory (now (a .ram)) (now (a .parity))) (now (a .«data»)) (a .address) (a .width) (now (a .answers))
     (now (a .log)) (a .pcd) (a .carried) _ (at-read-carrying-number .read-carrying-number .ensures) (c .before .if1 .taken))

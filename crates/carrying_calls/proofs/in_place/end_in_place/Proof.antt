@@ -23,7 +23,7 @@ returns : tie.Need-returns
 returns c =
     let at-settle = c .before .before .before .before .before .before in
     let at-snoop-in-place = at-settle .before .before .before .before .before .before in
-    λ cd. ended-by _ _ (at-snoop-in-place .snoop-in-place .ensures _ cd) (at-settle .settle .ensures .0) (c .change-in-place .ensures cd _) (at-settle .settle .ensures .2)
+    λ cd ranges. ended-by _ _ (at-snoop-in-place .snoop-in-place .ensures _ cd ranges) (at-settle .settle .ensures .0) (c .change-in-place .ensures cd _ ranges) (at-settle .settle .ensures .2)
 
 pub end-in-place-spec : {M : Type 1} → statement M
 end-in-place-spec =

@@ -3,29 +3,40 @@ use native.Mathlib.Omega.{arith}
 use denote.Ref.{now}
 use mathlib.Core.Path.{_∙_}
 use Rattle.memory.specs.Parity.{memory}
+use Rattle.ranges.specs.declared.Ranges.{Ranges}
+use Rattle.ranges.specs.Ranges.{lentRanges}
 use Rattle.directory.specs.Steps.{directoryOf}
 use Rattle.doubleword.proofs.Cursors.{cursor-less, cursor-next}
-use Rattle.carrying_calls.proofs.CarryingLoop.{CarryKept, allCarried, carry-begin, carry-made, kept-writes, kept-needs, end-needs, part-fits, kept-next}
+use Rattle.carrying_calls.proofs.CarryingLoop.{CarryKept, allCarried, carry-few, carry-begin, carry-made, kept-writes, kept-needs, end-needs, part-fits, kept-next}
 use Rattle.carrying_calls.proofs.in_place.read_accepted.Statement.{statement}
 use Rattle.carrying_calls.proofs.in_place.read_accepted.Tie as tie
 
 abbrev Inv-loop : tie.InvT-loop
-Inv-loop tags₀ valid₀ lru₀ cd nw ram₀ parity₀ data₀ address width pcd answers log₀ carried value₀ landed₀ cursor₀ tags valid lru ram parity «data» log value landed cursor =
-    CarryKept pcd answers carried (allCarried (directoryOf tags₀ valid₀ lru₀ cd nw) (memory ram₀ parity₀) data₀ address width answers log₀ pcd carried) log₀ data₀
-    (memory ram₀ parity₀) cursor (directoryOf tags valid lru cd nw) (memory ram parity) «data» log value landed
+Inv-loop tags₀ valid₀ lru₀ cd nw range-count bounds ram₀ parity₀ data₀ address width pcd answers log₀ taken value₀ landed₀ cursor₀ tags valid lru ram parity «data» log value landed cursor =
+    let ranges : Ranges = record { count = range-count; bounds = bounds } in
+    CarryKept pcd answers taken (allCarried (directoryOf tags₀ valid₀ lru₀ cd nw ranges) (memory ram₀ parity₀) data₀ address width answers log₀ pcd taken) log₀ data₀
+    (memory ram₀ parity₀) cursor (directoryOf tags valid lru cd nw ranges) (memory ram parity) «data» log value landed
 
 abbrev μ-loop : tie.MeasureT-loop
-μ-loop tags₀ valid₀ lru₀ cd nw ram₀ parity₀ data₀ address width pcd answers log₀ carried value₀ landed₀ cursor₀ tags valid lru ram parity «data» log value landed cursor = cursor .left
+μ-loop tags₀ valid₀ lru₀ cd nw range-count bounds ram₀ parity₀ data₀ address width pcd answers log₀ taken value₀ landed₀ cursor₀ tags valid lru ram parity «data» log value landed cursor = cursor .left
+
+taken-writes-requires : tie.Need-taken-writes-requires Inv-loop μ-loop
+taken-writes-requires c κs =
+    let start = c .before .before .before .before .before in
+    let a = start .args in
+    carry-few (directoryOf (now (a .tags)) (now (a .valid)) (now (a .lru)) (a .cd) (a .nw) (lentRanges (a .range-count) (a .bounds))) (memory (now (a .ram)) (now (a .parity)))
+    (now (a .«data»)) (a .address) (a .width) (now (a .answers)) (now (a .log)) (a .pcd) (a .carried) (start .pre)
 
 begin-requires : tie.Need-begin-requires Inv-loop μ-loop
 begin-requires c κs = search needs
 
 loop-holds : tie.Need-loop-holds Inv-loop μ-loop
 loop-holds c =
-    let start = c .before .before .before .before .before .before in
+    let at-taken-writes = c .before in
+    let start = at-taken-writes .before .before .before .before .before .before in
     let a = start .args in
-    rw (c .begin .ensures) (carry-begin (directoryOf (now (a .tags)) (now (a .valid)) (now (a .lru)) (a .cd) (a .nw)) (memory (now (a .ram)) (now (a .parity)))
-    (now (a .«data»)) (a .address) (a .width) (now (a .answers)) (now (a .log)) (a .pcd) (a .carried) (start .pre))
+    rw (c .begin .ensures) (carry-begin (directoryOf (now (a .tags)) (now (a .valid)) (now (a .lru)) (a .cd) (a .nw) (lentRanges (a .range-count) (a .bounds))) (memory (now (a .ram)) (now (a .parity)))
+    (now (a .«data»)) (a .address) (a .width) (now (a .answers)) (now (a .log)) (a .pcd) (a .carried) (start .pre) _ (at-taken-writes .taken-writes .ensures .2))
 
 carried-next-requires : tie.Need-carried-next-requires Inv-loop μ-loop
 carried-next-requires c κs =
@@ -38,10 +49,11 @@ end-in-place-requires c κs =
     let at-carried-next = c .before .before .before .before .before .before .before .before .before .before in
     let at-if1 = at-carried-next .before .before .before .before .before .before .before in
     let at-loop = at-if1 .before .before in
-    let start = at-loop .before .before .before .before .before .before .before in
+    let at-taken-writes = at-loop .before .before in
+    let start = at-taken-writes .before .before .before .before .before .before in
     let a = start .args in
-    end-needs (a .pcd) (now (a .answers)) (a .carried) (at-loop .loop .cursor) (directoryOf (at-loop .loop .tags) (at-loop .loop .valid) (at-loop .loop .lru) (a .cd)
-    (a .nw)) _ _ _ (at-loop .loop .landed) (at-loop .loop .inv .none) (at-carried-next .carried-next .ensures) (kept-writes (at-loop .loop .inv)) (kept-needs
+    end-needs (a .pcd) (now (a .answers)) (at-taken-writes .taken-writes .result) (at-loop .loop .cursor) (directoryOf (at-loop .loop .tags) (at-loop .loop .valid) (at-loop .loop .lru) (a .cd)
+    (a .nw) (lentRanges (a .range-count) (a .bounds))) _ _ _ (at-loop .loop .landed) (at-loop .loop .inv .none) (at-carried-next .carried-next .ensures) (kept-writes (at-loop .loop .inv)) (kept-needs
     (at-loop .loop .inv) (at-if1 .if1 .taken) .arrayLength)
 
 with-part-requires : tie.Need-with-part-requires Inv-loop μ-loop
@@ -69,7 +81,7 @@ loop-again c =
     let at-carried-next = at-end-in-place .before .before .before .before .before .before .before .before .before .before .before in
     let at-if1 = at-carried-next .before .before .before .before .before .before .before in
     let at-loop = at-if1 .before .before in
-    kept-next (at-loop .loop .inv) (at-if1 .if1 .taken) (at-carried-next .carried-next .ensures) (at-end-in-place .end-in-place .ensures _) _ _
+    kept-next (at-loop .loop .inv) (at-if1 .if1 .taken) (at-carried-next .carried-next .ensures) (at-end-in-place .end-in-place .ensures _ _) _ _
     (c .before .with-part .ensures) (c .next .ensures) (at-carried-next .carried-next .kept .1 .1 .1 .0) (at-carried-next .carried-next .kept .1 .1 .1 .1 .0)
     (at-end-in-place .end-in-place .kept .1 .1 .1 .1 .0) (at-carried-next .carried-next .kept .1 .1 .1 .1 .1 .1 .1 .0)
 
@@ -86,8 +98,8 @@ snoop-in-place-requires c κs =
     let at-loop = c .before .before .before .before .before .before .before .before .before .before .before .before in
     (omega (arith, at-loop .loop .inv .within), omega (arith, at-loop .loop .inv .within), at-loop .loop .inv .writes .few)
 
-cast-t48 : tie.Need-cast-t48 Inv-loop μ-loop
-cast-t48 c =
+cast-t51 : tie.Need-cast-t51 Inv-loop μ-loop
+cast-t51 c =
     let at-loop = c .before .before .before .before .before .before .before .before .before .before .before .before .before .before in
     omega (arith, at-loop .loop .inv .needs .made, at-loop .loop .inv .needs .last)
 
@@ -116,11 +128,13 @@ same-length-4 c =
 returns : tie.Need-returns Inv-loop μ-loop
 returns c =
     let at-land = c .before .before .before .before .before .before .before .before in
-    let at-loop = at-land .before .before .before .before .before .before in
-    let start = at-loop .before .before .before .before .before .before .before in
+    let at-if1 = at-land .before .before .before .before in
+    let at-loop = at-if1 .before .before in
+    let at-taken-writes = at-loop .before .before in
+    let start = at-taken-writes .before .before .before .before .before .before in
     let a = start .args in
-    carry-made (directoryOf (now (a .tags)) (now (a .valid)) (now (a .lru)) (a .cd) (a .nw)) (memory (now (a .ram)) (now (a .parity))) (now (a .«data»)) (a .address)
-    (a .width) (now (a .answers)) (now (a .log)) (a .pcd) (a .carried) (start .pre) (at-loop .loop .inv) (omega arith) _ _ (c .before .snoop-in-place .ensures _ _)
+    carry-made (directoryOf (now (a .tags)) (now (a .valid)) (now (a .lru)) (a .cd) (a .nw) (lentRanges (a .range-count) (a .bounds))) (memory (now (a .ram)) (now (a .parity))) (now (a .«data»)) (a .address)
+    (a .width) (now (a .answers)) (now (a .log)) (a .pcd) (a .carried) (start .pre) _ (at-taken-writes .taken-writes .ensures .1) (at-loop .loop .inv) (omega (arith, at-if1 .if1 .left)) _ _ (c .before .snoop-in-place .ensures _ _ _)
     (at-land .land .ensures)
 
 pub read-accepted-spec : {M : Type 1} → statement M
@@ -129,6 +143,7 @@ read-accepted-spec =
     (tie.spec
     Inv-loop
     μ-loop
+    taken-writes-requires
     begin-requires
     loop-holds
     carried-next-requires
@@ -140,7 +155,7 @@ read-accepted-spec =
     cast-count
     land-requires
     snoop-in-place-requires
-    cast-t48
+    cast-t51
     same-length
     same-length-2
     same-length-3

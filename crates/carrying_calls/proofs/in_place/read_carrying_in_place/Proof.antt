@@ -1,4 +1,5 @@
 use denote.Ref.{now}
+use Rattle.ranges.specs.Ranges.{lentRanges}
 use Rattle.directory.specs.Steps.{directoryOf}
 use Rattle.memory.specs.Parity.{memory}
 use Rattle.carrying_calls.proofs.CarryingLoop.{carry-turned}
@@ -29,7 +30,7 @@ returns c =
     let at-read-carrying-number = c .before .before in
     let start = at-read-carrying-number .before .before .before .before .before .before .before .before .before .before .before .before .before in
     let a = start .args in
-    rw (c .number-only .ensures) (carry-turned (directoryOf (now (a .tags)) (now (a .valid)) (now (a .lru)) (a .cd) (a .nw)) (memory (now (a .ram))
+    rw (c .number-only .ensures) (carry-turned (directoryOf (now (a .tags)) (now (a .valid)) (now (a .lru)) (a .cd) (a .nw) (lentRanges (a .range-count) (a .bounds))) (memory (now (a .ram))
     (now (a .parity))) (now (a .«data»)) (a .address) (a .width) (now (a .answers)) (now (a .log)) (a .pcd) (a .carried) _
     (at-read-carrying-number .read-carrying-number .ensures) (c .before .if1 .taken))
 
