@@ -5,7 +5,7 @@ use mathlib.Core.List.{List, [], _∷_, _++_}
 use lib.Dec.{ltb}
 use lib.ListN.{length, replicate}
 use Rattle.ways.specs.Address.{dataSize}
-use Rattle.directory.specs.Steps.{afterReset}
+use Rattle.directory.specs.Steps.{firstReset}
 use Rattle.memory.specs.Parity.{memory}
 use Rattle.directory.specs.declared.steps.Outcome.{Outcome}
 use Rattle.refusal.specs.Call.{State, state, nextState}
@@ -36,7 +36,7 @@ rowsOf table s event (line ∷ lines) =
 
 -- "The program has 65,536 zero RAM bytes, zero parity, a zero data array, a reset directory."
 unfoldable pub start : State
-start = state afterReset (memory (replicate ramSize 0) (replicate (ramSize / 4) 0)) (replicate dataSize 0)
+start = state firstReset (memory (replicate ramSize 0) (replicate (ramSize / 4) 0)) (replicate dataSize 0)
 
 -- "Output starts with the fixed header line"; "Number 12 prints the header and the one row 0, 12, 0, 0." Document 02, C-16: "the run over event lines takes it",
 -- the table, "and the program itself uses ours", `blockAnswers`.

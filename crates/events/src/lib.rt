@@ -51,7 +51,7 @@ fn run_lines(table: &[u8; BLOCKS], input: &[u8], output: &mut [u8], from: usize)
     ensures { λ r. ⌜ (r ≡ from + length (rowsOf (now (table .entry)) start 1 (linesOf (now (input .entry))))) × (now (output .exit) ≡ sets (now (output .entry)) from (rowsOf (now (table .entry)) start 1 (linesOf (now (input .entry))))) ⌝ }
     ensures { λ r. ⌜ r ≤ from + 54 * (longestInput + 1) ⌝ }
 {
-    let directory = Directory::reset();
+    let directory = Directory::first();
     let mut tags = directory.tags;
     let mut valid = directory.valid;
     let mut lru = directory.lru;

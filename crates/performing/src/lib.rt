@@ -4,7 +4,7 @@ ghost use mathlib.Core.Bool.{Bool};
 ghost use mathlib.Core.List.{List, []};
 ghost use Prim.Native.Nat.{ℕ, _≤_};
 ghost use lib.ListN.{length};
-ghost use Rattle.directory.specs.Steps.{lentDirectory};
+ghost use Rattle.directory.specs.Steps.{lentDirectory, noRanges};
 ghost use Rattle.memory.specs.Parity.{lentMemory};
 ghost use Rattle.refusal.specs.Call.{lentState, state};
 ghost use Rattle.calls.specs.Calls.{external, read, step, write};
@@ -21,6 +21,7 @@ use lines::Event;
 use lines::LONGEST_LINE;
 use lines::scan;
 use masters::external_write_in_place;
+use ranges::BOUNDS;
 use read_calls::read_in_place;
 use steps_in_place::control_in_place;
 use steps_in_place::flush_in_place;
@@ -30,7 +31,8 @@ use ways::LINES;
 use ways::SETS;
 use write_calls::write_in_place;
 
-// The line's event with the board's answers by a table, on a directory whose fields are lent. A malformed line answers 11.
+// The line's event with the board's answers by a table, on a directory whose fields are lent. A malformed line answers 11. No event sets
+// ranges, so that the directory keeps none.
 pub fn perform<'a>(
     table: &[u8; BLOCKS],
     tags: &'a mut [u32; LINES],
@@ -43,8 +45,8 @@ pub fn perform<'a>(
     data: &mut [u8],
     line: &[u8],
 ) -> CallResult
-    ensures { λ r. ⌜ Leaves (lineDone (now (table .entry)) (lentState (tags .entry) (valid .entry) (lru .entry) (now (cd .entry)) (now (nw .entry)) (ram .entry) (parity .entry) («data» .entry)) (now (line .entry)))
-        r (lentState (tags .exit) (valid .exit) (lru .exit) (now (cd .exit)) (now (nw .exit)) (ram .exit) (parity .exit) («data» .exit)) ⌝ }
+    ensures { λ r. ⌜ Leaves (lineDone (now (table .entry)) (lentState (tags .entry) (valid .entry) (lru .entry) (now (cd .entry)) (now (nw .entry)) noRanges (ram .entry) (parity .entry) («data» .entry)) (now (line .entry)))
+        r (lentState (tags .exit) (valid .exit) (lru .exit) (now (cd .exit)) (now (nw .exit)) noRanges (ram .exit) (parity .exit) («data» .exit)) ⌝ }
 {
     let event = scan(line);
     match event {
@@ -98,16 +100,19 @@ fn perform_read<'a>(
     width: u32,
     pcd: bool,
 ) -> CallResult
-    ensures { λ r. ⌜ ((nw : Bool) → Leaves (step (lentState (tags .entry) (valid .entry) (lru .entry) (now (cd .entry)) nw (ram .entry) (parity .entry) («data» .entry)) (read address width pcd (boardAnswers (now (table .entry)) address width) zeroLog []))
-        r (lentState (tags .exit) (valid .exit) (lru .exit) (now (cd .entry)) nw (ram .entry) (parity .entry) («data» .exit))) ⌝ }
+    ensures { λ r. ⌜ ((nw : Bool) → Leaves (step (lentState (tags .entry) (valid .entry) (lru .entry) (now (cd .entry)) nw noRanges (ram .entry) (parity .entry) («data» .entry)) (read address width pcd (boardAnswers (now (table .entry)) address width) zeroLog []))
+        r (lentState (tags .exit) (valid .exit) (lru .exit) (now (cd .entry)) nw noRanges (ram .entry) (parity .entry) («data» .exit))) ⌝ }
 {
     let answers = board::board_answers(table, address, width);
     let mut log = [0u32; LOG_WORDS];
+    let bounds = [0u32; BOUNDS];
     read_in_place(
         tags,
         valid,
         lru,
         *cd,
+        0,
+        &bounds,
         ram,
         parity,
         data,
@@ -134,17 +139,20 @@ fn perform_write<'a>(
     width: u32,
     value: u64,
 ) -> CallResult
-    ensures { λ r. ⌜ Leaves (step (lentState (tags .entry) (valid .entry) (lru .entry) (now (cd .entry)) (now (nw .entry)) (ram .entry) (parity .entry) («data» .entry)) (write address width value (boardAnswers (now (table .entry)) address width) zeroLog))
-        r (lentState (tags .entry) (valid .entry) (lru .exit) (now (cd .entry)) (now (nw .entry)) (ram .exit) (parity .exit) («data» .exit)) ⌝ }
+    ensures { λ r. ⌜ Leaves (step (lentState (tags .entry) (valid .entry) (lru .entry) (now (cd .entry)) (now (nw .entry)) noRanges (ram .entry) (parity .entry) («data» .entry)) (write address width value (boardAnswers (now (table .entry)) address width) zeroLog))
+        r (lentState (tags .entry) (valid .entry) (lru .exit) (now (cd .entry)) (now (nw .entry)) noRanges (ram .exit) (parity .exit) («data» .exit)) ⌝ }
 {
     let answers = board::board_answers(table, address, width);
     let mut log = [0u32; LOG_WORDS];
+    let bounds = [0u32; BOUNDS];
     write_in_place(
         tags,
         valid,
         lru,
         *cd,
         *nw,
+        0,
+        &bounds,
         ram,
         parity,
         data,
@@ -168,16 +176,19 @@ fn perform_external<'a>(
     pairs: &[u8],
 ) -> CallResult
     requires { ⌜ length (now pairs) ≤ longestLine ⌝ }
-    ensures { λ r. ⌜ ((cd : Bool) (array : List ℕ) → Leaves (step (state (lentDirectory (tags .entry) (valid .entry) (lru .entry) cd (now (nw .entry))) (lentMemory (ram .entry) (parity .entry)) array) (external address (pairBytes (now (pairs .entry)))))
-        r (state (lentDirectory (tags .entry) (valid .exit) (lru .entry) cd (now (nw .entry))) (lentMemory (ram .exit) (parity .exit)) array)) ⌝ }
+    ensures { λ r. ⌜ ((cd : Bool) (array : List ℕ) → Leaves (step (state (lentDirectory (tags .entry) (valid .entry) (lru .entry) cd (now (nw .entry)) noRanges) (lentMemory (ram .entry) (parity .entry)) array) (external address (pairBytes (now (pairs .entry)))))
+        r (state (lentDirectory (tags .entry) (valid .exit) (lru .entry) cd (now (nw .entry)) noRanges) (lentMemory (ram .exit) (parity .exit)) array)) ⌝ }
 {
     let mut bytes = [0u8; LONGEST_LINE];
     let count = pair_bytes(pairs, &mut bytes);
+    let bounds = [0u32; BOUNDS];
     number_only(external_write_in_place(
         tags,
         valid,
         lru,
         *nw,
+        0,
+        &bounds,
         ram,
         parity,
         address,

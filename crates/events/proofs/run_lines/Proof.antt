@@ -9,23 +9,23 @@ use Rattle.refusal.specs.Call.{state}
 use Rattle.events.specs.Output.{start}
 use Rattle.rows.proofs.Printing.{header-length}
 use Rattle.events.proofs.Rest.{RunInvariant, run-begin, run-next, run-end}
-use Rattle.directory.specs.Steps.{directoryOf}
+use Rattle.directory.specs.Steps.{directoryOf, noRanges, resetKeeping}
 use Rattle.events.proofs.run_lines.Statement.{statement}
 use Rattle.events.proofs.run_lines.Tie as tie
 
 abbrev Inv-loop : tie.InvT-loop
 Inv-loop table input output₀ from tags₀ valid₀ lru₀ cd₀ nw₀ ram₀ parity₀ data₀ event₀ place₀ at₀ output tags valid lru cd nw ram parity «data» event place at =
-    RunInvariant table input output₀ from (state (directoryOf tags valid lru cd nw) (memory ram parity) «data») output event place at
+    RunInvariant table input output₀ from (state (directoryOf tags valid lru cd nw noRanges) (memory ram parity) «data») output event place at
 
 abbrev μ-loop : tie.MeasureT-loop
 μ-loop table input output₀ from tags₀ valid₀ lru₀ cd₀ nw₀ ram₀ parity₀ data₀ event₀ place₀ at₀ output tags valid lru cd nw ram parity «data» event place at = length input + 1 - place
 
-reset-requires : tie.Need-reset-requires Inv-loop μ-loop
-reset-requires c κs = search needs
+first-requires : tie.Need-first-requires Inv-loop μ-loop
+first-requires c κs = search needs
 
 loop-holds : tie.Need-loop-holds Inv-loop μ-loop
-unfolding start
-loop-holds c = let at-reset = c .before .before .before in rw (at-reset .reset .ensures) (run-begin _ _ _ _)
+unfolding start resetKeeping
+loop-holds c = let at-first = c .before .before .before in rw (at-first .first .ensures) (run-begin _ _ _ _)
 
 sub-rest : tie.Need-sub-rest Inv-loop μ-loop
 sub-rest c = omega arith
@@ -107,7 +107,7 @@ run-lines-spec =
     (tie.spec
     Inv-loop
     μ-loop
-    reset-requires
+    first-requires
     loop-holds
     sub-rest
     part-rest-start

@@ -5,6 +5,7 @@ use Rattle.calls.specs.Calls.{stepBy}
 use Rattle.refusal.specs.Call.{lentState, onDirectory}
 use Rattle.directory.specs.declared.steps.Directory.{Directory}
 use Rattle.directory.specs.Outcome.{outcome}
+use Rattle.directory.specs.Steps.{noRanges}
 use Rattle.fields.proofs.Parts.{drop-part}
 use Rattle.lines.proofs.Within.{external-line}
 use Rattle.performing.specs.Perform.{callOf, callDone}
@@ -155,8 +156,8 @@ returns-5 c =
     let c8 = c6 .before .before in
     let c13 = c8 .before .before .before .before .before in
     let a = c13 .args in
-    let s = lentState (a .tags) (a .valid) (a .lru) (now (a .cd)) (now (a .nw)) (a .ram) (a .parity) (a .«data») in
-    rw (sym (c8 .scan .ensures) ∙ c6 .event4 .given .1, c .number-only2 .ensures) (ap (onDirectory s) (c1 .snoop-in-place .ensures _))
+    let s = lentState (a .tags) (a .valid) (a .lru) (now (a .cd)) (now (a .nw)) noRanges (a .ram) (a .parity) (a .«data») in
+    rw (sym (c8 .scan .ensures) ∙ c6 .event4 .given .1, c .number-only2 .ensures) (ap (onDirectory s) (c1 .snoop-in-place .ensures _ _))
 
 returns-6 : tie.Need-returns-6
 unfolding callOf callDone stepBy
@@ -166,8 +167,8 @@ returns-6 c =
     let c6 = c4 .before .before in
     let c11 = c6 .before .before .before .before .before in
     let a = c11 .args in
-    let s = lentState (a .tags) (a .valid) (a .lru) (now (a .cd)) (now (a .nw)) (a .ram) (a .parity) (a .«data») in
-    rw (sym (c6 .scan .ensures) ∙ c4 .enum-told2 .given .1, c .number-only3 .ensures) (ap (λ (d : Directory). onDirectory s (outcome d 0 0 0)) (c1 .flush-in-place .ensures _ _ _))
+    let s = lentState (a .tags) (a .valid) (a .lru) (now (a .cd)) (now (a .nw)) noRanges (a .ram) (a .parity) (a .«data») in
+    rw (sym (c6 .scan .ensures) ∙ c4 .enum-told2 .given .1, c .number-only3 .ensures) (ap (λ (d : Directory). onDirectory s (outcome d 0 0 0)) (c1 .flush-in-place .ensures _ _ _ _))
 
 returns-7 : tie.Need-returns-7
 unfolding callOf callDone stepBy
@@ -177,8 +178,8 @@ returns-7 c =
     let c7 = c5 .before .before in
     let c12 = c7 .before .before .before .before .before in
     let a = c12 .args in
-    let s = lentState (a .tags) (a .valid) (a .lru) (now (a .cd)) (now (a .nw)) (a .ram) (a .parity) (a .«data») in
-    rw (sym (c7 .scan .ensures) ∙ c5 .event5 .given .1, c .number-only4 .ensures) (ap (onDirectory s) (c1 .control-in-place .ensures _ _ _))
+    let s = lentState (a .tags) (a .valid) (a .lru) (now (a .cd)) (now (a .nw)) noRanges (a .ram) (a .parity) (a .«data») in
+    rw (sym (c7 .scan .ensures) ∙ c5 .event5 .given .1, c .number-only4 .ensures) (ap (onDirectory s) (c1 .control-in-place .ensures _ _ _ _))
 
 returns-8 : tie.Need-returns-8
 unfolding callOf callDone stepBy
@@ -188,8 +189,8 @@ returns-8 c =
     let c9 = c7 .before .before in
     let c14 = c9 .before .before .before .before .before in
     let a = c14 .args in
-    let s = lentState (a .tags) (a .valid) (a .lru) (now (a .cd)) (now (a .nw)) (a .ram) (a .parity) (a .«data») in
-    rw (sym (c9 .scan .ensures) ∙ c7 .enum-told3 .given .1, c .number-only5 .ensures) (ap (λ (d : Directory). onDirectory s (outcome d 0 0 0)) (c1 .reset-in-place .ensures))
+    let s = lentState (a .tags) (a .valid) (a .lru) (now (a .cd)) (now (a .nw)) noRanges (a .ram) (a .parity) (a .«data») in
+    rw (sym (c9 .scan .ensures) ∙ c7 .enum-told3 .given .1, c .number-only5 .ensures) (ap (λ (d : Directory). onDirectory s (outcome d 0 0 0)) (c1 .reset-in-place .ensures _))
 
 pub perform-spec : {M : Type 1} → statement M
 perform-spec =

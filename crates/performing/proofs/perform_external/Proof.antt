@@ -16,15 +16,15 @@ pair-bytes-requires c κs = search needs
 
 array-share-prefix-bytes : tie.Need-array-share-prefix-bytes
 array-share-prefix-bytes c =
-    let c4 = c .before .before .before .before in
-    let c9 = c4 .before .before .before .before .before in
-    front-count 80 _ (pairBytes (c9 .args .pairs .now)) _ (c4 .pair-bytes .ensures .0) (c4 .pair-bytes .ensures .1) (omega (arith, pairs-length (c9 .args .pairs .now), c9 .pre)) .0
+    let c5 = c .before .before .before .before .before in
+    let c10 = c5 .before .before .before .before .before in
+    front-count 80 _ (pairBytes (c10 .args .pairs .now)) _ (c5 .pair-bytes .ensures .0) (c5 .pair-bytes .ensures .1) (omega (arith, pairs-length (c10 .args .pairs .now), c10 .pre)) .0
 
 slice-aggregate-external-write-in-place : tie.Need-slice-aggregate-external-write-in-place
 slice-aggregate-external-write-in-place c =
-    let c5 = c .before .before .before .before .before in
-    let c10 = c5 .before .before .before .before .before in
-    front-count 80 _ (pairBytes (c10 .args .pairs .now)) _ (c5 .pair-bytes .ensures .0) (c5 .pair-bytes .ensures .1) (omega (arith, pairs-length (c10 .args .pairs .now), c10 .pre)) .1
+    let c6 = c .before .before .before .before .before .before in
+    let c11 = c6 .before .before .before .before .before in
+    front-count 80 _ (pairBytes (c11 .args .pairs .now)) _ (c6 .pair-bytes .ensures .0) (c6 .pair-bytes .ensures .1) (omega (arith, pairs-length (c11 .args .pairs .now), c11 .pre)) .1
 
 external-write-in-place-requires : tie.Need-external-write-in-place-requires
 external-write-in-place-requires c κs = search needs
@@ -42,9 +42,9 @@ returns : tie.Need-returns
 unfolding stepBy
 returns c cd array =
     let c5 = c .before .before .before .before .before in
-    let c11 = c5 .before .before .before .before .before .before in
-    let c16 = c11 .before .before .before .before .before in
-    rw (c .number-only .ensures) (own-log _ _ _ _ (c5 .external-write-in-place .ensures cd array ∙ rw (front-count 80 _ (pairBytes (c16 .args .pairs .now)) _ (c11 .pair-bytes .ensures .0) (c11 .pair-bytes .ensures .1) (omega (arith, pairs-length (c16 .args .pairs .now), c16 .pre)) .2)))
+    let c12 = c5 .before .before .before .before .before .before .before in
+    let c17 = c12 .before .before .before .before .before in
+    rw (c .number-only .ensures) (own-log _ _ _ _ (c5 .external-write-in-place .ensures cd array ∙ rw (front-count 80 _ (pairBytes (c17 .args .pairs .now)) _ (c12 .pair-bytes .ensures .0) (c12 .pair-bytes .ensures .1) (omega (arith, pairs-length (c17 .args .pairs .now), c17 .pre)) .2)))
 
 pub perform-external-spec : {M : Type 1} → statement M
 perform-external-spec =

@@ -24,8 +24,8 @@ returns : tie.Need-returns
 unfolding stepBy
 returns c nw =
     let c3 = c .before .before .before in
-    let c10 = c3 .before .before .before .before .before .before .before in
-    own-log _ _ _ _ (c3 .read-in-place .ensures nw ∙ rw (c10 .board-answers .ensures))
+    let c11 = c3 .before .before .before .before .before .before .before .before in
+    own-log _ _ _ _ (c3 .read-in-place .ensures nw ∙ rw (c11 .board-answers .ensures))
 
 pub perform-read-spec : {M : Type 1} → statement M
 perform-read-spec =

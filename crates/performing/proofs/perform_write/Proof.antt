@@ -30,8 +30,8 @@ returns : tie.Need-returns
 unfolding stepBy
 returns c =
     let c7 = c .before .before .before .before .before .before .before in
-    let c14 = c7 .before .before .before .before .before .before .before in
-    own-log _ _ _ _ (c7 .write-in-place .ensures ∙ rw (c14 .board-answers .ensures))
+    let c15 = c7 .before .before .before .before .before .before .before .before in
+    own-log _ _ _ _ (c7 .write-in-place .ensures ∙ rw (c15 .board-answers .ensures))
 
 pub perform-write-spec : {M : Type 1} → statement M
 perform-write-spec =
