@@ -17,7 +17,7 @@ use Rattle.ways.specs.Lru.{lruAfter}
 use Rattle.ways.specs.Ways.{holds, lookupIn}
 use Rattle.directory.specs.declared.steps.Outcome.{Outcome}
 use Rattle.directory.specs.Outcome.{outcome}
-use Rattle.directory.specs.Steps.{directoryOf, validAt, tagAt, lruAt, lookupOf, stateNumberOf, afterUse, withLine, afterFill, withRanges, resetKeeping, afterControl, controlRefused, controlCall, afterFlush, invalidated, afterSnoop, snoopCall}
+use Rattle.directory.specs.Steps.{directoryOf, validAt, tagAt, lruAt, lookupOf, stateNumberOf, afterUse, withLine, afterFill, withRanges, resetKeeping, noRanges, firstReset, afterControl, controlRefused, controlCall, afterFlush, invalidated, afterSnoop, snoopCall}
 use Rattle.directory.specs.WellFormed.{Held, Same, SetApart, Sized, WithinLimits, Apart}
 use Rattle.ranges.specs.declared.Ranges.{Ranges}
 use Rattle.laws.proofs.Tests.{both, refuted, differ, cond-true, cond-false, by-test, same-or}
@@ -85,6 +85,11 @@ module _ (ranges : Ranges) where
 
   pub reset-apart : Apart (resetKeeping ranges)
   reset-apart = none-apart (resetKeeping ranges) reset-none
+
+-- the first one, by its fields and no range
+pub first-fields : directoryOf (firstReset .tags) (firstReset .valid) (firstReset .lru) (firstReset .cd) (firstReset .nw) noRanges ≡ firstReset
+unfolding resetKeeping
+first-fields = refl
 
 -- RANGES: setting them changes nothing else
 

@@ -9,7 +9,8 @@ use Rattle.refusal.specs.Call.{state}
 use Rattle.events.specs.Output.{start}
 use Rattle.rows.proofs.Printing.{header-length}
 use Rattle.events.proofs.Rest.{RunInvariant, run-begin, run-next, run-end}
-use Rattle.directory.specs.Steps.{directoryOf, noRanges, resetKeeping}
+use Rattle.directory.specs.Steps.{directoryOf, noRanges}
+use Rattle.directory.proofs.Laws.{first-fields}
 use Rattle.events.proofs.run_lines.Statement.{statement}
 use Rattle.events.proofs.run_lines.Tie as tie
 
@@ -24,8 +25,8 @@ first-requires : tie.Need-first-requires Inv-loop μ-loop
 first-requires c κs = search needs
 
 loop-holds : tie.Need-loop-holds Inv-loop μ-loop
-unfolding start resetKeeping
-loop-holds c = let at-first = c .before .before .before in rw (at-first .first .ensures) (run-begin _ _ _ _)
+unfolding start
+loop-holds c = let at-first = c .before .before .before in rw (at-first .first .ensures, first-fields) (run-begin _ _ _ _)
 
 sub-rest : tie.Need-sub-rest Inv-loop μ-loop
 sub-rest c = omega arith
