@@ -5,10 +5,10 @@ use directory::Directory;
 use directory::Outcome;
 
 #[no_mangle]
-pub extern "C" fn unit486_reset_by_value() -> Outcome
-    ensures { λ r. ⌜ r ≡ resetCall ⌝ }
+pub extern "C" fn unit486_reset_by_value(given: Directory) -> Outcome
+    ensures { λ r. ⌜ r ≡ resetCall given ⌝ }
 {
-    Directory::reset().answered(0)
+    given.reset().answered(0)
 }
 
 #[no_mangle]

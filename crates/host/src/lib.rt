@@ -3,6 +3,7 @@
 mod answers;
 mod by_value;
 mod in_place;
+mod setting;
 mod test_calls;
 mod thin;
 mod version;
@@ -22,6 +23,8 @@ pub use in_place::unit486_read_in_place;
 pub use in_place::unit486_reset_in_place;
 pub use in_place::unit486_snoop_in_place;
 pub use in_place::unit486_write_in_place;
+pub use setting::unit486_set_ranges_by_value;
+pub use setting::unit486_set_ranges_in_place;
 pub use test_calls::unit486_test_read_in_place;
 pub use test_calls::unit486_test_write_in_place;
 pub use thin::unit486_drop_line;

@@ -4,7 +4,7 @@ ghost use mathlib.Core.Path.{_≡_};
 
 #[no_mangle]
 pub extern "C" fn unit486_version() -> u32
-    ensures { λ r. ⌜ r ≡ 10 ⌝ }
+    ensures { λ r. ⌜ r ≡ 11 ⌝ }
 {
-    10
+    11
 }

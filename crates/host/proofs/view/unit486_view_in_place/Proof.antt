@@ -4,6 +4,7 @@ use mathlib.Core.Path.{_≡_, sym, _∙_, ap}
 use native.Mathlib.Omega.{arith}
 use lib.ListN.{length}
 use lib.Seq.{sets}
+use Rattle.ranges.specs.Ranges.{lentRanges}
 use Rattle.views.specs.View.{viewIn}
 use Rattle.views.proofs.Viewing.{view-refused, input-0, view-made}
 use Rattle.host.proofs.Copies.{line-copied}
@@ -17,15 +18,15 @@ view-number-requires c κs = search needs
 returns : tie.Need-returns
 returns c =
     let en = c .before .view-number .ensures in
-    (en, ap (sets _ 0) (view-refused _ _ _ _ _ _ _ en (c .if1 .taken)))
+    (en, ap (sets _ 0) (view-refused _ _ _ _ _ _ _ _ en (c .if1 .taken)))
 
 accepted-view-requires : tie.Need-accepted-view-requires
-accepted-view-requires c κs = input-0 _ _ _ _ _ _ _ (c .before .view-number .ensures) (c .if1 .left)
+accepted-view-requires c κs = input-0 _ _ _ _ _ _ _ _ (c .before .view-number .ensures) (c .if1 .left)
 
 -- the part that is copied is the view, sixteen bytes
 part : (c : tie.After-accepted-view) → let a = c .before .before .before .before .before .args in
-    (now (c .accepted-view .result) ≡ viewIn (now (a .tags)) (now (a .valid)) (now (a .lru)) (now (a .ram)) (now (a .«data»)) (a .address)) × (length (now (c .accepted-view .result)) ≡ 16)
-part c = view-made _ _ _ _ _ _ _ (c .before .before .view-number .ensures) (c .before .if1 .left) _ (c .accepted-view .ensures .0)
+    (now (c .accepted-view .result) ≡ viewIn (now (a .tags)) (now (a .valid)) (now (a .lru)) (lentRanges (a .range-count) (a .bounds)) (now (a .ram)) (now (a .«data»)) (a .address)) × (length (now (c .accepted-view .result)) ≡ 16)
+part c = view-made _ _ _ _ _ _ _ _ (c .before .before .view-number .ensures) (c .before .if1 .left) _ (c .accepted-view .ensures .0)
 
 copy-line-requires : tie.Need-copy-line-requires
 copy-line-requires c κs =
