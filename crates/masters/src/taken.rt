@@ -12,7 +12,7 @@ use ranges::BOUNDS;
 use ranges::read_only;
 use refusal::external_number;
 use refusal::memory_number;
-use refusal::ranges_number;
+use refusal::ranged_number;
 use refusal::states_number;
 
 // Its number, by the lengths of RAM and parity array.
@@ -38,11 +38,11 @@ pub fn external_write_number<'a>(
     if own != 0 {
         return own;
     }
-    let kept = ranges_number(ram, range_count, bounds);
-    if kept != 0 {
-        return kept;
+    let bytes = count as u32;
+    if range_count != 0 {
+        return ranged_number(tags, valid, lru, range_count, bounds, ram, address, bytes);
     }
-    states_number(tags, valid, lru, address, count as u32)
+    states_number(tags, valid, lru, address, bytes)
 }
 
 // Bytes of one line go into RAM with their parity, unless the line is read-only.

@@ -85,6 +85,29 @@ module _ (ram parity array address width : ℕ) (answers : List ℕ) (log later 
       pub asked-later : k ≡ 0 → (r : ℕ) → r ≡ later → r ≡ whole
       asked-later y r g = number-later n r (orElse lent first) (orElse second later) e z (number-later k r second later f y g) ∙ asked
 
+-- the same where a number of its own is asked for with the second
+module _ (ram parity array address width : ℕ) (answers : List ℕ) (log own rest : ℕ) where
+  abbrev lent-first : ℕ
+  lent-first = orElse (lentNumber ram parity array) (orElse (when (badWidth width) 4) (orElse (when (ltb ram (address + width)) 5) (when (not (eqb (length answers) answerCount)) 6)))
+
+  abbrev then-second : ℕ
+  then-second = orElse (when (anyAbove highestAnswer answers) 6) (when (ltb log logSize) 7)
+
+  abbrev all : ℕ
+  all = orElse (lentNumber ram parity array) (orElse (argumentNumber ram address width answers log) (orElse own rest))
+
+  module _ (n : ℕ) (e : n ≡ lent-first) (z : n ≡ 0) (k : ℕ) (f : k ≡ orElse then-second own) where
+    pub asked-joined : (k ≡ 0 → ⊥) → k ≡ all
+    asked-joined h =
+        same-or _ then-second 0
+        (λ none. asked-later ram parity array address width answers log (orElse own rest) n e z 0 (sym none) refl k (number-first k own rest (f ∙ zero-or then-second own none) h))
+        (λ some. asked-second ram parity array address width answers log (orElse own rest) n e z k (f ∙ first-or then-second own some) h)
+
+    pub asked-after : k ≡ 0 → (r : ℕ) → r ≡ rest → r ≡ all
+    asked-after y r g =
+        let p = or-zero then-second own (sym f ∙ y) in
+        asked-later ram parity array address width answers log (orElse own rest) n e z 0 (sym (p .0)) refl r (number-later 0 r own rest (sym (p .1)) refl g)
+
 pub when-zero : (b : Bool) (n : ℕ) → 0 < n → when b n ≡ 0 → b ≡ false
 when-zero true n h e = absurd (omega arith)
 when-zero false n h e = refl
@@ -218,3 +241,6 @@ ranges-good ram rs count e h = rw (e, le-ltb 8 count h)
 pub none-kept : (ram : ℕ) (kept : Ranges) → kept .count ≡ 0 → keptNumber ram kept ≡ 0
 unfolding anyBad rangesOf rangesIn
 none-kept ram kept z = ranges-good ram (rangesOf kept) (kept .count) (rw z) (omega arith)
+
+pub none-first : (ram : ℕ) (kept : Ranges) → kept .count ≡ 0 → (r later : ℕ) → r ≡ later → r ≡ orElse (keptNumber ram kept) later
+none-first ram kept z r later g = number-later 0 r (keptNumber ram kept) later (sym (none-kept ram kept z)) refl g

@@ -6,8 +6,9 @@ ghost use Rattle.carried.specs.CarriedCode.{carriedOf};
 ghost use Rattle.refusal.specs.Refusal.{argumentNumber, carriedNumber, carriedStatesNumberIn, keptNumber, lentNumber, orElse, statesNumberIn, valueNumber};
 use crate::input::answers_number;
 use crate::input::input_number;
+use crate::input::or_else;
 use crate::input::value_number;
-use crate::kept::ranges_number;
+use crate::state::ranged_number;
 use crate::state::states_number;
 use crate::writes::carried_number;
 use crate::writes::carried_states_number;
@@ -44,9 +45,17 @@ pub fn read_number<'a>(
     if next != 0 {
         return next;
     }
-    let kept = ranges_number(ram.len(), range_count, bounds);
-    if kept != 0 {
-        return kept;
+    if range_count != 0 {
+        return ranged_number(
+            tags,
+            valid,
+            lru,
+            range_count,
+            bounds,
+            ram.len(),
+            address,
+            width,
+        );
     }
     states_number(tags, valid, lru, address, width)
 }
@@ -86,11 +95,16 @@ pub fn read_carrying_number<'a>(
     if wrong != 0 {
         return wrong;
     }
-    let kept = ranges_number(ram.len(), range_count, bounds);
-    if kept != 0 {
-        return kept;
-    }
-    let own = states_number(tags, valid, lru, address, width);
+    let own = ranged_number(
+        tags,
+        valid,
+        lru,
+        range_count,
+        bounds,
+        ram.len(),
+        address,
+        width,
+    );
     if own != 0 {
         return own;
     }
@@ -123,17 +137,21 @@ pub fn write_number<'a>(
     if number != 0 {
         return number;
     }
-    let next = answers_number(answers, log);
+    let next = or_else(answers_number(answers, log), value_number(width, value));
     if next != 0 {
         return next;
     }
-    let large = value_number(width, value);
-    if large != 0 {
-        return large;
-    }
-    let kept = ranges_number(ram.len(), range_count, bounds);
-    if kept != 0 {
-        return kept;
+    if range_count != 0 {
+        return ranged_number(
+            tags,
+            valid,
+            lru,
+            range_count,
+            bounds,
+            ram.len(),
+            address,
+            width,
+        );
     }
     states_number(tags, valid, lru, address, width)
 }

@@ -14,4 +14,5 @@ pub use input::memory_number;
 pub use input::or_else;
 pub use input::view_input_number;
 pub use kept::ranges_number;
+pub use state::ranged_number;
 pub use state::states_number;

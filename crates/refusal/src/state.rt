@@ -2,7 +2,10 @@
 ghost use mathlib.Core.Path.{_≡_};
 ghost use Prim.Native.Nat.{_+_, _-_, _<_};
 ghost use Rattle.ways.specs.Address.{setCount, setOf};
-ghost use Rattle.refusal.specs.Refusal.{statesNumberIn};
+ghost use Rattle.ranges.specs.Ranges.{lentRanges};
+ghost use Rattle.refusal.specs.Refusal.{keptNumber, orElse, statesNumberIn};
+use crate::kept::ranges_number;
+use ranges::BOUNDS;
 use ways::LINES;
 use ways::SETS;
 
@@ -36,4 +39,25 @@ pub fn states_number<'a>(
         return number;
     }
     ways::state_number(tags, valid, lru, last)
+}
+
+// Numbers 37 and 38 of the ranges that are kept, then those of every touched set: what a call with ranges asks for, apart from the
+// calls, so that one without has the test of its set in line.
+pub fn ranged_number<'a>(
+    tags: &'a [u32; LINES],
+    valid: &'a [bool; LINES],
+    lru: &'a [u8; SETS],
+    range_count: u32,
+    bounds: &'a [u32; BOUNDS],
+    ram: usize,
+    address: u32,
+    count: u32,
+) -> u32
+    ensures { λ r. ⌜ r ≡ orElse (keptNumber ram (lentRanges «range_count» (bounds .entry))) (statesNumberIn (now (tags .entry)) (now (valid .entry)) (now (lru .entry)) address count) ⌝ }
+{
+    let kept = ranges_number(ram, range_count, bounds);
+    if kept != 0 {
+        return kept;
+    }
+    states_number(tags, valid, lru, address, count)
 }

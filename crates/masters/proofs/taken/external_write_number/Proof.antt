@@ -1,6 +1,6 @@
 use mathlib.Core.Path.{sym, _∙_}
 use native.Mathlib.Omega.{arith}
-use Rattle.refusal.proofs.Accepted.{number-first, number-later, external-accepted}
+use Rattle.refusal.proofs.Accepted.{number-first, number-later, none-first, external-accepted}
 use borrow.Author.Needs.{needs}
 use Rattle.masters.proofs.taken.external_write_number.Statement.{statement}
 use Rattle.masters.proofs.taken.external_write_number.Tie as tie
@@ -19,33 +19,31 @@ returns-2 c =
     let at-if1 = c .before .before in
     number-later _ _ _ _ (at-if1 .before .memory-number .ensures) (at-if1 .if1 .left) (number-first _ _ _ (c .before .external-number .ensures) (c .if2 .taken))
 
-ranges-number-requires : tie.Need-ranges-number-requires
-ranges-number-requires c κs = search needs
+cast-bytes : tie.Need-cast-bytes
+cast-bytes c =
+    let at-if2 = c in
+    let g = external-accepted _ _ _ (sym (at-if2 .before .external-number .ensures) ∙ at-if2 .if2 .left) in
+    omega (arith, g .most)
+
+ranged-number-requires : tie.Need-ranged-number-requires
+ranged-number-requires c κs = search needs
 
 returns-3 : tie.Need-returns-3
 returns-3 c =
     let at-if2 = c .before .before in
     let at-if1 = at-if2 .before .before in
     number-later _ _ _ _ (at-if1 .before .memory-number .ensures) (at-if1 .if1 .left)
-    (number-later _ _ _ _ (at-if2 .before .external-number .ensures) (at-if2 .if2 .left) (number-first _ _ _ (c .before .ranges-number .ensures) (c .if3 .taken)))
-
-cast-states-number : tie.Need-cast-states-number
-cast-states-number c =
-    let at-if2 = c .before .before in
-    let g = external-accepted _ _ _ (sym (at-if2 .before .external-number .ensures) ∙ at-if2 .if2 .left) in
-    omega (arith, g .most)
+    (number-later _ _ _ _ (at-if2 .before .external-number .ensures) (at-if2 .if2 .left) (c .ranged-number .ensures))
 
 states-number-requires : tie.Need-states-number-requires
 states-number-requires c κs = search needs
 
 returns-4 : tie.Need-returns-4
 returns-4 c =
-    let at-if3 = c .before in
-    let at-if2 = at-if3 .before .before in
+    let at-if2 = c .before .before in
     let at-if1 = at-if2 .before .before in
     number-later _ _ _ _ (at-if1 .before .memory-number .ensures) (at-if1 .if1 .left)
-    (number-later _ _ _ _ (at-if2 .before .external-number .ensures) (at-if2 .if2 .left)
-    (number-later _ _ _ _ (at-if3 .before .ranges-number .ensures) (at-if3 .if3 .left) (c .states-number .ensures)))
+    (number-later _ _ _ _ (at-if2 .before .external-number .ensures) (at-if2 .if2 .left) (none-first _ _ (c .before .if3 .left) _ _ (c .states-number .ensures)))
 
 pub external-write-number-spec : {M : Type 1} → statement M
 external-write-number-spec =
@@ -55,8 +53,8 @@ external-write-number-spec =
     returns
     external-number-requires
     returns-2
-    ranges-number-requires
+    cast-bytes
+    ranged-number-requires
     returns-3
-    cast-states-number
     states-number-requires
     returns-4)

@@ -5,7 +5,7 @@ use denote.Ref.{now}
 use Rattle.ranges.specs.Ranges.{lentRanges}
 use Rattle.carried.specs.CarriedCode.{carriedOf}
 use Rattle.refusal.specs.Refusal.{orElse, carriedNumber, keptNumber, statesNumberIn, carriedStatesNumberIn}
-use Rattle.refusal.proofs.Accepted.{number-first, number-later, asked-first, asked-second, asked-later}
+use Rattle.refusal.proofs.Accepted.{number-first, number-later, or-grouped, asked-first, asked-second, asked-later}
 use Rattle.refusal.proofs.Carried.{carried-accepted}
 use borrow.Author.Needs.{needs}
 use Rattle.refusal.proofs.call.read_carrying_number.Statement.{statement}
@@ -54,8 +54,8 @@ returns-3 c =
     (orElse wrong (orElse kept (orElse own theirs))) _ (at-if1 .before .input-number .ensures) (at-if1 .if1 .left) _ (at-if2 .before .answers-number .ensures) (at-if2 .if2 .left) _
     (number-first _ wrong (orElse kept (orElse own theirs)) (c .before .carried-number .ensures) (c .if3 .taken))
 
-ranges-number-requires : tie.Need-ranges-number-requires
-ranges-number-requires c κs = search needs
+ranged-number-requires : tie.Need-ranged-number-requires
+ranged-number-requires c κs = search needs
 
 returns-4 : tie.Need-returns-4
 returns-4 c =
@@ -70,38 +70,17 @@ returns-4 c =
     asked-later (length (now (a .ram))) (length (now (a .parity))) (length (now (a .«data»))) (a .address) (a .width) (now (a .answers)) (length (now (a .log)))
     (orElse wrong (orElse kept (orElse own theirs))) _ (at-if1 .before .input-number .ensures) (at-if1 .if1 .left) _ (at-if2 .before .answers-number .ensures) (at-if2 .if2 .left) _
     (number-later _ _ wrong (orElse kept (orElse own theirs)) (at-if3 .before .carried-number .ensures) (at-if3 .if3 .left)
-    (number-first _ kept (orElse own theirs) (c .before .ranges-number .ensures) (c .if4 .taken)))
-
-states-number-requires : tie.Need-states-number-requires
-states-number-requires c κs = search needs
-
-returns-5 : tie.Need-returns-5
-returns-5 c =
-    let at-if4 = c .before .before in
-    let at-if3 = at-if4 .before .before in
-    let at-if2 = at-if3 .before .before in
-    let at-if1 = at-if2 .before .before in
-    let a = at-if1 .before .before .before .before .before .before .before .args in
-    let wrong = carriedNumber (length (now (a .ram))) (carriedOf (a .carried)) in
-    let kept = keptNumber (length (now (a .ram))) (lentRanges (a .range-count) (a .bounds)) in
-    let own = statesNumberIn (now (a .tags)) (now (a .valid)) (now (a .lru)) (a .address) (a .width) in
-    let theirs = carriedStatesNumberIn (now (a .tags)) (now (a .valid)) (now (a .lru)) (carriedOf (a .carried)) in
-    asked-later (length (now (a .ram))) (length (now (a .parity))) (length (now (a .«data»))) (a .address) (a .width) (now (a .answers)) (length (now (a .log)))
-    (orElse wrong (orElse kept (orElse own theirs))) _ (at-if1 .before .input-number .ensures) (at-if1 .if1 .left) _ (at-if2 .before .answers-number .ensures) (at-if2 .if2 .left) _
-    (number-later _ _ wrong (orElse kept (orElse own theirs)) (at-if3 .before .carried-number .ensures) (at-if3 .if3 .left)
-    (number-later _ _ kept (orElse own theirs) (at-if4 .before .ranges-number .ensures) (at-if4 .if4 .left)
-    (number-first _ own theirs (c .before .states-number .ensures) (c .if5 .taken))))
+    (number-first _ (orElse kept own) theirs (c .before .ranged-number .ensures) (c .if4 .taken) ∙ or-grouped kept own theirs))
 
 carried-states-number-requires : tie.Need-carried-states-number-requires
 carried-states-number-requires c κs =
-    let at-if3 = c .before .before .before .before in
+    let at-if3 = c .before .before in
     let a = at-if3 .before .before .before .before .before .before .before .before .before .before .before .args in
     carried-accepted (a .carried) (length (now (a .ram))) (length (now (a .ram))) (sym (at-if3 .before .carried-number .ensures) ∙ at-if3 .if3 .left) (omega arith) .few
 
-returns-6 : tie.Need-returns-6
-returns-6 c =
-    let at-if5 = c .before in
-    let at-if4 = at-if5 .before .before in
+returns-5 : tie.Need-returns-5
+returns-5 c =
+    let at-if4 = c .before in
     let at-if3 = at-if4 .before .before in
     let at-if2 = at-if3 .before .before in
     let at-if1 = at-if2 .before .before in
@@ -113,8 +92,7 @@ returns-6 c =
     asked-later (length (now (a .ram))) (length (now (a .parity))) (length (now (a .«data»))) (a .address) (a .width) (now (a .answers)) (length (now (a .log)))
     (orElse wrong (orElse kept (orElse own theirs))) _ (at-if1 .before .input-number .ensures) (at-if1 .if1 .left) _ (at-if2 .before .answers-number .ensures) (at-if2 .if2 .left) _
     (number-later _ _ wrong (orElse kept (orElse own theirs)) (at-if3 .before .carried-number .ensures) (at-if3 .if3 .left)
-    (number-later _ _ kept (orElse own theirs) (at-if4 .before .ranges-number .ensures) (at-if4 .if4 .left)
-    (number-later _ _ own theirs (at-if5 .before .states-number .ensures) (at-if5 .if5 .left) (c .carried-states-number .ensures))))
+    (number-later _ _ (orElse kept own) theirs (at-if4 .before .ranged-number .ensures) (at-if4 .if4 .left) (c .carried-states-number .ensures) ∙ or-grouped kept own theirs))
 
 pub read-carrying-number-spec : {M : Type 1} → statement M
 read-carrying-number-spec =
@@ -126,9 +104,7 @@ read-carrying-number-spec =
     returns-2
     carried-number-requires
     returns-3
-    ranges-number-requires
+    ranged-number-requires
     returns-4
-    states-number-requires
-    returns-5
     carried-states-number-requires
-    returns-6)
+    returns-5)

@@ -2,7 +2,7 @@ use lib.ListN.{length}
 use denote.Ref.{now}
 use Rattle.ranges.specs.Ranges.{lentRanges}
 use Rattle.refusal.specs.Refusal.{orElse, keptNumber, statesNumberIn}
-use Rattle.refusal.proofs.Accepted.{number-first, number-later, asked-first, asked-second, asked-later}
+use Rattle.refusal.proofs.Accepted.{asked-first, asked-second, asked-later, none-first}
 use borrow.Author.Needs.{needs}
 use Rattle.refusal.proofs.call.read_number.Statement.{statement}
 use Rattle.refusal.proofs.call.read_number.Tie as tie
@@ -30,8 +30,8 @@ returns-2 c =
     asked-second (length (now (a .ram))) (length (now (a .parity))) (length (now (a .«data»))) (a .address) (a .width) (now (a .answers)) (length (now (a .log)))
     (orElse kept states) _ (at-if1 .before .input-number .ensures) (at-if1 .if1 .left) _ (c .before .answers-number .ensures) (c .if2 .taken)
 
-ranges-number-requires : tie.Need-ranges-number-requires
-ranges-number-requires c κs = search needs
+ranged-number-requires : tie.Need-ranged-number-requires
+ranged-number-requires c κs = search needs
 
 returns-3 : tie.Need-returns-3
 returns-3 c =
@@ -42,22 +42,21 @@ returns-3 c =
     let states = statesNumberIn (now (a .tags)) (now (a .valid)) (now (a .lru)) (a .address) (a .width) in
     asked-later (length (now (a .ram))) (length (now (a .parity))) (length (now (a .«data»))) (a .address) (a .width) (now (a .answers)) (length (now (a .log)))
     (orElse kept states) _ (at-if1 .before .input-number .ensures) (at-if1 .if1 .left) _ (at-if2 .before .answers-number .ensures) (at-if2 .if2 .left) _
-    (number-first _ kept states (c .before .ranges-number .ensures) (c .if3 .taken))
+    (c .ranged-number .ensures)
 
 states-number-requires : tie.Need-states-number-requires
 states-number-requires c κs = search needs
 
 returns-4 : tie.Need-returns-4
 returns-4 c =
-    let at-if3 = c .before in
-    let at-if2 = at-if3 .before .before in
+    let at-if2 = c .before .before in
     let at-if1 = at-if2 .before .before in
     let a = at-if1 .before .before .before .before .before .before .before .args in
     let kept = keptNumber (length (now (a .ram))) (lentRanges (a .range-count) (a .bounds)) in
     let states = statesNumberIn (now (a .tags)) (now (a .valid)) (now (a .lru)) (a .address) (a .width) in
     asked-later (length (now (a .ram))) (length (now (a .parity))) (length (now (a .«data»))) (a .address) (a .width) (now (a .answers)) (length (now (a .log)))
     (orElse kept states) _ (at-if1 .before .input-number .ensures) (at-if1 .if1 .left) _ (at-if2 .before .answers-number .ensures) (at-if2 .if2 .left) _
-    (number-later _ _ kept states (at-if3 .before .ranges-number .ensures) (at-if3 .if3 .left) (c .states-number .ensures))
+    (none-first (length (now (a .ram))) (lentRanges (a .range-count) (a .bounds)) (c .before .if3 .left) _ states (c .states-number .ensures))
 
 pub read-number-spec : {M : Type 1} → statement M
 read-number-spec =
@@ -67,7 +66,7 @@ read-number-spec =
     returns
     answers-number-requires
     returns-2
-    ranges-number-requires
+    ranged-number-requires
     returns-3
     states-number-requires
     returns-4)
