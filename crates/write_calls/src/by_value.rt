@@ -10,7 +10,6 @@ use directory::Outcome;
 use doubleword::AccessCursor;
 use doubleword::Change;
 use doubleword::changed_by;
-use ranges::read_only;
 use refusal::write_number;
 use writing::write_next;
 
@@ -35,12 +34,12 @@ fn write_all(
     let ranges = given.ranges;
     let mut cursor = AccessCursor::begin(address, width);
     while 0 < cursor.left {
-        let rom = read_only(ranges.count, &ranges.bounds, cursor.address);
         let next = write_next(
             &given.tags,
             &given.valid,
             given.cd & given.nw,
-            rom,
+            ranges.count,
+            &ranges.bounds,
             ram,
             parity,
             data,

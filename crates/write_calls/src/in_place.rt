@@ -10,7 +10,6 @@ use access::number_only;
 use doubleword::AccessCursor;
 use doubleword::change_lru_in_place;
 use ranges::BOUNDS;
-use ranges::read_only;
 use refusal::write_number;
 use ways::LINES;
 use ways::SETS;
@@ -43,12 +42,12 @@ fn write_accepted<'a>(
 {
     let mut cursor = AccessCursor::begin(address, width);
     while 0 < cursor.left {
-        let rom = read_only(range_count, bounds, cursor.address);
         let next = write_next(
             tags,
             valid,
             cd & nw,
-            rom,
+            range_count,
+            bounds,
             ram,
             parity,
             data,

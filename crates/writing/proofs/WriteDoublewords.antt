@@ -68,8 +68,8 @@ module _ (f : Found) (stays : Bool) (rs : List Range) (m₀ : Memory) (array ope
       })
 
   -- sent through to RAM, in cycles
-  module _ (g : OneDoubleword (w .wanted)) (enough : 16 ≤ length (w .answers)) (aligned : w .line % 16 ≡ 0) (rom : Bool) (ro : readOnly rs (w .line) ≡ rom) (cycles : ℕ) (m : Memory) (log : List ℕ)
-      (em : m ≡ cond rom m₀ (stored m₀ (w .line + w .wanted .from) sent))
+  module _ (g : OneDoubleword (w .wanted)) (enough : 16 ≤ length (w .answers)) (aligned : w .line % 16 ≡ 0) (cycles : ℕ) (m : Memory) (log : List ℕ)
+      (em : m ≡ cond (readOnly rs (w .line)) m₀ (stored m₀ (w .line + w .wanted .from) sent))
       (made : CyclesMade (writeRecord (sentLine (w .wanted .from) sent) (w .line)) (plainCycles w) first 0 log₀ cycles log) (most : cycles ≤ 4) where
     sent-buffer : writeBuffer operand w ≡ sentLine (w .wanted .from) sent
     sent-buffer = ap (sentLine (w .wanted .from)) es
@@ -81,7 +81,7 @@ module _ (f : Found) (stays : Bool) (rs : List Range) (m₀ : Memory) (array ope
     sent-taken : m ≡ written rs m₀ (w .line + w .wanted .from) sent
     sent-taken =
         let a = w .line + w .wanted .from in
-        let here : readOnly rs a ≡ rom = same-line rs a (w .line) (in-line (w .line) (w .wanted .from) aligned (omega (arith, g .line, g .some))) ∙ ro in
+        let here : readOnly rs a ≡ readOnly rs (w .line) = same-line rs a (w .line) (in-line (w .line) (w .wanted .from) aligned (omega (arith, g .line, g .some))) in
         let room : a % 16 + length sent ≤ 16 = rw sent-length (line-room (w .line) (w .wanted .from) (w .wanted .count) aligned (g .line) (g .some)) in
         em ∙ rw (← here) (sym (written-line rs m₀ a sent room))
 
@@ -115,6 +115,10 @@ unfolding writeDone writeThrough
 write-no-fill (At way) true rs m array operand w = tt
 write-no-fill (At way) false rs m array operand w = tt
 write-no-fill Nothing stays rs m array operand w = tt
+
+-- a doubleword is read-only where its line is
+pub doubleword-line : (rs : List Range) (line from : ℕ) → line % 16 ≡ 0 → from < 16 → readOnly rs (line + from / 4 * 4) ≡ readOnly rs line
+doubleword-line rs line from h l = same-line rs (line + from / 4 * 4) line (in-line line (from / 4 * 4) h (omega arith))
 
 -- the place of some lanes of a doubleword
 pub lane-place : (at from : ℕ) → at + from / 4 * 4 + from % 4 ≡ at + from

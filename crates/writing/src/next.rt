@@ -1,11 +1,9 @@
 // The next doubleword of a write.
-ghost use mathlib.Core.Path.{_≡_};
-ghost use mathlib.Core.List.{List};
 ghost use Prim.Native.Nat.{_<_};
 ghost use lib.ListN.{length};
 ghost use Rattle.ways.specs.Ways.{lookupIn};
 ghost use Rattle.words.specs.Bytes.{bytesOf};
-ghost use Rattle.ranges.specs.Ranges.{Range, readOnly};
+ghost use Rattle.ranges.specs.Ranges.{lentRanges, rangesOf};
 ghost use Rattle.memory.specs.Parity.{lentMemory};
 ghost use Rattle.bus.specs.Groups.{widest};
 ghost use Rattle.doubleword.specs.Cursor.{AccessNeeds, lineAddress, nextDoubleword};
@@ -14,6 +12,7 @@ ghost use Rattle.writing.specs.WritingCode.{WriteNext};
 use crate::writing::write_doubleword;
 use doubleword::AccessCursor;
 use doubleword::Change;
+use ranges::BOUNDS;
 use ways::LINES;
 use words::placed_lanes;
 
@@ -26,13 +25,14 @@ pub struct NextWritten {
     pub cycles: usize,
 }
 
-// The doubleword at a cursor, by lent fields of the directory. stays: CD = NW = 1, where a hit makes no cycle. rom: the doubleword's
-// line is read-only, so that RAM and parity ignore it.
+// The doubleword at a cursor, by lent fields of the directory. stays: CD = NW = 1, where a hit makes no cycle. range_count, bounds: the
+// ranges that the directory keeps; in a read-only line RAM and parity ignore it.
 pub fn write_next<'a>(
     tags: &'a [u32; LINES],
     valid: &'a [bool; LINES],
     stays: bool,
-    rom: bool,
+    range_count: u32,
+    bounds: &'a [u32; BOUNDS],
     ram: &mut [u8],
     parity: &mut [u8],
     data: &mut [u8],
@@ -42,9 +42,9 @@ pub fn write_next<'a>(
     cursor: AccessCursor,
 ) -> NextWritten
     requires { ⌜ (0 < cursor .left) × AccessNeeds cursor (length (now ram)) (length (now parity)) (length (now «data»)) (length (now answers)) (length (now log)) ⌝ }
-    ensures { λ r. ⌜ ((rs : List Range) → readOnly rs (lineAddress cursor) ≡ rom → WriteNext (writeDone (lookupIn (now (tags .entry)) (now (valid .entry)) (lineAddress cursor)) stays rs
+    ensures { λ r. ⌜ WriteNext (writeDone (lookupIn (now (tags .entry)) (now (valid .entry)) (lineAddress cursor)) stays (rangesOf (lentRanges «range_count» (bounds .entry)))
         (lentMemory (ram .entry) (parity .entry)) (now («data» .entry)) (bytesOf widest value) (nextDoubleword cursor (now (answers .entry))))
-        cursor (now (log .entry)) r (lentMemory (ram .exit) (parity .exit)) (now («data» .exit)) (now (log .exit))) ⌝ }
+        cursor (now (log .entry)) r (lentMemory (ram .exit) (parity .exit)) (now («data» .exit)) (now (log .exit)) ⌝ }
 {
     let w = cursor.wanted();
     let group = cursor.group_of(answers);
@@ -53,7 +53,8 @@ pub fn write_next<'a>(
         tags,
         valid,
         stays,
-        rom,
+        range_count,
+        bounds,
         ram,
         parity,
         data,

@@ -4,12 +4,10 @@ use Rattle.access.proofs.AccessLoop.{restOf, keep-changed}
 use Rattle.refusal.specs.Call.{state}
 use Rattle.access.specs.Access.{allOf, writeOne, operandOf}
 use Rattle.doubleword.proofs.Cursors.{cursor-less, cursor-next}
-use Rattle.doubleword.specs.Cursor.{lineAddress, accessBegin}
+use Rattle.doubleword.specs.Cursor.{accessBegin}
 use Rattle.memory.specs.Parity.{memory}
-use Rattle.directory.specs.Steps.{rangesKept}
-use Rattle.ranges.specs.Ranges.{rangesOf, readOnly}
-use Rattle.ranges.proofs.Laws.{read-only-line}
-use mathlib.Core.Path.{_≡_, sym, _∙_}
+use Rattle.ranges.specs.Ranges.{rangesOf}
+use mathlib.Core.Path.{_∙_}
 use mathlib.Core.Logic.{⊎-elim}
 use denote.Ref.{now}
 use native.Mathlib.Omega.{arith}
@@ -37,20 +35,10 @@ loop-holds c =
     (write-begin (a .t1) (memory (now (a .ram)) (now (a .parity))) (now (a .«data»)) (a .address) (a .width) (now (a .answers)) (now (a .log))
     (a .value) (start .pre))
 
-read-only-requires : tie.Need-read-only-requires Inv-loop μ-loop
-read-only-requires c κs = search needs
-
 write-next-requires : tie.Need-write-next-requires Inv-loop μ-loop
 write-next-requires c κs =
-    let at-if1 = c .before .before .before .before .before .before .before .before .before .before in
+    let at-if1 = c .before .before .before .before .before .before .before .before .before in
     (at-if1 .if1 .taken, kept-needs (at-if1 .before .before .loop .inv) (at-if1 .if1 .taken))
-
--- the line of a doubleword is read-only where its first wanted byte is
-line-asked : (c : tie.After-read-only Inv-loop μ-loop) →
-    let at-loop = c .before .before .before .before .before in
-    let a = at-loop .before .before .before .before .before .before .before .before .args in
-    readOnly (rangesKept (a .t1)) (lineAddress (at-loop .loop .cursor)) ≡ c .read-only .result
-line-asked c = read-only-line _ _ ∙ sym (c .read-only .ensures)
 
 enum-told : tie.Need-enum-told Inv-loop μ-loop
 enum-told c = search needs
@@ -58,38 +46,35 @@ enum-told c = search needs
 changed-by-requires : tie.Need-changed-by-requires Inv-loop μ-loop
 changed-by-requires c κs =
     let at-write-next = c .before .before .before .before .before .before .before .before .before in
-    at-write-next .write-next .ensures _ (line-asked (at-write-next .before .before .before .before .before .before .before .before)) .writes .below
+    at-write-next .write-next .ensures .writes .below
 
 next-requires : tie.Need-next-requires Inv-loop μ-loop
 next-requires c κs =
     let at-write-next = c .before .before .before .before .before .before .before .before .before in
-    let at-read-only = at-write-next .before .before .before .before .before .before .before .before in
-    let at-loop = at-read-only .before .before .before .before .before in
-    let r = at-write-next .write-next .ensures _ (line-asked at-read-only) in
+    let at-loop = at-write-next .before .before .before .before .before .before .before .before .before .before .before .before in
+    let r = at-write-next .write-next .ensures in
     cursor-next _ _ _ _ _ _ _ _ (r .counts) (r .writes .most) (at-loop .loop .inv .needs)
 
 loop-less : tie.Need-loop-less Inv-loop μ-loop
 loop-less c =
     let at-write-next = c .before .before .before .before .before .before .before .before .before .before in
-    let at-read-only = at-write-next .before .before .before .before .before .before .before .before in
-    let at-if1 = at-read-only .before .before .before in
-    cursor-less _ _ _ _ (at-if1 .if1 .taken) (at-write-next .write-next .ensures _ (line-asked at-read-only) .counts) (c .next .ensures)
+    let at-if1 = at-write-next .before .before .before .before .before .before .before .before .before .before in
+    cursor-less _ _ _ _ (at-if1 .if1 .taken) (at-write-next .write-next .ensures .counts) (c .next .ensures)
 
 loop-again : tie.Need-loop-again Inv-loop μ-loop
 unfolding writeOne
 loop-again c =
     let at-match = c .before in
     let at-write-next = at-match .before .before .before .before .before .before .before .before .before in
-    let at-read-only = at-write-next .before .before .before .before .before .before .before .before in
-    let at-if1 = at-read-only .before .before .before in
-    let r = at-write-next .write-next .ensures _ (line-asked at-read-only) in
+    let at-if1 = at-write-next .before .before .before .before .before .before .before .before .before .before in
+    let r = at-write-next .write-next .ensures in
     let kept = at-write-next .write-next .kept in
     kept-next (at-if1 .before .before .loop .inv) (at-if1 .if1 .taken) (r .writes) (at-write-next .write-next .result .line) _ (r .line) (r .counts) _ _
     (⊎-elim (λ w. keep-changed _ _ _ _ (w .1 .given .1) (w .2)) (λ w. w .2 ∙ w .1 .ensures) (at-match .match .came)) (c .next .ensures)
-    (kept .1 .1 .1 .1 .0) (kept .1 .1 .1 .1 .1 .0) (kept .1 .1 .1 .1 .1 .1 .0) (kept .1 .1 .1 .1 .1 .1 .1 .1 .0)
+    (kept .1 .1 .1 .1 .1 .0) (kept .1 .1 .1 .1 .1 .1 .0) (kept .1 .1 .1 .1 .1 .1 .1 .0) (kept .1 .1 .1 .1 .1 .1 .1 .1 .1 .0)
 
-cast-t35 : tie.Need-cast-t35 Inv-loop μ-loop
-cast-t35 c = omega (arith, c .before .before .before .loop .inv .needs .made, c .before .before .before .loop .inv .needs .last)
+cast-t34 : tie.Need-cast-t34 Inv-loop μ-loop
+cast-t34 c = omega (arith, c .before .before .before .loop .inv .needs .made, c .before .before .before .loop .inv .needs .last)
 
 same-length : tie.Need-same-length Inv-loop μ-loop
 same-length c = c .before .before .before .loop .inv .rams
@@ -119,14 +104,13 @@ write-all-spec =
     μ-loop
     begin-requires
     loop-holds
-    read-only-requires
     write-next-requires
     enum-told
     changed-by-requires
     next-requires
     loop-less
     loop-again
-    cast-t35
+    cast-t34
     same-length
     same-length-2
     same-length-3

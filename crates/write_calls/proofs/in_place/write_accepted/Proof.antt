@@ -5,12 +5,10 @@ use Rattle.refusal.specs.Call.{state}
 use Rattle.access.specs.Access.{allOf, writeOne, operandOf}
 use Rattle.doubleword.proofs.Cursors.{cursor-less, cursor-next}
 use Rattle.writing.proofs.WriteDoublewords.{write-no-fill}
-use Rattle.doubleword.specs.Cursor.{lineAddress, accessBegin}
+use Rattle.doubleword.specs.Cursor.{accessBegin}
 use Rattle.memory.specs.Parity.{memory}
-use mathlib.Core.Path.{_≡_, sym, _∙_}
 use Rattle.ranges.specs.declared.Ranges.{Ranges}
-use Rattle.ranges.specs.Ranges.{lentRanges, rangesOf, readOnly}
-use Rattle.ranges.proofs.Laws.{read-only-line}
+use Rattle.ranges.specs.Ranges.{lentRanges, rangesOf}
 use Rattle.directory.specs.Steps.{directoryOf}
 use denote.Ref.{now}
 use native.Mathlib.Omega.{arith}
@@ -41,54 +39,43 @@ loop-holds c =
     (write-begin (directoryOf (now (a .tags)) (now (a .valid)) (now (a .lru)) (a .cd) (a .nw) (lentRanges (a .range-count) (a .bounds))) (memory (now (a .ram)) (now (a .parity))) (now (a .«data»))
     (a .address) (a .width) (now (a .answers)) (now (a .log)) (a .value) (start .pre))
 
-read-only-requires : tie.Need-read-only-requires Inv-loop μ-loop
-read-only-requires c κs = search needs
-
 write-next-requires : tie.Need-write-next-requires Inv-loop μ-loop
 write-next-requires c κs =
-    let at-if1 = c .before .before .before .before .before in
+    let at-if1 = c .before .before .before .before in
     let at-loop = at-if1 .before .before in
     (at-if1 .if1 .taken, kept-needs (at-loop .loop .inv) (at-if1 .if1 .taken))
-
--- the line of a doubleword is read-only where its first wanted byte is
-line-asked : (c : tie.After-read-only Inv-loop μ-loop) →
-    let at-loop = c .before .before .before in
-    let a = at-loop .before .before .before .before .before .before .before .args in
-    readOnly (rangesOf (lentRanges (a .range-count) (a .bounds))) (lineAddress (at-loop .loop .cursor)) ≡ c .read-only .result
-line-asked c = read-only-line _ _ ∙ sym (c .read-only .ensures)
 
 change-lru-in-place-requires : tie.Need-change-lru-in-place-requires Inv-loop μ-loop
 change-lru-in-place-requires c κs =
     let at-write-next = c .before .before .before .before .before .before .before .before .before in
-    let w = at-write-next .write-next .ensures _ (line-asked (at-write-next .before .before .before .before .before)) .writes in
+    let w = at-write-next .write-next .ensures .writes in
     (w .below, rw (w .changes) (write-no-fill _ _ _ _ _ _ _))
 
 next-requires : tie.Need-next-requires Inv-loop μ-loop
 next-requires c κs =
     let at-write-next = c .before .before .before .before .before .before .before .before .before .before in
-    let at-loop = at-write-next .before .before .before .before .before .before .before .before in
-    let r = at-write-next .write-next .ensures _ (line-asked (at-write-next .before .before .before .before .before)) in
+    let at-loop = at-write-next .before .before .before .before .before .before .before in
+    let r = at-write-next .write-next .ensures in
     cursor-next _ _ _ _ _ _ _ _ (r .counts) (r .writes .most) (at-loop .loop .inv .needs)
 
 loop-less : tie.Need-loop-less Inv-loop μ-loop
 loop-less c =
     let at-write-next = c .before .before .before .before .before .before .before .before .before .before .before in
-    let at-read-only = at-write-next .before .before .before .before .before in
-    cursor-less _ _ _ _ (at-read-only .before .if1 .taken) (at-write-next .write-next .ensures _ (line-asked at-read-only) .counts) (c .next .ensures)
+    cursor-less _ _ _ _ (at-write-next .before .before .before .before .before .if1 .taken) (at-write-next .write-next .ensures .counts) (c .next .ensures)
 
 loop-again : tie.Need-loop-again Inv-loop μ-loop
 unfolding writeOne
 loop-again c =
     let at-write-next = c .before .before .before .before .before .before .before .before .before .before .before in
-    let at-if1 = at-write-next .before .before .before .before .before .before in
+    let at-if1 = at-write-next .before .before .before .before .before in
     let at-loop = at-if1 .before .before in
-    let r = at-write-next .write-next .ensures _ (line-asked (at-write-next .before .before .before .before .before)) in
+    let r = at-write-next .write-next .ensures in
     let kept = at-write-next .write-next .kept in
     kept-next (at-loop .loop .inv) (at-if1 .if1 .taken) (r .writes) _ _ (r .line) (r .counts) _ _ (c .before .change-lru-in-place .ensures _ _ _ _ _)
-    (c .next .ensures) (kept .1 .1 .1 .1 .0) (kept .1 .1 .1 .1 .1 .0) (kept .1 .1 .1 .1 .1 .1 .0) (kept .1 .1 .1 .1 .1 .1 .1 .1 .0)
+    (c .next .ensures) (kept .1 .1 .1 .1 .1 .0) (kept .1 .1 .1 .1 .1 .1 .0) (kept .1 .1 .1 .1 .1 .1 .1 .0) (kept .1 .1 .1 .1 .1 .1 .1 .1 .1 .0)
 
-cast-t33 : tie.Need-cast-t33 Inv-loop μ-loop
-cast-t33 c = omega (arith, c .before .before .before .loop .inv .needs .made, c .before .before .before .loop .inv .needs .last)
+cast-t32 : tie.Need-cast-t32 Inv-loop μ-loop
+cast-t32 c = omega (arith, c .before .before .before .loop .inv .needs .made, c .before .before .before .loop .inv .needs .last)
 
 same-length : tie.Need-same-length Inv-loop μ-loop
 same-length c = c .before .before .before .loop .inv .rams
@@ -118,13 +105,12 @@ write-accepted-spec =
     μ-loop
     begin-requires
     loop-holds
-    read-only-requires
     write-next-requires
     change-lru-in-place-requires
     next-requires
     loop-less
     loop-again
-    cast-t33
+    cast-t32
     same-length
     same-length-2
     same-length-3

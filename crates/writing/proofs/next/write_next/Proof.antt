@@ -4,6 +4,7 @@ use Rattle.doubleword.proofs.Cursors.{cursor-doubleword}
 use Rattle.doubleword.specs.DoublewordCode.{doublewordOf}
 use Rattle.doubleword.specs.declared.change.Wanted.{Wanted}
 use Rattle.memory.specs.Parity.{memory}
+use Rattle.ranges.specs.Ranges.{lentRanges, rangesOf}
 use Rattle.bus.specs.Groups.{widest}
 use Rattle.words.specs.Bytes.{bytesOf}
 use Rattle.ways.specs.Ways.{lookupIn}
@@ -52,7 +53,7 @@ same-length-4 : tie.Need-same-length-4
 same-length-4 c = search needs
 
 returns : tie.Need-returns
-returns c rs ro =
+returns c =
     let at-write = c .before .before .before .before .before .before .before .before in
     let at-placed = at-write .before .before .before .before .before in
     let at-group-of = at-placed .before .before in
@@ -61,9 +62,9 @@ returns c rs ro =
     let a = start .args in
     let h = place-within _ _ (start .pre .0) (at-wanted .wanted .ensures) (start .pre .1) in
     write-next-left _ _ _ _ (at-wanted .wanted .ensures) (at-group-of .group-of .ensures .0) _
-    (λ (w : Wanted) (xs : List ℕ). writeDone (lookupIn (now (a .tags)) (now (a .valid)) (w .line)) (a .stays) rs (memory (now (a .ram)) (now (a .parity)))
+    (λ (w : Wanted) (xs : List ℕ). writeDone (lookupIn (now (a .tags)) (now (a .valid)) (w .line)) (a .stays) (rangesOf (lentRanges (a .range-count) (a .bounds))) (memory (now (a .ram)) (now (a .parity)))
     (now (a .«data»)) (bytesOf widest (a .value)) (doublewordOf w xs))
-    _ _ _ _ (at-write .write-doubleword .ensures rs _ (rw (at-wanted .wanted .ensures) ro) (rw (at-placed .placed-lanes .ensures, placed-value (a .value) _ _ _) (part-bytes (a .value) _ _ (h .1))))
+    _ _ _ _ (at-write .write-doubleword .ensures _ (rw (at-placed .placed-lanes .ensures, placed-value (a .value) _ _ _) (part-bytes (a .value) _ _ (h .1))))
 
 pub write-next-spec : {M : Type 1} → statement M
 write-next-spec =

@@ -29,14 +29,14 @@ same-length : tie.Need-same-length
 same-length c = search needs
 
 returns : tie.Need-returns
-returns c rs operand ro es =
+returns c operand es =
     let at-put = c .before .before .before in
     let at-offset = at-put .before .before .before .before in
     let at-way = at-offset .before .before in
     let at-lookup = at-way .before .before in
     let found = sym (at-lookup .lookup .ensures) ∙ at-way .way .given .1 in
     let start = at-lookup .before .before .before .before .before .before in
-    stay-writes _ _ rs _ _ operand _ _ _ _ es _ _ _ found (lookup-below _ _ _ _ found) (c .if1 .taken) (at-offset .data-offset .ensures .0)
+    stay-writes _ _ _ _ _ operand _ _ _ _ es _ _ _ found (lookup-below _ _ _ _ found) (c .if1 .taken) (at-offset .data-offset .ensures .0)
     (rw (lane-place (at-offset .data-offset .result) (start .args .w .from)) at (at-put .put-lanes .ensures))
 
 write-through-requires : tie.Need-write-through-requires
@@ -55,7 +55,7 @@ same-length-5 : tie.Need-same-length-5
 same-length-5 c = search needs
 
 returns-2 : tie.Need-returns-2
-returns-2 c rs operand ro es =
+returns-2 c operand es =
     let at-through = c .before .before .before .before .before .before in
     let at-if1 = at-through .before .before .before .before in
     let at-put = at-if1 .before .before .before in
@@ -66,7 +66,7 @@ returns-2 c rs operand ro es =
     let start = at-lookup .before .before .before .before .before .before in
     let p = start .pre .0 in
     let t = at-through .write-through .ensures in
-    hit-writes _ _ rs _ _ operand _ _ _ _ es (one-run _ _ (p .some) (p .lanes) (p .line)) (omega (arith, p .served)) (p .aligned) _ ro _ _ _ (t .0) (t .1) (t .2) _ _ _
+    hit-writes _ _ _ _ _ operand _ _ _ _ es (one-run _ _ (p .some) (p .lanes) (p .line)) (omega (arith, p .served)) (p .aligned) _ _ _ (t .0) (t .1) (t .2) _ _ _
     found (lookup-below _ _ _ _ found) (at-if1 .if1 .left) (at-offset .data-offset .ensures .0)
     (rw (lane-place (at-offset .data-offset .result) (start .args .w .from)) at (at-put .put-lanes .ensures))
 
@@ -86,13 +86,13 @@ same-length-8 : tie.Need-same-length-8
 same-length-8 c = search needs
 
 returns-3 : tie.Need-returns-3
-returns-3 c rs operand ro es =
+returns-3 c operand es =
     let at-through2 = c .before .before .before .before .before .before in
     let at-told = at-through2 .before .before .before .before in
     let at-lookup = at-told .before .before in
     let p = at-lookup .before .before .before .before .before .before .pre .0 in
     let t = at-through2 .write-through2 .ensures in
-    miss-writes _ _ rs _ _ operand _ _ _ _ es (one-run _ _ (p .some) (p .lanes) (p .line)) (omega (arith, p .served)) (p .aligned) _ ro _ _ _ (t .0) (t .1) (t .2)
+    miss-writes _ _ _ _ _ operand _ _ _ _ es (one-run _ _ (p .some) (p .lanes) (p .line)) (omega (arith, p .served)) (p .aligned) _ _ _ (t .0) (t .1) (t .2)
     (sym (at-lookup .lookup .ensures) ∙ at-told .enum-told .given .1)
 
 pub write-doubleword-spec : {M : Type 1} → statement M

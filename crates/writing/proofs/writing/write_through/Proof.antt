@@ -1,4 +1,5 @@
-use Rattle.writing.proofs.WriteDoublewords.{lane-place}
+use Rattle.writing.proofs.WriteDoublewords.{doubleword-line, lane-place}
+use Rattle.ranges.specs.Ranges.{lentRanges, rangesOf}
 use borrow.Author.Needs.{needs}
 use Rattle.writing.proofs.writing.write_through.Statement.{statement}
 use Rattle.writing.proofs.writing.write_through.Tie as tie
@@ -31,9 +32,12 @@ returns : tie.Need-returns
 returns c =
     let at-cycles = c .before .before in
     let at-store = at-cycles .before .before .before .before .before .before in
-    let w = at-store .before .before .before .before .before .before .before .before .before .before .args .w in
+    let start = at-store .before .before .before .before .before .before .before .before .before .before in
+    let a = start .args in
+    let w = a .w in
+    let p = start .pre .0 in
     let t = at-cycles .write-cycles .ensures in
-    (rw (lane-place (w .line) (w .from)) at (at-store .store-writable .ensures), t .0, t .2)
+    (rw (doubleword-line (rangesOf (lentRanges (a .range-count) (a .bounds))) (w .line) (w .from) (p .aligned) (p .line), lane-place (w .line) (w .from)) at (at-store .store-writable .ensures), t .0, t .2)
 
 pub write-through-spec : {M : Type 1} → statement M
 write-through-spec =
