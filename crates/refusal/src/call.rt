@@ -60,6 +60,25 @@ pub fn read_number<'a>(
     states_number(tags, valid, lru, address, width)
 }
 
+// Those of a read's own sets, after 37 and 38.
+fn own_number<'a>(
+    tags: &'a [u32; LINES],
+    valid: &'a [bool; LINES],
+    lru: &'a [u8; SETS],
+    range_count: u32,
+    bounds: &'a [u32; BOUNDS],
+    ram: usize,
+    address: u32,
+    width: u32,
+) -> u32
+    ensures { λ r. ⌜ r ≡ orElse (keptNumber ram (lentRanges «range_count» (bounds .entry))) (statesNumberIn (now (tags .entry)) (now (valid .entry)) (now (lru .entry)) address width) ⌝ }
+{
+    if range_count != 0 {
+        return ranged_number(tags, valid, lru, range_count, bounds, ram, address, width);
+    }
+    states_number(tags, valid, lru, address, width)
+}
+
 // The lowest number that a read meets with the writes that it carries, or 0.
 pub fn read_carrying_number<'a>(
     tags: &'a [u32; LINES],
@@ -87,15 +106,14 @@ pub fn read_carrying_number<'a>(
     if number != 0 {
         return number;
     }
-    let next = answers_number(answers, log);
+    let next = or_else(
+        answers_number(answers, log),
+        carried_number(ram.len(), carried),
+    );
     if next != 0 {
         return next;
     }
-    let wrong = carried_number(ram.len(), carried);
-    if wrong != 0 {
-        return wrong;
-    }
-    let own = ranged_number(
+    let own = own_number(
         tags,
         valid,
         lru,
