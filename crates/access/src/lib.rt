@@ -1,10 +1,12 @@
 // The rules of reads and writes in specs/, and what a call in place answers.
+#![tactic(auto)]
+
 ghost use Rattle.std.specs.Prelude.{◌≡◌};
 
 // What a call answers, apart from the directory: 0 where it was done or the number that refused it, the count of cycles, a read's
 // value. In this order it has no gap and is handed back in two registers.
 #[repr(C)]
-#[derive(Drop)]
+#[derive(Clone, Copy)]
 pub struct CallResult {
     pub number: u32,
     pub cycles: u32,

@@ -1,4 +1,6 @@
 // The plant's own block table, loaded from text.
+#![tactic(auto)]
+
 ghost use Rattle.std.specs.Prelude.{◌≡◌, ◌+◌, ◌≤◌, drop, length};
 ghost use Rattle.board.specs.Board.{block_count};
 ghost use Rattle.fields.specs.Fields.{lines_of};
@@ -10,7 +12,7 @@ use fields::{Leading, Number, end_of, leading_number, scan_number};
 use refusal::or_else;
 
 // What a line has for its block: the answer where the number is 0, else the number that refuses the line.
-#[derive(Drop)]
+#[derive(Clone, Copy)]
 struct Entry {
     number: u32,
     answer: u8,
@@ -18,7 +20,7 @@ struct Entry {
 
 // The table in force, and 0 or the number of the earliest bad line. The layout is C's: a host receives one.
 #[repr(C)]
-#[derive(Drop)]
+#[derive(Clone, Copy)]
 pub struct LoadedTable {
     pub table: [u8; BLOCKS],
     pub number: u32,

@@ -1,4 +1,6 @@
 // The board table: the board's answers for an access.
+#![tactic(auto)]
+
 ghost use Rattle.std.specs.Prelude.{◌≡◌, ◌*◌, ◌<◌, replicate};
 ghost use Rattle.std.proofs.lemmas.List.Edits.{sets};
 ghost use Rattle.bus.specs.Groups.{group_count, group_size};

@@ -1,5 +1,7 @@
 // The bus: the widths of an access, the sizing of cycles, the burst order, and the records that cycles leave. It knows nothing of the
 // directory.
+#![tactic(auto)]
+
 mod burst;
 mod cycle;
 mod record;

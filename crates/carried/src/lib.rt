@@ -1,4 +1,6 @@
 // The external writes that a read carries: which of them are due, what they store, whether they lie in a line.
+#![tactic(auto)]
+
 ghost use Rattle.std.specs.Prelude.{◌≡◌, cond, [], ℕ, ◌+◌, ◌*◌, ◌-◌, ◌/◌, ◌≤◌, length};
 ghost use Rattle.ranges.specs.Ranges.{lent_ranges, ranges_of, read_only};
 ghost use Rattle.words.specs.Bytes.{bytes_at};
@@ -16,7 +18,7 @@ pub const CARRIED_MOST: u32 = 4;
 // has, and those bytes, sixteen places for each write. A count above four stands for more writes, a length above sixteen for more
 // bytes.
 #[repr(C)]
-#[derive(Drop)]
+#[derive(Clone, Copy)]
 pub struct CarriedWrites {
     pub count: u32,
     pub cycles: [u32; 4],

@@ -11,7 +11,7 @@ use words::{copy_bytes, lanes_mask, word_at};
 
 // How far the cycles of a doubleword have come: how many were made, how many writes have landed, and whether one landed in the line after
 // the first cycle.
-#[derive(Drop)]
+#[derive(Clone, Copy)]
 pub struct Brought {
     pub used: usize,
     pub landed: usize,

@@ -22,7 +22,7 @@ use words::{copy_line, value_at};
 // What the lookup and the cycles of a doubleword brought: its line, what was found, whether the line buffer is a fill whose last answer
 // has KEN# and whether a write landed in its line after the first cycle, how many bytes were read and their number, the count of cycles,
 // and how many of the writes have landed.
-#[derive(Drop)]
+#[derive(Clone, Copy)]
 pub struct CarriedRead {
     pub line: u32,
     pub found: Found,

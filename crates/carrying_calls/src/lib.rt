@@ -1,4 +1,6 @@
 // The read call that carries writes, by value and in place. RAM, parity array, data array, answers and log are lent by the caller.
+#![tactic(auto)]
+
 mod by_value;
 mod in_place;
 

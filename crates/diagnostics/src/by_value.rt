@@ -35,7 +35,7 @@ pub fn test_write(
 
 // What a test read by value answers: the directory as it was given, and the line.
 #[repr(C)]
-#[derive(Drop)]
+#[derive(Clone, Copy)]
 pub struct TestRead {
     pub directory: Directory,
     pub line: TestLine,

@@ -43,7 +43,7 @@ pub fn test_write_in_place(
 // What a test read answers: 0 where it was done or the number that refused it, then the line with the LRU number of its set. Refused:
 // zeros and an invalid mark.
 #[repr(C)]
-#[derive(Drop)]
+#[derive(Clone, Copy)]
 pub struct TestLine {
     pub number: u32,
     pub tag: u32,

@@ -9,7 +9,7 @@ use ways::{Found, LINES, SETS, WAYS, lookup, lru_after, set_of, state_number};
 
 // The line of a set and a way is element set * WAYS + way of tags and valid. The layout is C's: a host holds one.
 #[repr(C)]
-#[derive(Drop)]
+#[derive(Clone, Copy)]
 pub struct Directory {
     pub tags: [u32; LINES],
     pub valid: [bool; LINES],
@@ -22,7 +22,7 @@ pub struct Directory {
 // What a call by value answers: the directory, 0 where it was done or the number that turned it away, a read's value, the count
 // of cycles.
 #[repr(C)]
-#[derive(Drop)]
+#[derive(Clone, Copy)]
 pub struct Outcome {
     pub directory: Directory,
     pub number: u32,

@@ -9,7 +9,7 @@ use directory::Directory;
 use ways::{LINES, SETS};
 
 // What a doubleword does to the directory: nothing, a use of a way, or a kept fill of a way.
-#[derive(Drop)]
+#[derive(Clone, Copy)]
 pub enum Change {
     Unchanged,
     Use(usize),
@@ -17,7 +17,7 @@ pub enum Change {
 }
 
 // The wanted bytes of a doubleword: the address of its line, their offset in it, how many, and their place in the operand.
-#[derive(Drop)]
+#[derive(Clone, Copy)]
 pub struct Wanted {
     pub line: u32,
     pub from: usize,

@@ -8,7 +8,7 @@ use bus::GROUP_SIZE;
 
 // What is left between two doublewords: the address of the next wanted byte, the bytes left, their place in the operand, the
 // group of answers that serves them, and the cycles made.
-#[derive(Drop)]
+#[derive(Clone, Copy)]
 pub struct AccessCursor {
     pub address: u32,
     pub left: usize,

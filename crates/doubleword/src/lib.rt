@@ -1,4 +1,6 @@
 // What a doubleword of an access wants, what it does to the directory, and what is left between two doublewords.
+#![tactic(auto)]
+
 mod change;
 mod cursor;
 

@@ -1,5 +1,7 @@
 // Runs each event file that its arguments name and prints the whole output of `events` for it below its name. The oracle's
 // model makes the files (../data, ../args) and the output that is expected (../stdout), by oracle/expectations.py --write.
+#![tactic(auto)]
+
 ghost use Rattle.std.specs.Prelude.{◌≡◌, ◌+◌, length};
 ghost use Rattle.io.specs.Counts.{IsPrefixLen};
 ghost use Rattle.events.specs.Output.{longest_input};

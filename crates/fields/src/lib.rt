@@ -1,4 +1,6 @@
 // Numbers and fields of a line as text.
+#![tactic(auto)]
+
 mod fields;
 mod numbers;
 

@@ -4,7 +4,7 @@ ghost use Rattle.fields.specs.Number.{bit_of, number_of, number_within, value_fi
 ghost use Rattle.fields.specs.Fields.{leading_of};
 
 // What a field says where a number belongs.
-#[derive(Drop)]
+#[derive(Clone, Copy)]
 pub enum Number {
     Value(u64),
     NotANumber,
@@ -59,7 +59,7 @@ pub fn scan_value(field: &[u8]) -> Number
 }
 
 // The number before the first tab of a text, and the place after that tab.
-#[derive(Drop)]
+#[derive(Clone, Copy)]
 pub enum Leading {
     Field(u32, usize),
     Nothing,

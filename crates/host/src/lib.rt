@@ -1,5 +1,7 @@
 // The unit as a host calls it: what a C program links (host/include/unit486.h). Each runs a call of a crate below under an
 // exported name, and its contract cites the same definition.
+#![tactic(auto)]
+
 mod answers;
 mod by_value;
 mod in_place;

@@ -1,4 +1,6 @@
 // The event of a line.
+#![tactic(auto)]
+
 ghost use Rattle.std.specs.Prelude.{◌≡◌, cond, []};
 ghost use Rattle.fields.specs.Fields.{fields_of};
 ghost use Rattle.lines.specs.Scan.{control_of, external_of, form_of, of_one, of_three, of_two, read_of, read_with, scanned, snoop_of, write_of, write_with};
@@ -11,7 +13,7 @@ use fields::{
 pub const LONGEST_LINE: usize = 80;
 
 // What a line asks for. An external write names the place in the line where its pairs begin.
-#[derive(Drop)]
+#[derive(Clone, Copy)]
 pub enum Event {
     Malformed,
     Read(u32, u32, bool),

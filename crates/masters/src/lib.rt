@@ -1,4 +1,6 @@
 // Another master's write, by value and in place.
+#![tactic(auto)]
+
 ghost use Rattle.std.specs.Prelude.{◌≡◌, List, [], ℕ};
 ghost use Rattle.memory.specs.Parity.{lent_memory};
 ghost use Rattle.masters.specs.Masters.{external_call};

@@ -1,4 +1,6 @@
 // One event line on the unit, by the calls in place.
+#![tactic(auto)]
+
 ghost use Rattle.std.specs.Prelude.{◌≡◌, Bool, List, [], ℕ, ◌≤◌, length};
 ghost use Rattle.directory.specs.Steps.{lent_directory, no_ranges};
 ghost use Rattle.memory.specs.Parity.{lent_memory};

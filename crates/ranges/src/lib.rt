@@ -1,4 +1,6 @@
 // Read-only ranges: what a directory keeps of them, whether an address lies in one, and whether one is wrong.
+#![tactic(auto)]
+
 ghost use Rattle.std.specs.Prelude.{◌≡◌, ℕ, ◌*◌, ◌/◌, ◌≤◌, min, get_or, length, take};
 ghost use Rattle.ranges.specs.Ranges.{any_bad, bad_range, in_range, lent_ranges, range, ranges_in, ranges_of, read_only};
 
@@ -9,7 +11,7 @@ pub const BOUNDS: usize = 16;
 
 // What a directory keeps: how many ranges, and two words of each, its start and its bytes. A host can make a count above eight.
 #[repr(C)]
-#[derive(Drop)]
+#[derive(Clone, Copy)]
 pub struct Ranges {
     pub count: u32,
     pub bounds: [u32; BOUNDS],

@@ -1,4 +1,6 @@
 // The call that sets the read-only ranges, by value and in place. It is given RAM for its length alone.
+#![tactic(auto)]
+
 ghost use Rattle.std.specs.Prelude.{◌≡◌, Bool, List, [], ℕ, ◌≤◌, length, replicate};
 ghost use Rattle.std.proofs.lemmas.List.Edits.{sets};
 ghost use Rattle.ranges.specs.Ranges.{lent_ranges};

@@ -13,7 +13,7 @@ use ways::{LINES, SETS};
 
 // What the next doubleword did: the directory's change with its line, how many bytes it read and their number, the count of
 // cycles. What is left after it is worked out by the caller, in registers.
-#[derive(Drop)]
+#[derive(Clone, Copy)]
 pub struct NextRead {
     pub line: u32,
     pub change: Change,

@@ -12,7 +12,7 @@ use doubleword::Wanted;
 use words::value_at;
 
 // The number of the wanted bytes, and the count of cycles.
-#[derive(Drop)]
+#[derive(Clone, Copy)]
 pub struct PlainRead {
     pub value: u32,
     pub cycles: usize,

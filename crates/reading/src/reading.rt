@@ -15,7 +15,7 @@ use ways::{Found, LINES, SETS, data_offset};
 use words::{copy_line, value_at};
 
 // What a doubleword of a read did: the directory's change, the number of its bytes, the count of cycles.
-#[derive(Drop)]
+#[derive(Clone, Copy)]
 pub struct DoublewordRead {
     pub change: Change,
     pub value: u32,

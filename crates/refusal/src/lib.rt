@@ -1,4 +1,6 @@
 // The numbers that turn a call away: of the input, of the ranges that the directory keeps, then of the state in every touched set. 0 where none is met.
+#![tactic(auto)]
+
 mod call;
 mod input;
 mod kept;

@@ -10,7 +10,7 @@ use ranges::BOUNDS;
 use read_only_ranges::set_ranges;
 
 // Address and width of an access, then PCD or the value; and the place after them.
-#[derive(Drop)]
+#[derive(Clone, Copy)]
 struct Access {
     address: u32,
     width: u32,

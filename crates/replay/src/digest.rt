@@ -1,5 +1,5 @@
 // Adler-32: two sums modulo 65,521, of the bytes and of the first sum after each byte.
-#[derive(Drop)]
+#[derive(Clone, Copy)]
 pub struct Adler {
     low: u32,
     high: u32,

@@ -1,6 +1,8 @@
 // Runs the call scripts that its arguments name on the calls by value, line views and test calls, and prints after each call all
 // that it answers and a digest of each thing that it is lent. oracle/scripts/script_unit.py says what lines and rows are; the
 // oracle's model makes the scripts (../data, ../args) and the rows that are expected (../stdout), by oracle/expectations.py --write.
+#![tactic(auto)]
+
 mod calls;
 mod digest;
 mod print;

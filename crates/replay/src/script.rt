@@ -3,14 +3,14 @@ ghost use Rattle.std.specs.Prelude.{◌+◌, ◌<◌, ◌≤◌, length};
 ghost use Rattle.io.specs.Counts.{IsPrefixLen};
 
 // A field's number, and the place after it.
-#[derive(Drop)]
+#[derive(Clone, Copy)]
 pub struct Field {
     pub value: u32,
     pub next: usize,
 }
 
 // The number of a field that has 64 bits, and the place after it.
-#[derive(Drop)]
+#[derive(Clone, Copy)]
 pub struct WideField {
     pub value: u64,
     pub next: usize,

@@ -7,7 +7,7 @@ use crate::script::{at_most, line_end, number};
 use directory::Directory;
 
 // What RAM and data array are filled from.
-#[derive(Drop)]
+#[derive(Clone, Copy)]
 struct Seeds {
     ram: u32,
     data: u32,

@@ -1,5 +1,7 @@
 // The steps on a directory whose arrays are lent: the same rules, and nothing is copied. A caller that owns the directory
 // lends it field by field; what a contract says holds whatever the fields are that a step is not lent.
+#![tactic(auto)]
+
 ghost use Rattle.std.specs.Prelude.{◌≡◌, Bool, List, ℕ, ◌<◌};
 ghost use Rattle.ranges.specs.declared.Ranges.{Ranges};
 ghost use Rattle.ways.specs.Address.{set_count, way_count};

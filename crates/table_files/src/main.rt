@@ -2,6 +2,8 @@
 // file's name it prints what both loads hand back, the board's answers by the table in force, and the rows of the event file, which
 // the first argument names, by each of the two tables. The oracle's model makes the files (../data, ../args) and the output that
 // is expected (../stdout), by oracle/expectations.py --write.
+#![tactic(auto)]
+
 mod print;
 
 ghost use Rattle.std.specs.Prelude.{◌≡◌, length};

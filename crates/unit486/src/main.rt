@@ -1,4 +1,6 @@
 // The event program: event lines on standard input, rows on standard output. A read or a write that fails ends it quietly.
+#![tactic(auto)]
+
 ghost use Rattle.std.specs.Prelude.{◌≡◌, ◌+◌, length};
 ghost use Rattle.libc.specs.Io.{Moved};
 ghost use Rattle.events.specs.Output.{longest_input, longest_output};

@@ -1,5 +1,7 @@
 // Line views: the sixteen bytes around an address, as a part of the data array or of RAM, and the number of a view.
 // The arrays of the directory are lent, so a view copies nothing.
+#![tactic(auto)]
+
 ghost use Rattle.std.specs.Prelude.{◌≡◌, ◌+◌, ◌≤◌, length};
 ghost use Rattle.ranges.specs.Ranges.{lent_ranges};
 ghost use Rattle.words.specs.Bytes.{bytes_at};

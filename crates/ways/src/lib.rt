@@ -1,5 +1,7 @@
 // The four ways of a set: the parts of an address, LRU numbers, the way that holds a line, the victim, what is wrong with a
 // set. Each is asked of the directory's arrays, which are lent, so that asking copies nothing.
+#![tactic(auto)]
+
 mod address;
 mod lru;
 mod sizes;

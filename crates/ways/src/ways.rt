@@ -8,7 +8,7 @@ use crate::lru::lru_way;
 use crate::sizes::{LINES, SETS, WAYS};
 
 // A way of a set that a test singles out.
-#[derive(Drop)]
+#[derive(Clone, Copy)]
 pub enum Found {
     At(usize),
     Nothing,

@@ -1,4 +1,6 @@
 // Bytes moved between buffers, and as the numbers that they say.
+#![tactic(auto)]
+
 mod bytes;
 mod lanes;
 

@@ -1,5 +1,7 @@
 // One doubleword of a write, by lent fields of the directory: it decides the directory's change, and the caller makes it, so
 // that the directory is not copied here.
+#![tactic(auto)]
+
 mod next;
 mod writing;
 

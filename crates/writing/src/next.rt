@@ -17,7 +17,7 @@ use words::placed_lanes;
 
 // What the next doubleword did: the directory's change with its line, how many bytes it wrote, the count of cycles. What is left
 // after it is worked out by the caller, in registers.
-#[derive(Drop)]
+#[derive(Clone, Copy)]
 pub struct NextWritten {
     pub line: u32,
     pub change: Change,

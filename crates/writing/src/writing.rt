@@ -21,7 +21,7 @@ use ways::{Found, LINES, data_offset};
 use words::put_lanes;
 
 // What a doubleword of a write did: the directory's change, the count of cycles.
-#[derive(Drop)]
+#[derive(Clone, Copy)]
 pub struct DoublewordWritten {
     pub change: Change,
     pub cycles: usize,
