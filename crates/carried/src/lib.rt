@@ -55,7 +55,7 @@ fn land_one(
     address: u32,
 )
     requires { (from + count ≤ 64) × (address + count ≤ length ram.old) × (address + count ≤ 4 * length parity.old) }
-    ensures { lent_memory ram.exit parity.exit ≡ stored (lent_memory ram.entry parity.entry) address (bytes_at bytes.now from count) }
+    ensures { lent_memory ram.new parity.new ≡ stored (lent_memory ram.old parity.old) address (bytes_at bytes.now from count) }
 {
     let start = address as usize;
     let mut k: usize = 0;
@@ -68,7 +68,7 @@ fn land_one(
 // The writes of some places land: their bytes go into RAM, with their parity.
 pub fn land(carried: CarriedWrites, from: usize, to: usize, ram: &mut [u8], parity: &mut [u8])
     requires { (from ≤ to) × (to ≤ carried.count) × CarriedNeeds carried (length ram.old) (length parity.old) }
-    ensures { lent_memory ram.exit parity.exit ≡ landed [] (writes_from carried from (to - from)) (lent_memory ram.entry parity.entry) }
+    ensures { lent_memory ram.new parity.new ≡ landed [] (writes_from carried from (to - from)) (lent_memory ram.old parity.old) }
 {
     let bytes = carried.bytes;
     let mut k = from;
@@ -102,7 +102,7 @@ pub fn any_in_line(carried: CarriedWrites, from: usize, to: usize, line: u32) ->
 
 // How many bytes RAM takes of a write: none into a read-only line.
 fn taken_length<'a>(range_count: u32, bounds: &'a [u32; BOUNDS], address: u32, length: u32) -> u32
-    ensures { result ≡ cond (read_only (ranges_of (lent_ranges range_count bounds.entry)) address) 0 length }
+    ensures { result ≡ cond (read_only (ranges_of (lent_ranges range_count bounds.now)) address) 0 length }
 {
     if read_only(range_count, bounds, address) {
         0
@@ -120,7 +120,7 @@ pub fn taken_writes<'a>(
 ) -> CarriedWrites
     requires { carried.count ≤ 4 }
     ensures { (result.count ≡ carried.count)
-        × (carried_of result ≡ taken (ranges_of (lent_ranges range_count bounds.entry)) (carried_of carried))
+        × (carried_of result ≡ taken (ranges_of (lent_ranges range_count bounds.now)) (carried_of carried))
         × ((ram parity : ℕ) → CarriedNeeds carried ram parity → CarriedNeeds result ram parity) }
 {
     if range_count == 0 {

@@ -28,7 +28,7 @@ pub fn land_due(
     at: Brought,
 ) -> Brought
     requires { (at.landed ≤ carried.count) × (first + at.used ≤ 64) × CarriedNeeds carried (length ram.old) (length parity.old) }
-    ensures { LandsDue carried line (first + at.used) at result (lent_memory ram.entry parity.entry) (lent_memory ram.exit parity.exit) }
+    ensures { LandsDue carried line (first + at.used) at result (lent_memory ram.old parity.old) (lent_memory ram.new parity.new) }
 {
     let from = at.landed;
     let to = due_end(carried, from, first + at.used + 1);
@@ -77,7 +77,7 @@ pub fn move_bytes(
     at: Brought,
 ) -> Brought
     requires { (line % 16 ≡ 0) × (line + 16 ≤ length ram.now) × (length ram.now ≤ 16777216) × (length ram.now ≤ 4 * length parity.now) × (0 < count) × (from % 4 + count ≤ 4) × (from < 16) × (kind ≤ 32) × (3 * place + 3 ≤ length log.old) × (at.used < 64) × (length buffer.old ≡ 16) }
-    ensures { MovesBytes kind (lent_memory ram.entry parity.entry) line from count last place at result buffer.old buffer.new log.old log.new }
+    ensures { MovesBytes kind (lent_memory ram.now parity.now) line from count last place at result buffer.old buffer.new log.old log.new }
 {
     let start = line as usize;
     let base = start + from / 4 * 4;

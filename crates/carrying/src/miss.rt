@@ -42,7 +42,7 @@ fn turn_cycles(
 ) -> Brought
     requires { MissNeeds carried line first landed (length ram.old) (length parity.old) (length answers.now) (length log.old) × (buffer.old ≡ replicate 16 0) × TurnNeeds order turns count × (kind ≤ 32) }
     ensures { ((runs : List Run) → TurnsOf runs order turns count
-        → CyclesBrought kind line first carried landed (lent_memory ram.entry parity.entry) (cycles_of answers.now runs) (none_brought landed) result (lent_memory ram.exit parity.exit) (replicate 16 0) buffer.new log.old log.new)
+        → CyclesBrought kind line first carried landed (lent_memory ram.old parity.old) (cycles_of answers.now runs) (none_brought landed) result (lent_memory ram.new parity.new) (replicate 16 0) buffer.new log.old log.new)
         × (turns ≤ result.used) × (result.used ≤ group_size) }
 {
     let mut now = none_brought(landed);
@@ -83,7 +83,7 @@ pub fn plain_miss(
     landed: usize,
 ) -> Brought
     requires { MissNeeds carried line first landed (length ram.old) (length parity.old) (length answers.now) (length log.old) × (buffer.old ≡ replicate 16 0) × (0 < count) × (from % 4 + count ≤ 4) × (from < 16) }
-    ensures { CyclesBrought plain_kind line first carried landed (lent_memory ram.entry parity.entry) (cycles_of answers.now (run from count ∷ [])) (none_brought landed) result (lent_memory ram.exit parity.exit) (replicate 16 0) buffer.new log.old log.new × (result.used ≤ group_size) }
+    ensures { CyclesBrought plain_kind line first carried landed (lent_memory ram.old parity.old) (cycles_of answers.now (run from count ∷ [])) (none_brought landed) result (lent_memory ram.new parity.new) (replicate 16 0) buffer.new log.old log.new × (result.used ≤ group_size) }
 {
     let order = [from, 0, 0, 0];
     turn_cycles(
@@ -117,7 +117,7 @@ pub fn fill_miss(
     landed: usize,
 ) -> Brought
     requires { MissNeeds carried line first landed (length ram.old) (length parity.old) (length answers.now) (length log.old) × (buffer.old ≡ replicate 16 0) × (start < 4) }
-    ensures { CyclesBrought fill_kind line first carried landed (lent_memory ram.entry parity.entry) (cycles_of answers.now (burst start)) (none_brought landed) result (lent_memory ram.exit parity.exit) (replicate 16 0) buffer.new log.old log.new × (0 < result.used) × (result.used ≤ group_size) }
+    ensures { CyclesBrought fill_kind line first carried landed (lent_memory ram.old parity.old) (cycles_of answers.now (burst start)) (none_brought landed) result (lent_memory ram.new parity.new) (replicate 16 0) buffer.new log.old log.new × (0 < result.used) × (result.used ≤ group_size) }
 {
     let order = burst_order(start * 4);
     turn_cycles(

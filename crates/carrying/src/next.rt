@@ -101,8 +101,8 @@ pub fn carried_next<'a>(
     requires { (0 < cursor.left) × AccessNeeds cursor (length ram.old) (length parity.old) (length «data».now) (length answers.now) (length log.old)
         × CarriedNeeds carried (length ram.old) (length parity.old) × (landed ≤ carried.count) × (due cursor.cycles (left_from carried landed) ≡ []) }
     ensures { CarriedNext (lookup_in tags.now valid.now (line_address cursor))
-        (begun_by (lookup_in tags.now valid.now (line_address cursor)) may_fill (lent_memory ram.entry parity.entry) (left_from carried landed) cursor.cycles «data».now (next_doubleword cursor answers.now))
-        carried landed (lent_memory ram.entry parity.entry) cursor log.old result (lent_memory ram.exit parity.exit) log.new }
+        (begun_by (lookup_in tags.now valid.now (line_address cursor)) may_fill (lent_memory ram.old parity.old) (left_from carried landed) cursor.cycles «data».now (next_doubleword cursor answers.now))
+        carried landed (lent_memory ram.old parity.old) cursor log.old result (lent_memory ram.new parity.new) log.new }
 {
     let w = cursor.wanted();
     let group = cursor.group_of(answers);

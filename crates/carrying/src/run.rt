@@ -28,8 +28,8 @@ pub fn run_cycles(
 ) -> Brought
     requires { RunNeeds line from count first at.used (length ram.old) (length parity.old) (length answers.now) (length log.old)
         × CarriedNeeds carried (length ram.old) (length parity.old) × (at.landed ≤ carried.count) × (kind ≤ 32) × (length buffer.old ≡ 16) }
-    ensures { ((place : ℕ) (m₀ : Memory) → LandedTo carried place m₀ (first + at.used) (lent_memory ram.entry parity.entry) at.landed
-        → CyclesBrought kind line first carried place m₀ (run_cycles last (drop at.used answers.now) (run from count)) at result (lent_memory ram.exit parity.exit) buffer.old buffer.new log.old log.new)
+    ensures { ((place : ℕ) (m₀ : Memory) → LandedTo carried place m₀ (first + at.used) (lent_memory ram.old parity.old) at.landed
+        → CyclesBrought kind line first carried place m₀ (run_cycles last (drop at.used answers.now) (run from count)) at result (lent_memory ram.new parity.new) buffer.old buffer.new log.old log.new)
         × (at.used ≤ result.used) × (result.used ≤ at.used + count) × (result.landed ≤ carried.count) }
 {
     let mut now = at;

@@ -65,8 +65,8 @@ fn read_all(
         (or_else (argument_number (length ram.old) address width answers.now (length log.old))
         (or_else (carried_number (length ram.old) (carried_of carried))
         (or_else (kept_number (length ram.old) given.ranges) (or_else (states_number_of given address width) (carried_states_number given (carried_of carried)))))) ≡ 0 }
-    ensures { after result (lent_memory ram.exit parity.exit) «data».new log.new
-        ≡ read_call (state given (lent_memory ram.entry parity.entry) «data».old) address width pcd answers.now log.old (carried_of carried) }
+    ensures { after result (lent_memory ram.new parity.new) «data».new log.new
+        ≡ read_call (state given (lent_memory ram.old parity.old) «data».old) address width pcd answers.now log.old (carried_of carried) }
 {
     let taken = taken_writes(carried, given.ranges.count, &given.ranges.bounds);
     let mut value: u64 = 0;
@@ -113,8 +113,8 @@ pub fn read_carrying(
     log: &mut [u32],
     carried: CarriedWrites,
 ) -> Outcome
-    ensures { after result (lent_memory ram.exit parity.exit) «data».new log.new
-        ≡ read_call (state given (lent_memory ram.entry parity.entry) «data».old) address width pcd answers.now log.old (carried_of carried) }
+    ensures { after result (lent_memory ram.new parity.new) «data».new log.new
+        ≡ read_call (state given (lent_memory ram.old parity.old) «data».old) address width pcd answers.now log.old (carried_of carried) }
 {
     let number = read_carrying_number(
         &given.tags,

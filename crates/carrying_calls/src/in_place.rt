@@ -52,8 +52,8 @@ fn end_in_place<'a>(
     read: CarriedRead,
 )
     requires { EndNeeds carried from read (length «data».old) }
-    ensures { (cd : Bool) (ranges : Ranges) → Ended carried from read (lent_directory tags.entry valid.entry lru.entry cd nw ranges) «data».old
-        (lent_directory tags.exit valid.exit lru.exit cd nw ranges) «data».new }
+    ensures { (cd : Bool) (ranges : Ranges) → Ended carried from read (lent_directory tags.old valid.old lru.old cd nw ranges) «data».old
+        (lent_directory tags.new valid.new lru.new cd nw ranges) «data».new }
 {
     snoop_in_place(tags, valid, nw, carried, from, read.landed);
     let kept = !read.spoiled & read.ken;
@@ -83,10 +83,10 @@ fn read_accepted<'a>(
     requires { or_else (lent_number (length ram.old) (length parity.old) (length «data».old))
         (or_else (argument_number (length ram.old) address width answers.now (length log.old))
         (or_else (carried_number (length ram.old) (carried_of carried))
-        (or_else (kept_number (length ram.old) (lent_ranges range_count bounds))
+        (or_else (kept_number (length ram.old) (lent_ranges range_count bounds.now))
         (or_else (states_number_in tags.old valid.old lru.old address width) (carried_states_number_in tags.old valid.old lru.old (carried_of carried)))))) ≡ 0 }
-    ensures { leaves result (lent_state tags.exit valid.exit lru.exit cd nw (lent_ranges range_count bounds.entry) ram.exit parity.exit «data».exit) log.new
-        ≡ read_call (lent_state tags.entry valid.entry lru.entry cd nw (lent_ranges range_count bounds.entry) ram.entry parity.entry «data».entry) address width pcd answers.now log.old (carried_of carried) }
+    ensures { leaves result (lent_state tags.new valid.new lru.new cd nw (lent_ranges range_count bounds.now) ram.new parity.new «data».new) log.new
+        ≡ read_call (lent_state tags.old valid.old lru.old cd nw (lent_ranges range_count bounds.now) ram.old parity.old «data».old) address width pcd answers.now log.old (carried_of carried) }
 {
     let taken = taken_writes(carried, range_count, bounds);
     let mut value: u64 = 0;
@@ -139,8 +139,8 @@ pub fn read_carrying_in_place<'a>(
     log: &mut [u32],
     carried: CarriedWrites,
 ) -> CallResult
-    ensures { leaves result (lent_state tags.exit valid.exit lru.exit cd nw (lent_ranges range_count bounds.entry) ram.exit parity.exit «data».exit) log.new
-        ≡ read_call (lent_state tags.entry valid.entry lru.entry cd nw (lent_ranges range_count bounds.entry) ram.entry parity.entry «data».entry) address width pcd answers.now log.old (carried_of carried) }
+    ensures { leaves result (lent_state tags.new valid.new lru.new cd nw (lent_ranges range_count bounds.now) ram.new parity.new «data».new) log.new
+        ≡ read_call (lent_state tags.old valid.old lru.old cd nw (lent_ranges range_count bounds.now) ram.old parity.old «data».old) address width pcd answers.now log.old (carried_of carried) }
 {
     let number = read_carrying_number(
         tags,

@@ -23,7 +23,7 @@ pub fn fill_cycles(
     first: usize,
 ) -> usize
     requires { (start < 4) × (group_size ≤ length answers.now) × (3 * (first + group_size) ≤ length log.old) × LineNeeds line 0 (length ram.now) (length parity.now) }
-    ensures { CyclesMade (read_record fill_kind (lent_memory ram.entry parity.entry) line) (cycles_of answers.now (burst start)) first 0 log.old result log.new × (0 < result) × (result ≤ group_size) }
+    ensures { CyclesMade (read_record fill_kind (lent_memory ram.now parity.now) line) (cycles_of answers.now (burst start)) first 0 log.old result log.new × (0 < result) × (result ≤ group_size) }
 {
     let order = burst_order(start * 4);
     let mut used: usize = 0;

@@ -22,7 +22,7 @@ pub fn plain_cycles(
     first: usize,
 ) -> usize
     requires { (0 < count) × (from % 4 + count ≤ 4) × (4 ≤ length answers.now) × (3 * (first + 4) ≤ length log.old) × LineNeeds line (from / 4 * 4) (length ram.now) (length parity.now) }
-    ensures { CyclesMade (read_record plain_kind (lent_memory ram.entry parity.entry) line) (cycles_of answers.now (run from count ∷ [])) first 0 log.old result log.new × (0 < result) × (result ≤ 4) }
+    ensures { CyclesMade (read_record plain_kind (lent_memory ram.now parity.now) line) (cycles_of answers.now (run from count ∷ [])) first 0 log.old result log.new × (0 < result) × (result ≤ 4) }
 {
     let base = line + from / 4 * 4;
     let word = word_at(&ram[..], base);

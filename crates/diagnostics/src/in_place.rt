@@ -61,7 +61,7 @@ pub fn test_read_in_place<'a>(
     set: u32,
     way: u32,
 ) -> TestLine
-    ensures { (nw : Bool) (ranges : Ranges) → result ≡ test_read_line (lent_directory tags.entry valid.entry lru.entry cd nw ranges) «data».now set way }
+    ensures { (nw : Bool) (ranges : Ranges) → result ≡ test_read_line (lent_directory tags.now valid.now lru.now cd nw ranges) «data».now set way }
 {
     let number = test_read_number(data.len(), cd, set, way);
     let mut bytes = [0u8; 16];

@@ -1,6 +1,5 @@
 -- Document 01, 'The directory': the steps, each as the whole directory that it hands back.
 use Rattle.std.specs.Prelude.{ℕ, Bool, true, false, cond, not, ◌&&◌, List, eqb, get_or, set, replicate}
-use Rattle.std.specs.Borrow.{Bor}
 use Rattle.directory.specs.declared.steps.Directory.{Directory}
 use Rattle.directory.specs.declared.steps.Outcome.{Outcome}
 use Rattle.directory.specs.Outcome.{outcome}
@@ -20,8 +19,8 @@ directory_of tags valid lru cd nw ranges =
     record { tags = tags; valid = valid; lru = lru; cd = cd; nw = nw; ranges = ranges }
 
 -- The directory that lent references hold.
-abbrev pub lent_directory : Bor (List ℕ) → Bor (List Bool) → Bor (List ℕ) → Bool → Bool → Ranges → Directory
-lent_directory tags valid lru cd nw ranges = directory_of tags.now valid.now lru.now cd nw ranges
+abbrev pub lent_directory : List ℕ → List Bool → List ℕ → Bool → Bool → Ranges → Directory
+lent_directory tags valid lru cd nw ranges = directory_of tags valid lru cd nw ranges
 
 -- What a directory has of a line and of a set, and the questions asked of it.
 abbrev pub valid_at : Directory → ℕ → ℕ → Bool

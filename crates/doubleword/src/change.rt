@@ -46,8 +46,8 @@ pub fn change_in_place(
     change: Change,
 )
     requires { BelowFour change }
-    ensures { (cd nw : Bool) (ranges : Ranges) → lent_directory tags.exit valid.exit lru.exit cd nw ranges
-        ≡ changed (lent_directory tags.entry valid.entry lru.entry cd nw ranges) line change }
+    ensures { (cd nw : Bool) (ranges : Ranges) → lent_directory tags.new valid.new lru.new cd nw ranges
+        ≡ changed (lent_directory tags.old valid.old lru.old cd nw ranges) line change }
 {
     match change {
         Change::Unchanged => {}

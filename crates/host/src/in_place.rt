@@ -33,8 +33,8 @@ pub extern "C" fn unit486_read_in_place<'a>(
     answers: &[u8],
     log: &mut [u32],
 ) -> CallResult
-    ensures { (nw : Bool) → leaves result (lent_state tags.exit valid.exit lru.exit cd nw (lent_ranges range_count bounds.entry) ram.entry parity.entry «data».exit) log.new
-        ≡ read_call (lent_state tags.entry valid.entry lru.entry cd nw (lent_ranges range_count bounds.entry) ram.entry parity.entry «data».entry) address width pcd answers.now log.old [] }
+    ensures { (nw : Bool) → leaves result (lent_state tags.new valid.new lru.new cd nw (lent_ranges range_count bounds.now) ram.now parity.now «data».new) log.new
+        ≡ read_call (lent_state tags.old valid.old lru.old cd nw (lent_ranges range_count bounds.now) ram.now parity.now «data».old) address width pcd answers.now log.old [] }
 {
     read_calls::read_in_place(
         tags,
@@ -73,8 +73,8 @@ pub extern "C" fn unit486_read_carrying_in_place<'a>(
     log: &mut [u32],
     carried: CarriedWrites,
 ) -> CallResult
-    ensures { leaves result (lent_state tags.exit valid.exit lru.exit cd nw (lent_ranges range_count bounds.entry) ram.exit parity.exit «data».exit) log.new
-        ≡ read_call (lent_state tags.entry valid.entry lru.entry cd nw (lent_ranges range_count bounds.entry) ram.entry parity.entry «data».entry) address width pcd answers.now log.old (carried_of carried) }
+    ensures { leaves result (lent_state tags.new valid.new lru.new cd nw (lent_ranges range_count bounds.now) ram.new parity.new «data».new) log.new
+        ≡ read_call (lent_state tags.old valid.old lru.old cd nw (lent_ranges range_count bounds.now) ram.old parity.old «data».old) address width pcd answers.now log.old (carried_of carried) }
 {
     carrying_calls::read_carrying_in_place(
         tags,
@@ -114,8 +114,8 @@ pub extern "C" fn unit486_write_in_place<'a>(
     answers: &[u8],
     log: &mut [u32],
 ) -> CallResult
-    ensures { leaves result (lent_state tags.entry valid.entry lru.exit cd nw (lent_ranges range_count bounds.entry) ram.exit parity.exit «data».exit) log.new
-        ≡ write_call (lent_state tags.entry valid.entry lru.entry cd nw (lent_ranges range_count bounds.entry) ram.entry parity.entry «data».entry) address width value answers.now log.old }
+    ensures { leaves result (lent_state tags.now valid.now lru.new cd nw (lent_ranges range_count bounds.now) ram.new parity.new «data».new) log.new
+        ≡ write_call (lent_state tags.now valid.now lru.old cd nw (lent_ranges range_count bounds.now) ram.old parity.old «data».old) address width value answers.now log.old }
 {
     write_calls::write_in_place(
         tags,
@@ -150,8 +150,8 @@ pub extern "C" fn unit486_external_write_in_place<'a>(
     bytes: &[u8],
 ) -> u32
     ensures { (cd : Bool) (array : List ℕ) →
-        after (outcome (lent_directory tags.entry valid.exit lru.entry cd nw (lent_ranges range_count bounds.entry)) result 0 0) (lent_memory ram.exit parity.exit) array []
-        ≡ external_call (state (lent_directory tags.entry valid.entry lru.entry cd nw (lent_ranges range_count bounds.entry)) (lent_memory ram.entry parity.entry) array) address bytes.now }
+        after (outcome (lent_directory tags.now valid.new lru.now cd nw (lent_ranges range_count bounds.now)) result 0 0) (lent_memory ram.new parity.new) array []
+        ≡ external_call (state (lent_directory tags.now valid.old lru.now cd nw (lent_ranges range_count bounds.now)) (lent_memory ram.old parity.old) array) address bytes.now }
 {
     masters::external_write_in_place(
         tags,
@@ -175,8 +175,8 @@ pub extern "C" fn unit486_snoop_in_place<'a>(
     nw: bool,
     address: u32,
 ) -> u32
-    ensures { (cd : Bool) (ranges : Ranges) → outcome (lent_directory tags.entry valid.exit lru.entry cd nw ranges) result 0 0
-        ≡ snoop_call (lent_directory tags.entry valid.entry lru.entry cd nw ranges) address }
+    ensures { (cd : Bool) (ranges : Ranges) → outcome (lent_directory tags.now valid.new lru.now cd nw ranges) result 0 0
+        ≡ snoop_call (lent_directory tags.now valid.old lru.now cd nw ranges) address }
 {
     steps_in_place::snoop_in_place(tags, valid, lru, nw, address)
 }
@@ -210,8 +210,8 @@ pub extern "C" fn unit486_reset_in_place(
     cd: &mut bool,
     nw: &mut bool,
 )
-    ensures { (ranges : Ranges) → lent_directory tags.exit valid.exit lru.exit cd.new nw.new ranges
-        ≡ after_reset (lent_directory tags.entry valid.entry lru.entry cd.old nw.old ranges) }
+    ensures { (ranges : Ranges) → lent_directory tags.new valid.new lru.new cd.new nw.new ranges
+        ≡ after_reset (lent_directory tags.old valid.old lru.old cd.old nw.old ranges) }
 {
     steps_in_place::reset_in_place(tags, valid, lru, cd, nw)
 }

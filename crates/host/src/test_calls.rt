@@ -40,7 +40,7 @@ pub extern "C" fn unit486_test_read_in_place<'a>(
     set: u32,
     way: u32,
 ) -> TestLine
-    ensures { (nw : Bool) (ranges : Ranges) → result ≡ test_read_line (lent_directory tags.entry valid.entry lru.entry cd nw ranges) «data».now set way }
+    ensures { (nw : Bool) (ranges : Ranges) → result ≡ test_read_line (lent_directory tags.now valid.now lru.now cd nw ranges) «data».now set way }
 {
     diagnostics::test_read_in_place(tags, valid, lru, cd, data, set, way)
 }

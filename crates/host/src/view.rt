@@ -19,7 +19,7 @@ pub extern "C" fn unit486_view_number_in_place<'a>(
     data: &'a [u8],
     address: u32,
 ) -> u32
-    ensures { result ≡ view_number_in tags.now valid.now lru.now (lent_ranges range_count bounds.entry) (length ram.now) (length «data».now) address }
+    ensures { result ≡ view_number_in tags.now valid.now lru.now (lent_ranges range_count bounds.now) (length ram.now) (length «data».now) address }
 {
     views::view_number(tags, valid, lru, range_count, bounds, ram, data, address)
 }
@@ -38,8 +38,8 @@ pub extern "C" fn unit486_view_in_place<'a>(
     address: u32,
     shown: &mut [u8; 16],
 ) -> u32
-    ensures { (result ≡ view_number_in tags.now valid.now lru.now (lent_ranges range_count bounds.entry) (length ram.now) (length «data».now) address)
-        × (shown.new ≡ sets shown.old 0 (view_in tags.now valid.now lru.now (lent_ranges range_count bounds.entry) ram.now «data».now address)) }
+    ensures { (result ≡ view_number_in tags.now valid.now lru.now (lent_ranges range_count bounds.now) (length ram.now) (length «data».now) address)
+        × (shown.new ≡ sets shown.old 0 (view_in tags.now valid.now lru.now (lent_ranges range_count bounds.now) ram.now «data».now address)) }
 {
     let number = views::view_number(tags, valid, lru, range_count, bounds, ram, data, address);
     if number != 0 {

@@ -26,8 +26,8 @@ pub fn external_write_in_place<'a>(
     bytes: &[u8],
 ) -> u32
     ensures { (cd : Bool) (array : List ℕ) →
-        after (outcome (lent_directory tags.entry valid.exit lru.entry cd nw (lent_ranges range_count bounds.entry)) result 0 0) (lent_memory ram.exit parity.exit) array []
-        ≡ external_call (state (lent_directory tags.entry valid.entry lru.entry cd nw (lent_ranges range_count bounds.entry)) (lent_memory ram.entry parity.entry) array) address bytes.now }
+        after (outcome (lent_directory tags.now valid.new lru.now cd nw (lent_ranges range_count bounds.now)) result 0 0) (lent_memory ram.new parity.new) array []
+        ≡ external_call (state (lent_directory tags.now valid.old lru.now cd nw (lent_ranges range_count bounds.now)) (lent_memory ram.old parity.old) array) address bytes.now }
 {
     let number = external_write_number(
         tags,

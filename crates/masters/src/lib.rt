@@ -21,8 +21,8 @@ pub fn external_write(
     address: u32,
     bytes: &[u8],
 ) -> Outcome
-    ensures { (array : List ℕ) → after result (lent_memory ram.exit parity.exit) array []
-        ≡ external_call (state given (lent_memory ram.entry parity.entry) array) address bytes.now }
+    ensures { (array : List ℕ) → after result (lent_memory ram.new parity.new) array []
+        ≡ external_call (state given (lent_memory ram.old parity.old) array) address bytes.now }
 {
     let number = external_write_number(
         &given.tags,

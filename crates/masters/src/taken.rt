@@ -22,7 +22,7 @@ pub fn external_write_number<'a>(
     count: usize,
 ) -> u32
     ensures { result ≡ or_else (memory_number ram parity) (or_else (external_number ram address count)
-        (or_else (kept_number ram (lent_ranges range_count bounds.entry)) (states_number_in tags.now valid.now lru.now address count))) }
+        (or_else (kept_number ram (lent_ranges range_count bounds.now)) (states_number_in tags.now valid.now lru.now address count))) }
 {
     let lent = memory_number(ram, parity);
     if lent != 0 {
@@ -49,7 +49,7 @@ pub fn put_bytes<'a>(
     bytes: &[u8],
 )
     requires { (address % 16 + length bytes.now ≤ 16) × (address + length bytes.now ≤ length ram.old) × (address + length bytes.now ≤ 4 * length parity.old) }
-    ensures { lent_memory ram.exit parity.exit ≡ written (ranges_of (lent_ranges range_count bounds.entry)) (lent_memory ram.entry parity.entry) address bytes.now }
+    ensures { lent_memory ram.new parity.new ≡ written (ranges_of (lent_ranges range_count bounds.now)) (lent_memory ram.old parity.old) address bytes.now }
 {
     if read_only(range_count, bounds, address) {
         return;

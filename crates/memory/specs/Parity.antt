@@ -1,6 +1,5 @@
 -- Document 01, 'Memory and parity'.
 use Rattle.std.specs.Prelude.{ℕ, zero, suc, ◌+◌, ◌*◌, ◌/◌, ◌%◌, ◌^◌, ◌<◌, ◌≡◌, Bool, false, cond, not, ◌||◌, List, [], ◌∷◌, length, get_or, set, eqb}
-use Rattle.std.specs.Borrow.{Bor}
 use Rattle.ranges.specs.Ranges.{Range, read_only}
 
 -- RAM, and "The parity array has one byte for each four RAM bytes".
@@ -12,8 +11,8 @@ abbrev pub memory : List ℕ → List ℕ → Memory
 memory ram parity = record { ram = ram; parity = parity }
 
 -- The memory that lent references hold.
-abbrev pub lent_memory : Bor (List ℕ) → Bor (List ℕ) → Memory
-lent_memory ram parity = memory ram.now parity.now
+abbrev pub lent_memory : List ℕ → List ℕ → Memory
+lent_memory ram parity = memory ram parity
 
 -- The ones among the lowest binary digits of a number.
 unfoldable pub ones_of : ℕ → ℕ → ℕ

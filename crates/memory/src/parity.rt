@@ -36,7 +36,7 @@ pub fn dp_bits(lowest: u8, second: u8, third: u8, highest: u8) -> u8
 // A byte put into RAM, with its parity.
 pub fn put_byte(ram: &mut [u8], parity: &mut [u8], a: usize, b: u8)
     requires { (a < length ram.old) × (a < 4 * length parity.old) }
-    ensures { lent_memory ram.exit parity.exit ≡ put (lent_memory ram.entry parity.entry) a b }
+    ensures { lent_memory ram.new parity.new ≡ put (lent_memory ram.old parity.old) a b }
 {
     ram[a] = b;
     let i = a / 4;
@@ -48,7 +48,7 @@ pub fn put_byte(ram: &mut [u8], parity: &mut [u8], a: usize, b: u8)
 // without a loop.
 pub fn store_bytes(src: &[u8], s: usize, ram: &mut [u8], parity: &mut [u8], a: usize, count: usize)
     requires { (s + count ≤ length src.now) × (a + count ≤ length ram.old) × (a + count ≤ 4 * length parity.old) }
-    ensures { lent_memory ram.exit parity.exit ≡ stored (lent_memory ram.entry parity.entry) a (bytes_at src.now s count) }
+    ensures { lent_memory ram.new parity.new ≡ stored (lent_memory ram.old parity.old) a (bytes_at src.now s count) }
 {
     if (count == 16) & (a % 4 == 0) {
         store_line(src, s, ram, parity, a);
@@ -59,7 +59,7 @@ pub fn store_bytes(src: &[u8], s: usize, ram: &mut [u8], parity: &mut [u8], a: u
 
 fn store_line(src: &[u8], s: usize, ram: &mut [u8], parity: &mut [u8], a: usize)
     requires { (a % 4 ≡ 0) × (s + 16 ≤ length src.now) × (a + 16 ≤ length ram.old) × (a + 16 ≤ 4 * length parity.old) }
-    ensures { lent_memory ram.exit parity.exit ≡ stored (lent_memory ram.entry parity.entry) a (bytes_at src.now s 16) }
+    ensures { lent_memory ram.new parity.new ≡ stored (lent_memory ram.old parity.old) a (bytes_at src.now s 16) }
 {
     store_doubleword(src, s, ram, parity, a);
     store_doubleword(src, s + 4, ram, parity, a + 4);
@@ -69,7 +69,7 @@ fn store_line(src: &[u8], s: usize, ram: &mut [u8], parity: &mut [u8], a: usize)
 
 fn store_doubleword(src: &[u8], s: usize, ram: &mut [u8], parity: &mut [u8], a: usize)
     requires { (a % 4 ≡ 0) × (s + 4 ≤ length src.now) × (a + 4 ≤ length ram.old) × (a + 4 ≤ 4 * length parity.old) }
-    ensures { lent_memory ram.exit parity.exit ≡ stored (lent_memory ram.entry parity.entry) a (bytes_at src.now s 4) }
+    ensures { lent_memory ram.new parity.new ≡ stored (lent_memory ram.old parity.old) a (bytes_at src.now s 4) }
 {
     let bits = dp_bits(src[s], src[s + 1], src[s + 2], src[s + 3]);
     copy_bytes(src, s, ram, a, 4);
@@ -88,7 +88,7 @@ fn store_next(
 ) -> usize
     requires { (0 < left) × (s + left ≤ length src.now) × (a + left ≤ length ram.old) × (a + left ≤ 4 * length parity.old) }
     ensures result_nonzero { (0 < result) × (result ≤ left) }
-    ensures parity_value { lent_memory ram.exit parity.exit ≡ stored (lent_memory ram.entry parity.entry) a (bytes_at src.now s result) }
+    ensures parity_value { lent_memory ram.new parity.new ≡ stored (lent_memory ram.old parity.old) a (bytes_at src.now s result) }
 {
     if (4 <= left) & (a % 4 == 0) {
         store_doubleword(src, s, ram, parity, a);
@@ -100,7 +100,7 @@ fn store_next(
 
 fn store_each(src: &[u8], s: usize, ram: &mut [u8], parity: &mut [u8], a: usize, count: usize)
     requires { (s + count ≤ length src.now) × (a + count ≤ length ram.old) × (a + count ≤ 4 * length parity.old) }
-    ensures { lent_memory ram.exit parity.exit ≡ stored (lent_memory ram.entry parity.entry) a (bytes_at src.now s count) }
+    ensures { lent_memory ram.new parity.new ≡ stored (lent_memory ram.old parity.old) a (bytes_at src.now s count) }
 {
     let mut k: usize = 0;
     while k < count {
@@ -137,7 +137,7 @@ pub fn store_lanes(
     word: u32,
 )
     requires { (0 < count) × (lane + count ≤ 4) × (base % 4 ≡ 0) × (base + 4 ≤ length ram.old) × (base + 4 ≤ 4 * length parity.old) × (word ≡ lanes_word word lane count) }
-    ensures { lent_memory ram.exit parity.exit ≡ stored (lent_memory ram.entry parity.entry) (base + lane) (bytes_of count (lanes_value word lane count)) }
+    ensures { lent_memory ram.new parity.new ≡ stored (lent_memory ram.old parity.old) (base + lane) (bytes_of count (lanes_value word lane count)) }
 {
     let bits = value_bits(word);
     put_lanes(ram, base, lane, count, word);

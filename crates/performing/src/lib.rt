@@ -37,8 +37,8 @@ pub fn perform<'a>(
     data: &mut [u8],
     line: &[u8],
 ) -> CallResult
-    ensures { Leaves (line_done table.now (lent_state tags.entry valid.entry lru.entry cd.old nw.old no_ranges ram.entry parity.entry «data».entry) line.now)
-        result (lent_state tags.exit valid.exit lru.exit cd.new nw.new no_ranges ram.exit parity.exit «data».exit) }
+    ensures { Leaves (line_done table.now (lent_state tags.old valid.old lru.old cd.old nw.old no_ranges ram.old parity.old «data».old) line.now)
+        result (lent_state tags.new valid.new lru.new cd.new nw.new no_ranges ram.new parity.new «data».new) }
 {
     let event = scan(line);
     match event {
@@ -81,8 +81,8 @@ fn perform_read<'a>(
     width: u32,
     pcd: bool,
 ) -> CallResult
-    ensures { (nw : Bool) → Leaves (step (lent_state tags.entry valid.entry lru.entry cd.now nw no_ranges ram.entry parity.entry «data».entry) (read address width pcd (board_answers table.now address width) zero_log []))
-        result (lent_state tags.exit valid.exit lru.exit cd.now nw no_ranges ram.entry parity.entry «data».exit) }
+    ensures { (nw : Bool) → Leaves (step (lent_state tags.old valid.old lru.old cd.now nw no_ranges ram.now parity.now «data».old) (read address width pcd (board_answers table.now address width) zero_log []))
+        result (lent_state tags.new valid.new lru.new cd.now nw no_ranges ram.now parity.now «data».new) }
 {
     let answers = board::board_answers(table, address, width);
     let mut log = [0u32; LOG_WORDS];
@@ -108,8 +108,8 @@ fn perform_write<'a>(
     width: u32,
     value: u64,
 ) -> CallResult
-    ensures { Leaves (step (lent_state tags.entry valid.entry lru.entry cd.now nw.now no_ranges ram.entry parity.entry «data».entry) (write address width value (board_answers table.now address width) zero_log))
-        result (lent_state tags.entry valid.entry lru.exit cd.now nw.now no_ranges ram.exit parity.exit «data».exit) }
+    ensures { Leaves (step (lent_state tags.now valid.now lru.old cd.now nw.now no_ranges ram.old parity.old «data».old) (write address width value (board_answers table.now address width) zero_log))
+        result (lent_state tags.now valid.now lru.new cd.now nw.now no_ranges ram.new parity.new «data».new) }
 {
     let answers = board::board_answers(table, address, width);
     let mut log = [0u32; LOG_WORDS];
@@ -132,8 +132,8 @@ fn perform_external<'a>(
     pairs: &[u8],
 ) -> CallResult
     requires { length pairs.now ≤ longest_line }
-    ensures { (cd : Bool) (array : List ℕ) → Leaves (step (state (lent_directory tags.entry valid.entry lru.entry cd nw.now no_ranges) (lent_memory ram.entry parity.entry) array) (external address (pair_bytes pairs.now)))
-        result (state (lent_directory tags.entry valid.exit lru.entry cd nw.now no_ranges) (lent_memory ram.exit parity.exit) array) }
+    ensures { (cd : Bool) (array : List ℕ) → Leaves (step (state (lent_directory tags.now valid.old lru.now cd nw.now no_ranges) (lent_memory ram.old parity.old) array) (external address (pair_bytes pairs.now)))
+        result (state (lent_directory tags.now valid.new lru.now cd nw.now no_ranges) (lent_memory ram.new parity.new) array) }
 {
     let mut bytes = [0u8; LONGEST_LINE];
     let count = pair_bytes(pairs, &mut bytes);

@@ -64,7 +64,7 @@ fn in_words(words: &[u32], to: usize, address: u32) -> bool
 
 // Whether an address lies in a range that is kept. Most directories keep none.
 pub fn read_only<'a>(count: u32, bounds: &'a [u32; BOUNDS], address: u32) -> bool
-    ensures { result ≡ read_only (ranges_of (lent_ranges count bounds.entry)) address }
+    ensures { result ≡ read_only (ranges_of (lent_ranges count bounds.now)) address }
 {
     if count == 0 {
         return false;
@@ -104,7 +104,7 @@ pub fn any_bad(ram: usize, words: &[u32]) -> bool
 
 // The same of those that are kept.
 pub fn any_kept_bad<'a>(ram: usize, count: u32, bounds: &'a [u32; BOUNDS]) -> bool
-    ensures { result ≡ any_bad ram (ranges_of (lent_ranges count bounds.entry)) }
+    ensures { result ≡ any_bad ram (ranges_of (lent_ranges count bounds.now)) }
 {
     if count == 0 {
         return false;

@@ -25,8 +25,8 @@ fn read_all(
     requires { or_else (lent_number (length ram.now) (length parity.now) (length «data».old))
         (or_else (argument_number (length ram.now) address width answers.now (length log.old))
         (or_else (kept_number (length ram.now) given.ranges) (states_number_of given address width))) ≡ 0 }
-    ensures { after result (lent_memory ram.entry parity.entry) «data».new log.new
-        ≡ read_call (state given (lent_memory ram.entry parity.entry) «data».old) address width pcd answers.now log.old [] }
+    ensures { after result (lent_memory ram.now parity.now) «data».new log.new
+        ≡ read_call (state given (lent_memory ram.now parity.now) «data».old) address width pcd answers.now log.old [] }
 {
     let mut value: u64 = 0;
     let mut cursor = AccessCursor::begin(address, width);
@@ -70,8 +70,8 @@ pub fn read(
     answers: &[u8],
     log: &mut [u32],
 ) -> Outcome
-    ensures { after result (lent_memory ram.entry parity.entry) «data».new log.new
-        ≡ read_call (state given (lent_memory ram.entry parity.entry) «data».old) address width pcd answers.now log.old [] }
+    ensures { after result (lent_memory ram.now parity.now) «data».new log.new
+        ≡ read_call (state given (lent_memory ram.now parity.now) «data».old) address width pcd answers.now log.old [] }
 {
     let number = read_number(
         &given.tags,

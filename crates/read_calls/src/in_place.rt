@@ -32,8 +32,8 @@ fn read_accepted<'a>(
     requires { or_else (lent_number (length ram.now) (length parity.now) (length «data».old))
         (or_else (argument_number (length ram.now) address width answers.now (length log.old)) (states_number_in tags.old valid.old lru.old address width)) ≡ 0 }
     ensures { (nw : Bool) (ranges : Ranges) → kept_number (length ram.now) ranges ≡ 0 →
-        leaves result (lent_state tags.exit valid.exit lru.exit cd nw ranges ram.entry parity.entry «data».exit) log.new
-        ≡ read_call (lent_state tags.entry valid.entry lru.entry cd nw ranges ram.entry parity.entry «data».entry) address width pcd answers.now log.old [] }
+        leaves result (lent_state tags.new valid.new lru.new cd nw ranges ram.now parity.now «data».new) log.new
+        ≡ read_call (lent_state tags.old valid.old lru.old cd nw ranges ram.now parity.now «data».old) address width pcd answers.now log.old [] }
 {
     let mut value: u64 = 0;
     let mut cursor = AccessCursor::begin(address, width);
@@ -78,8 +78,8 @@ pub fn read_in_place<'a>(
     answers: &[u8],
     log: &mut [u32],
 ) -> CallResult
-    ensures { (nw : Bool) → leaves result (lent_state tags.exit valid.exit lru.exit cd nw (lent_ranges range_count bounds.entry) ram.entry parity.entry «data».exit) log.new
-        ≡ read_call (lent_state tags.entry valid.entry lru.entry cd nw (lent_ranges range_count bounds.entry) ram.entry parity.entry «data».entry) address width pcd answers.now log.old [] }
+    ensures { (nw : Bool) → leaves result (lent_state tags.new valid.new lru.new cd nw (lent_ranges range_count bounds.now) ram.now parity.now «data».new) log.new
+        ≡ read_call (lent_state tags.old valid.old lru.old cd nw (lent_ranges range_count bounds.now) ram.now parity.now «data».old) address width pcd answers.now log.old [] }
 {
     let number = read_number(
         tags,

@@ -66,8 +66,8 @@ pub fn set_ranges_in_place(
     ranges: &[u32],
 ) -> u32
     ensures { (tags : List ℕ) (valid : List Bool) (lru : List ℕ) (cd nw : Bool) (parity array : List ℕ) →
-        after (outcome (directory_of tags valid lru cd nw (lent_ranges range_count.new bounds.exit)) result 0 0) (memory ram.now parity) array []
-        ≡ set_ranges_call (state (directory_of tags valid lru cd nw (lent_ranges range_count.old bounds.entry)) (memory ram.now parity) array) ranges.now }
+        after (outcome (directory_of tags valid lru cd nw (lent_ranges range_count.new bounds.new)) result 0 0) (memory ram.now parity) array []
+        ≡ set_ranges_call (state (directory_of tags valid lru cd nw (lent_ranges range_count.old bounds.old)) (memory ram.now parity) array) ranges.now }
 {
     let number = set_ranges_number(ram.len(), ranges);
     if number != 0 {

@@ -37,7 +37,7 @@ pub fn read_next<'a>(
 ) -> NextRead
     requires { (0 < cursor.left) × AccessNeeds cursor (length ram.now) (length parity.now) (length «data».old) (length answers.now) (length log.old) }
     ensures { ReadNext (read_alone (lookup_in tags.now valid.now (line_address cursor)) (victim_in valid.now lru.now (set_of (line_address cursor)))
-        may_fill (lent_memory ram.entry parity.entry) «data».old (next_doubleword cursor answers.now))
+        may_fill (lent_memory ram.now parity.now) «data».old (next_doubleword cursor answers.now))
         cursor log.old result «data».new log.new }
 {
     let w = cursor.wanted();

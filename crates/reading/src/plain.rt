@@ -29,7 +29,7 @@ pub fn plain_read(
 ) -> PlainRead
     requires { DoublewordNeeds w first (length ram.now) (length parity.now) (length answers.now) (length log.old) }
     ensures { (result.value ≡ value_of (bytes_at ram.now (w.line + w.from) w.count))
-        × CyclesMade (read_record plain_kind (lent_memory ram.entry parity.entry) w.line) (cycles_of answers.now (run w.from w.count ∷ [])) first 0 log.old result.cycles log.new
+        × CyclesMade (read_record plain_kind (lent_memory ram.now parity.now) w.line) (cycles_of answers.now (run w.from w.count ∷ [])) first 0 log.old result.cycles log.new
         × (result.cycles ≤ 4) }
 {
     let line = w.line as usize;

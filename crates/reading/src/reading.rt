@@ -57,7 +57,7 @@ pub fn read_doubleword<'a>(
 ) -> DoublewordRead
     requires { DoublewordNeeds w first (length ram.now) (length parity.now) (length answers.now) (length log.old) × (length «data».old ≡ data_size) }
     ensures { Reads (read_alone (lookup_in tags.now valid.now w.line) (victim_in valid.now lru.now (set_of w.line))
-        may_fill (lent_memory ram.entry parity.entry) «data».old (doubleword_of w answers.now))
+        may_fill (lent_memory ram.now parity.now) «data».old (doubleword_of w answers.now))
         w.count first log.old result.change result.value result.cycles «data».new log.new }
 {
     if let Found::At(way) = ways::lookup(tags, valid, w.line) {

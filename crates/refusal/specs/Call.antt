@@ -1,6 +1,5 @@
 -- What a call is lent, and what it leaves.
 use Rattle.std.specs.Prelude.{ℕ, Bool, List, []}
-use Rattle.std.specs.Borrow.{Bor}
 use Rattle.ranges.specs.declared.Ranges.{Ranges}
 use Rattle.directory.specs.declared.steps.Directory.{Directory}
 use Rattle.directory.specs.declared.steps.Outcome.{Outcome}
@@ -18,8 +17,8 @@ abbrev pub state : Directory → Memory → List ℕ → State
 state d m array = record { directory = d; memory = m; array = array }
 
 -- The state that lent references hold.
-abbrev pub lent_state : Bor (List ℕ) → Bor (List Bool) → Bor (List ℕ) → Bool → Bool → Ranges → Bor (List ℕ) → Bor (List ℕ) → Bor (List ℕ) → State
-lent_state tags valid lru cd nw ranges ram parity array = state (lent_directory tags valid lru cd nw ranges) (lent_memory ram parity) array.now
+abbrev pub lent_state : List ℕ → List Bool → List ℕ → Bool → Bool → Ranges → List ℕ → List ℕ → List ℕ → State
+lent_state tags valid lru cd nw ranges ram parity array = state (lent_directory tags valid lru cd nw ranges) (lent_memory ram parity) array
 
 -- What a call leaves: its answer with the directory, every lent buffer, and the bytes that a view shows.
 pub record After : Type 0 where

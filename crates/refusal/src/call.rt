@@ -28,7 +28,7 @@ pub fn read_number<'a>(
 ) -> u32
     ensures { result ≡ or_else (lent_number (length ram.now) (length parity.now) (length «data».now))
         (or_else (argument_number (length ram.now) address width answers.now (length log.now))
-        (or_else (kept_number (length ram.now) (lent_ranges range_count bounds.entry))
+        (or_else (kept_number (length ram.now) (lent_ranges range_count bounds.now))
         (states_number_in tags.now valid.now lru.now address width))) }
 {
     let number = input_number(ram, parity, data, answers, address, width);
@@ -65,7 +65,7 @@ fn own_number<'a>(
     address: u32,
     width: u32,
 ) -> u32
-    ensures { result ≡ or_else (kept_number ram (lent_ranges range_count bounds.entry)) (states_number_in tags.now valid.now lru.now address width) }
+    ensures { result ≡ or_else (kept_number ram (lent_ranges range_count bounds.now)) (states_number_in tags.now valid.now lru.now address width) }
 {
     if range_count != 0 {
         return ranged_number(tags, valid, lru, range_count, bounds, ram, address, width);
@@ -92,7 +92,7 @@ pub fn read_carrying_number<'a>(
     ensures { result ≡ or_else (lent_number (length ram.now) (length parity.now) (length «data».now))
         (or_else (argument_number (length ram.now) address width answers.now (length log.now))
         (or_else (carried_number (length ram.now) (carried_of carried))
-        (or_else (kept_number (length ram.now) (lent_ranges range_count bounds.entry))
+        (or_else (kept_number (length ram.now) (lent_ranges range_count bounds.now))
         (or_else (states_number_in tags.now valid.now lru.now address width)
         (carried_states_number_in tags.now valid.now lru.now (carried_of carried)))))) }
 {
@@ -142,7 +142,7 @@ pub fn write_number<'a>(
     ensures { result ≡ or_else (lent_number (length ram.now) (length parity.now) (length «data».now))
         (or_else (argument_number (length ram.now) address width answers.now (length log.now))
         (or_else (value_number width value)
-        (or_else (kept_number (length ram.now) (lent_ranges range_count bounds.entry))
+        (or_else (kept_number (length ram.now) (lent_ranges range_count bounds.now))
         (states_number_in tags.now valid.now lru.now address width)))) }
 {
     let number = input_number(ram, parity, data, answers, address, width);

@@ -7,7 +7,7 @@ use ranges::{BOUNDS, RANGES_MOST, any_kept_bad};
 
 // Numbers 37 and 38, by RAM's length. Most directories keep no range.
 pub fn ranges_number<'a>(ram: usize, range_count: u32, bounds: &'a [u32; BOUNDS]) -> u32
-    ensures { result ≡ kept_number ram (lent_ranges range_count bounds.entry) }
+    ensures { result ≡ kept_number ram (lent_ranges range_count bounds.now) }
 {
     if range_count == 0 {
         return 0;

@@ -52,7 +52,7 @@ pub fn ranged_number<'a>(
     address: u32,
     count: u32,
 ) -> u32
-    ensures { result ≡ or_else (kept_number ram (lent_ranges range_count bounds.entry)) (states_number_in tags.now valid.now lru.now address count) }
+    ensures { result ≡ or_else (kept_number ram (lent_ranges range_count bounds.now)) (states_number_in tags.now valid.now lru.now address count) }
 {
     let kept = ranges_number(ram, range_count, bounds);
     if kept != 0 {

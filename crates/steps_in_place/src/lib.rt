@@ -48,8 +48,8 @@ pub fn fill_in_place(
     tag: u32,
 )
     requires { (set < set_count) × (way < way_count) }
-    ensures { (cd nw : Bool) (ranges : Ranges) → lent_directory tags.exit valid.exit lru.exit cd nw ranges
-        ≡ after_fill (lent_directory tags.entry valid.entry lru.entry cd nw ranges) set way tag }
+    ensures { (cd nw : Bool) (ranges : Ranges) → lent_directory tags.new valid.new lru.new cd nw ranges
+        ≡ after_fill (lent_directory tags.old valid.old lru.old cd nw ranges) set way tag }
 {
     line_in_place(tags, valid, set, way, tag, true);
     use_in_place(lru, set, way);
@@ -91,8 +91,8 @@ pub fn snoop_in_place<'a>(
     nw: bool,
     address: u32,
 ) -> u32
-    ensures { (cd : Bool) (ranges : Ranges) → outcome (lent_directory tags.entry valid.exit lru.entry cd nw ranges) result 0 0
-        ≡ snoop_call (lent_directory tags.entry valid.entry lru.entry cd nw ranges) address }
+    ensures { (cd : Bool) (ranges : Ranges) → outcome (lent_directory tags.now valid.new lru.now cd nw ranges) result 0 0
+        ≡ snoop_call (lent_directory tags.now valid.old lru.now cd nw ranges) address }
 {
     let number = state_number(tags, valid, lru, set_of(address));
     if number != 0 {
@@ -123,8 +123,8 @@ pub fn reset_in_place(
     cd: &mut bool,
     nw: &mut bool,
 )
-    ensures { (ranges : Ranges) → lent_directory tags.exit valid.exit lru.exit cd.new nw.new ranges
-        ≡ after_reset (lent_directory tags.entry valid.entry lru.entry cd.old nw.old ranges) }
+    ensures { (ranges : Ranges) → lent_directory tags.new valid.new lru.new cd.new nw.new ranges
+        ≡ after_reset (lent_directory tags.old valid.old lru.old cd.old nw.old ranges) }
 {
     *tags = [0u32; LINES];
     flush_in_place(valid, lru);

@@ -25,8 +25,8 @@ fn write_all(
     requires { or_else (lent_number (length ram.old) (length parity.old) (length «data».old))
         (or_else (argument_number (length ram.old) address width answers.now (length log.old))
         (or_else (value_number width value) (or_else (kept_number (length ram.old) given.ranges) (states_number_of given address width)))) ≡ 0 }
-    ensures { after result (lent_memory ram.exit parity.exit) «data».new log.new
-        ≡ write_call (state given (lent_memory ram.entry parity.entry) «data».old) address width value answers.now log.old }
+    ensures { after result (lent_memory ram.new parity.new) «data».new log.new
+        ≡ write_call (state given (lent_memory ram.old parity.old) «data».old) address width value answers.now log.old }
 {
     let ranges = given.ranges;
     let mut cursor = AccessCursor::begin(address, width);
@@ -71,8 +71,8 @@ pub fn write(
     answers: &[u8],
     log: &mut [u32],
 ) -> Outcome
-    ensures { after result (lent_memory ram.exit parity.exit) «data».new log.new
-        ≡ write_call (state given (lent_memory ram.entry parity.entry) «data».old) address width value answers.now log.old }
+    ensures { after result (lent_memory ram.new parity.new) «data».new log.new
+        ≡ write_call (state given (lent_memory ram.old parity.old) «data».old) address width value answers.now log.old }
 {
     let number = write_number(
         &given.tags,

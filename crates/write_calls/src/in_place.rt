@@ -33,9 +33,9 @@ fn write_accepted<'a>(
     requires { or_else (lent_number (length ram.old) (length parity.old) (length «data».old))
         (or_else (argument_number (length ram.old) address width answers.now (length log.old))
         (or_else (value_number width value)
-        (or_else (kept_number (length ram.old) (lent_ranges range_count bounds)) (states_number_in tags.now valid.now lru.old address width)))) ≡ 0 }
-    ensures { leaves result (lent_state tags.entry valid.entry lru.exit cd nw (lent_ranges range_count bounds.entry) ram.exit parity.exit «data».exit) log.new
-        ≡ write_call (lent_state tags.entry valid.entry lru.entry cd nw (lent_ranges range_count bounds.entry) ram.entry parity.entry «data».entry) address width value answers.now log.old }
+        (or_else (kept_number (length ram.old) (lent_ranges range_count bounds.now)) (states_number_in tags.now valid.now lru.old address width)))) ≡ 0 }
+    ensures { leaves result (lent_state tags.now valid.now lru.new cd nw (lent_ranges range_count bounds.now) ram.new parity.new «data».new) log.new
+        ≡ write_call (lent_state tags.now valid.now lru.old cd nw (lent_ranges range_count bounds.now) ram.old parity.old «data».old) address width value answers.now log.old }
 {
     let mut cursor = AccessCursor::begin(address, width);
     while 0 < cursor.left {
@@ -81,8 +81,8 @@ pub fn write_in_place<'a>(
     answers: &[u8],
     log: &mut [u32],
 ) -> CallResult
-    ensures { leaves result (lent_state tags.entry valid.entry lru.exit cd nw (lent_ranges range_count bounds.entry) ram.exit parity.exit «data».exit) log.new
-        ≡ write_call (lent_state tags.entry valid.entry lru.entry cd nw (lent_ranges range_count bounds.entry) ram.entry parity.entry «data».entry) address width value answers.now log.old }
+    ensures { leaves result (lent_state tags.now valid.now lru.new cd nw (lent_ranges range_count bounds.now) ram.new parity.new «data».new) log.new
+        ≡ write_call (lent_state tags.now valid.now lru.old cd nw (lent_ranges range_count bounds.now) ram.old parity.old «data».old) address width value answers.now log.old }
 {
     let number = write_number(
         tags,

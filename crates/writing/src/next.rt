@@ -42,9 +42,9 @@ pub fn write_next<'a>(
     cursor: AccessCursor,
 ) -> NextWritten
     requires { (0 < cursor.left) × AccessNeeds cursor (length ram.old) (length parity.old) (length «data».old) (length answers.now) (length log.old) }
-    ensures { WriteNext (write_done (lookup_in tags.now valid.now (line_address cursor)) stays (ranges_of (lent_ranges range_count bounds.entry))
-        (lent_memory ram.entry parity.entry) «data».old (bytes_of widest value) (next_doubleword cursor answers.now))
-        cursor log.old result (lent_memory ram.exit parity.exit) «data».new log.new }
+    ensures { WriteNext (write_done (lookup_in tags.now valid.now (line_address cursor)) stays (ranges_of (lent_ranges range_count bounds.now))
+        (lent_memory ram.old parity.old) «data».old (bytes_of widest value) (next_doubleword cursor answers.now))
+        cursor log.old result (lent_memory ram.new parity.new) «data».new log.new }
 {
     let w = cursor.wanted();
     let group = cursor.group_of(answers);

@@ -40,8 +40,8 @@ fn store_writable<'a>(
     word: u32,
 )
     requires { (0 < count) × (lane + count ≤ 4) × (base % 4 ≡ 0) × (base < 4294967296) × (base + 4 ≤ length ram.old) × (base + 4 ≤ 4 * length parity.old) × (word ≡ lanes_word word lane count) }
-    ensures { lent_memory ram.exit parity.exit
-        ≡ cond (read_only (ranges_of (lent_ranges range_count bounds.entry)) base) (lent_memory ram.entry parity.entry) (stored (lent_memory ram.entry parity.entry) (base + lane) (bytes_of count (lanes_value word lane count))) }
+    ensures { lent_memory ram.new parity.new
+        ≡ cond (read_only (ranges_of (lent_ranges range_count bounds.now)) base) (lent_memory ram.old parity.old) (stored (lent_memory ram.old parity.old) (base + lane) (bytes_of count (lanes_value word lane count))) }
 {
     if !read_only(range_count, bounds, base as u32) {
         store_lanes(ram, parity, base, lane, count, word);
@@ -61,8 +61,8 @@ fn write_through<'a>(
     first: usize,
 ) -> usize
     requires { DoublewordNeeds w first (length ram.old) (length parity.old) (length answers.now) (length log.old) × (word ≡ lanes_word word (w.from % 4) w.count) }
-    ensures { (lent_memory ram.exit parity.exit
-        ≡ cond (read_only (ranges_of (lent_ranges range_count bounds.entry)) w.line) (lent_memory ram.entry parity.entry) (stored (lent_memory ram.entry parity.entry) (w.line + w.from) (bytes_of w.count (lanes_value word (w.from % 4) w.count))))
+    ensures { (lent_memory ram.new parity.new
+        ≡ cond (read_only (ranges_of (lent_ranges range_count bounds.now)) w.line) (lent_memory ram.old parity.old) (stored (lent_memory ram.old parity.old) (w.line + w.from) (bytes_of w.count (lanes_value word (w.from % 4) w.count))))
         × CyclesMade (write_record (sent_line w.from (bytes_of w.count (lanes_value word (w.from % 4) w.count))) w.line) (cycles_of answers.now (run w.from w.count ∷ [])) first 0 log.old result log.new × (result ≤ 4) }
 {
     let line = w.line as usize;
@@ -99,8 +99,8 @@ pub fn write_doubleword<'a>(
 ) -> DoublewordWritten
     requires { DoublewordNeeds w first (length ram.old) (length parity.old) (length answers.now) (length log.old) × (length «data».old ≡ data_size) × (word ≡ lanes_word word (w.from % 4) w.count) }
     ensures { (operand : List ℕ) → bytes_at operand w.place w.count ≡ bytes_of w.count (lanes_value word (w.from % 4) w.count) →
-        Writes (write_done (lookup_in tags.now valid.now w.line) stays (ranges_of (lent_ranges range_count bounds.entry)) (lent_memory ram.entry parity.entry) «data».old operand (doubleword_of w answers.now))
-        first log.old result.change result.cycles (lent_memory ram.exit parity.exit) «data».new log.new }
+        Writes (write_done (lookup_in tags.now valid.now w.line) stays (ranges_of (lent_ranges range_count bounds.now)) (lent_memory ram.old parity.old) «data».old operand (doubleword_of w answers.now))
+        first log.old result.change result.cycles (lent_memory ram.new parity.new) «data».new log.new }
 {
     if let Found::At(way) = ways::lookup(tags, valid, w.line) {
         let held = data_offset(w.line, way) + w.from / 4 * 4;
