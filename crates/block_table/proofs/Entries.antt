@@ -7,7 +7,7 @@ use lib.Dec.{ltb}
 use lib.ListN.{length, drop}
 use borrow.Author.Tests.{ltb-true, ltb-false}
 use Rattle.laws.proofs.Tests.{by_test, same_or}
-use Rattle.bytes.specs.Bytes.{index_of}
+use Rattle.fields.specs.Fields.{index_of}
 use Rattle.fields.specs.declared.numbers.Number.{Number}
 use Rattle.fields.specs.declared.numbers.Number.TheVariants.{Value, NotANumber}
 use Rattle.fields.specs.declared.numbers.Leading.TheVariants.{Nothing}
@@ -15,7 +15,7 @@ use Rattle.fields.specs.Number.{number_of}
 use Rattle.fields.specs.Fields.{tab, fields_of, leading_of}
 use Rattle.fields.proofs.Parts.{parts_some, total, parts_total, parts_end, parts_more, index_most}
 use Rattle.fields.proofs.Digits.{number_long}
-use Rattle.fields.proofs.Leading.{Led, rest_from, unled, tab_no_number}
+use Rattle.fields.proofs.LeadingNumber.{Led, rest_from, unled, tab_no_number}
 use Rattle.block_table.specs.Load.{refused, entry_with, entry_of, entry_on}
 use Rattle.block_table.specs.Table.{LongRefused}
 

@@ -7,7 +7,7 @@ use native.Mathlib.Omega.{arith}
 use lib.ListN.{length, take, drop, set, replicate, drop_of_length-le}
 use lib.Seq.{sets, sets-eq, drop-drop}
 use borrow.Author.Tests.{ne_eqb}
-use Rattle.bytes.specs.Bytes.{index_of}
+use Rattle.fields.specs.Fields.{index_of}
 use Rattle.refusal.specs.Refusal.{or_else}
 use Rattle.refusal.proofs.Accepted.{or_zero, or_grouped}
 use Rattle.board.specs.Board.{block_count}

@@ -8,7 +8,7 @@ use lib.ListN.{length, take, drop, length-replicate, length-append, length-drop,
 use lib.Seq.{sets, length-sets, drop-drop}
 use borrow.Author.Tests.{lt-ltb, le-ltb}
 use Rattle.laws.proofs.Lists.{sets_append}
-use Rattle.bytes.specs.Bytes.{index_of}
+use Rattle.fields.specs.Fields.{index_of}
 use Rattle.ways.specs.Address.{data_size}
 use Rattle.memory.specs.Parity.{Memory}
 use Rattle.directory.specs.declared.steps.Outcome.{Outcome}

@@ -2,4 +2,4 @@
 pub mod Digits
 pub mod Parts
 pub mod Pairs
-pub mod Leading
+pub mod LeadingNumber

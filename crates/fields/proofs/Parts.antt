@@ -10,7 +10,7 @@ use lib.Dec.{eqb}
 use lib.ListN.{length, take, drop, drop_of_length-le, length-drop}
 use borrow.Author.Tests.{ne_eqb}
 use Rattle.laws.proofs.Tests.{by_test, same_or}
-use Rattle.bytes.specs.Bytes.{index_of, index_after, slice}
+use Rattle.fields.specs.Fields.{index_of, index_after, slice}
 use Rattle.fields.specs.Fields.{in_front, parts_of, newline, without_empty_end, lines_of}
 
 -- a text from a place on, as a part of it up to its end

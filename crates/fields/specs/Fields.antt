@@ -1,6 +1,5 @@
 -- Document 01, 'Board table and program': lines and fields, and the bytes of an external write.
-use Rattle.std.specs.Prelude.{ℕ, ◌+◌, ◌*◌, ◌-◌, ◌%◌, Bool, cond, ◌&&◌, ◌||◌, List, [], ◌∷◌, eqb, leb, ltb, length, take}
-use Rattle.bytes.specs.Bytes.{index_of}
+use Rattle.std.specs.Prelude.{ℕ, suc, ◌+◌, ◌*◌, ◌-◌, ◌%◌, Bool, true, false, cond, ◌&&◌, ◌||◌, List, [], ◌∷◌, eqb, leb, ltb, length, take}
 use Rattle.fields.specs.declared.numbers.Number.{Number}
 use Rattle.fields.specs.declared.numbers.Number.TheVariants.{Value, NotANumber}
 use Rattle.fields.specs.declared.numbers.Leading.{Leading}
@@ -13,6 +12,15 @@ tab = 9
 
 abbrev pub newline : ℕ
 newline = 10
+
+-- The place of the first byte that is the separator, or the text's length where none is.
+unfoldable pub index_after : Bool → ℕ → ℕ
+index_after true rest = 0
+index_after false rest = suc rest
+
+unfoldable pub index_of : ℕ → List ℕ → ℕ
+index_of separator [] = 0
+index_of separator (c ∷ cs) = index_after (eqb c separator) (index_of separator cs)
 
 -- A byte put in front of the first part.
 unfoldable pub in_front : ℕ → List (List ℕ) → List (List ℕ)

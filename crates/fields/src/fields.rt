@@ -1,14 +1,15 @@
 // Fields of a line, and the bytes of an external write.
 ghost use Rattle.std.specs.Prelude.{◌≡◌, ◌≤◌, length};
 ghost use Rattle.std.proofs.lemmas.List.Edits.{sets};
-ghost use Rattle.bytes.specs.Bytes.{index_of};
-ghost use Rattle.fields.specs.Fields.{hex_of, is_hex, is_pairs, pair_bytes};
+ghost use Rattle.fields.specs.Fields.{hex_of, index_of, is_hex, is_pairs, pair_bytes};
 
 // The place of the first separator, or the text's length.
 pub fn end_of(text: &[u8], separator: u8) -> usize
     ensures { (result ≡ index_of separator text.now) × (result ≤ length text.now) }
 {
-    bytes::scan::find(text, 0, text.len(), separator)
+    text.iter()
+        .position(|byte| *byte == separator)
+        .unwrap_or(text.len())
 }
 
 fn is_hex(c: u8) -> bool

@@ -9,13 +9,13 @@ use lib.Dec.{eqb}
 use lib.ListN.{length, take, drop, get_or}
 use borrow.Author.Tests.{eqb-true, le-ltb, lt-ltb, eq-eqb, ne_eqb}
 use Rattle.laws.proofs.Tests.{by_test, same_or}
-use Rattle.bytes.specs.Bytes.{index_of}
+use Rattle.fields.specs.Fields.{index_of}
 use Rattle.fields.specs.declared.numbers.Number.TheVariants.{Value, NotANumber}
 use Rattle.fields.specs.declared.numbers.Leading.TheVariants.{Nothing}
 use Rattle.fields.specs.Fields.{tab, fields_of, parts_of, in_front, is_pairs, leading_of}
 use Rattle.fields.specs.Number.{number_of, value_field_of, bit_of}
 use Rattle.fields.proofs.Parts.{drop_part, parts_some, parts_end, parts_more, index_most}
-use Rattle.fields.proofs.Leading.{Led, rest_from, unled, tab_no_number, tab_no_bit, tab_no_pairs}
+use Rattle.fields.proofs.LeadingNumber.{Led, rest_from, unled, tab_no_number, tab_no_bit, tab_no_pairs}
 use Rattle.lines.specs.declared.Event.{Event}
 use Rattle.lines.specs.declared.Event.TheVariants.{Malformed, External, Snoop}
 use Rattle.lines.specs.Scan.{with, of_none, of_one, of_two, of_three, read_with, read_of, write_with, write_of, external_of, snoop_of, event_of, form_of, scanned}

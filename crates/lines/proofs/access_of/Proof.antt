@@ -1,5 +1,5 @@
 use Rattle.lines.proofs.Forms.{two_led, two_unled, three_led, three_unled, third_first, third_second, read_last, write_last}
-use Rattle.fields.proofs.Leading.{Led, rest_from, led}
+use Rattle.fields.proofs.LeadingNumber.{Led, rest_from, led}
 use mathlib.Core.Path.{sym, ◌∙◌}
 use borrow.Author.Rules.{rules}
 use Rattle.lines.proofs.access_of.Statement.{statement}

@@ -1,6 +1,6 @@
 use Rattle.lines.proofs.Forms.{two_led, two_unled, external_first, external_last}
 use Rattle.lines.specs.Scan.{external_of}
-use Rattle.fields.proofs.Leading.{Led, led}
+use Rattle.fields.proofs.LeadingNumber.{Led, led}
 use mathlib.Core.Path.{◌≡◌, sym, ◌∙◌}
 use native.Mathlib.Omega.{arith}
 use lib.ListN.{length}

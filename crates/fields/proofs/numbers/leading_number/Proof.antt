@@ -1,7 +1,7 @@
 use Prim.Native.Nat.{◌-◌}
 use native.Mathlib.Omega.{arith}
 use lib.ListN.{length, get_or}
-use Rattle.fields.proofs.Leading.{LeadingInvariant, NextDigit, leading_begin, digit_more, leading_next, lead_end, lead_empty, lead_large, lead_field, lead_other}
+use Rattle.fields.proofs.LeadingNumber.{LeadingInvariant, NextDigit, leading_begin, digit_more, leading_next, lead_end, lead_empty, lead_large, lead_field, lead_other}
 use Rattle.fields.proofs.numbers.leading_number.Statement.{statement}
 use Rattle.fields.proofs.numbers.leading_number.Tie as tie
 

@@ -10,7 +10,7 @@ use lib.ListN.{length, take, drop, get_or, drop_of_length-le}
 use lib.Seq.{drop-cons, take-suc, get_or-take, length-take-le}
 use borrow.Author.Tests.{eq-eqb, ne_eqb, eqb-true, lt-ltb, le-ltb, leb-true, ltb-true, ltb-false}
 use Rattle.laws.proofs.Tests.{both, neither, by_test, differ, refuted}
-use Rattle.bytes.specs.Bytes.{index_of, index_after}
+use Rattle.fields.specs.Fields.{index_of, index_after}
 use Rattle.fields.specs.declared.numbers.Number.{Number}
 use Rattle.fields.specs.declared.numbers.Number.TheVariants.{Value, NotANumber}
 use Rattle.fields.specs.declared.numbers.Leading.TheVariants.{Field, Nothing}
