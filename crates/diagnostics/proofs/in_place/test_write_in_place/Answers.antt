@@ -1,0 +1,34 @@
+use mathlib.Core.Path.{◌≡◌}
+use lib.ListN.{length}
+use Rattle.directory.specs.Steps.{directory_of}
+use Rattle.refusal.specs.Call.{state}
+use Rattle.diagnostics.proofs.Lines.{Placed, write_placed, write_refused, write_made}
+use borrow.Author.Rules.{rules}
+use Rattle.diagnostics.proofs.in_place.test_write_in_place.Goals as goal
+
+-- the line is one of the directory's
+place : (c : goal.Else-number-ne0) → let a = c.before.before.before.args in Placed (length a.«data».now) a.set a.way
+place c = write_placed _ _ _ _ c.args.tag _ c.test_write_number-number.ensures c.if-number-ne0.false
+
+pub returns-then-number-ne0 : goal.returns-then-number-ne0
+returns-then-number-ne0 c lru nw ranges m =
+    let a = c.args in
+    write_refused (state (directory_of a.tags.now a.valid.now lru a.cd nw ranges) m a.«data».now) a.set a.way a.tag a.mark a.bytes.now _
+    c.test_write_number-number.ensures c.if-number-ne0.true
+
+pub line_offset-requires : goal.line_offset-requires
+line_offset-requires c = let p = place c in (p.set_below, p.way_below)
+
+pub copy_line-requires : goal.copy_line-requires
+copy_line-requires c = (search rules, rw (place c).whole c.line_offset.ensures.1)
+
+pub line_in_place-requires : goal.line_in_place-requires
+line_in_place-requires c = let p = place c in search rules
+
+pub returns : goal.returns
+returns c lru nw ranges m =
+    let a = c.args in
+    let whole : length a.bytes.now ≡ 16 = search rules in
+    write_made (state (directory_of a.tags.now a.valid.now lru a.cd nw ranges) m a.«data».now) a.set a.way a.tag a.mark a.bytes.now _
+    c.test_write_number-number.ensures c.if-number-ne0.false whole _ (c.line_in_place.ensures lru a.cd nw ranges)
+    _ c.line_offset.ensures.0 _ c.copy_line.ensures

@@ -1,0 +1,42 @@
+use Prim.Native.Nat.{◌-◌}
+use mathlib.Core.Path.{refl, sym, ◌∙◌}
+use native.Mathlib.Omega.{arith}
+use lib.ListN.{take}
+use Rattle.ranges.specs.Ranges.{ranges_in, in_range}
+use Rattle.ranges.proofs.Laws.{any_step, any_end, read_only_any}
+use Rattle.ranges.proofs.in_words.Goals as goal
+
+pub overflow_mul-line : goal.overflow_mul-line
+overflow_mul-line c = omega arith
+
+pub loop-k-init : goal.loop-k-init
+loop-k-init c = refl
+
+pub word_at-start-requires : goal.word_at-start-requires
+word_at-start-requires c = omega arith
+
+pub overflow_add-k : goal.overflow_add-k
+overflow_add-k c = omega arith
+
+pub word_at-size-requires : goal.word_at-size-requires
+word_at-size-requires c = omega arith
+
+pub overflow_add-k-in-loop-k : goal.overflow_add-k-in-loop-k
+overflow_add-k-in-loop-k c = omega arith
+
+pub loop-k-smaller : goal.loop-k-smaller
+loop-k-smaller c = omega arith
+
+pub loop-k-preserved : goal.loop-k-preserved
+loop-k-preserved c =
+    let a = c.args in
+    let l = c.loop-k in
+    any_step (λ r. in_range r a.address) a.words.now a.to (omega arith) l.k l.found _ _ _ (omega arith) c.word_at-start.ensures c.word_at-size.ensures (c.in_range-found.ensures a.address refl)
+    ∙ l.invariant
+
+pub returns : goal.returns
+returns c =
+    let a = c.args in
+    let l = c.loop-k in
+    sym (any_end (λ r. in_range r a.address) a.words.now a.to (omega arith) l.k l.found (omega arith)) ∙ l.invariant
+    ∙ sym (read_only_any (ranges_in (take a.to a.words.now)) a.address)

@@ -1,0 +1,13 @@
+use Prim.Native.Nat.{◌-◌}
+use mathlib.Core.Path.{◌≡◌}
+use mathlib.Core.Bool.{◌||◌}
+use lib.ListN.{take, drop}
+use Rattle.ranges.specs.Ranges.{ranges_in, in_range}
+use Rattle.ranges.proofs.Laws.{any_range}
+use Rattle.ranges.proofs.in_words.Given as goal
+
+abbrev pub invariant-loop-k : goal.invariant-loop-k
+invariant-loop-k l = (l.found || any_range (λ r. in_range r l.address) (ranges_in (drop l.k (take l.to l.words)))) ≡ any_range (λ r. in_range r l.address) (ranges_in (take l.to l.words))
+
+abbrev pub decreases-loop-k : goal.decreases-loop-k
+decreases-loop-k l = l.to - l.k

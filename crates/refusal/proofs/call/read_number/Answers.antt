@@ -1,0 +1,39 @@
+use lib.ListN.{length}
+use Rattle.ranges.specs.Ranges.{lent_ranges}
+use Rattle.refusal.specs.Refusal.{or_else, kept_number, states_number_in}
+use Rattle.refusal.proofs.Accepted.{asked_first, asked_second, asked_later, none_first}
+use Rattle.refusal.proofs.call.read_number.Goals as goal
+
+pub returns-then-number-ne0 : goal.returns-then-number-ne0
+returns-then-number-ne0 c =
+    let a = c.args in
+    let kept = kept_number (length a.ram.now) (lent_ranges a.range_count a.bounds.now) in
+    let states = states_number_in a.tags.now a.valid.now a.lru.now a.address a.width in
+    asked_first (length a.ram.now) (length a.parity.now) (length a.«data».now) a.address a.width a.answers.now (length a.log.now)
+    (or_else kept states) _ c.input_number-number.ensures c.if-number-ne0.taken
+
+pub returns-then-next-ne0 : goal.returns-then-next-ne0
+returns-then-next-ne0 c =
+    let a = c.args in
+    let kept = kept_number (length a.ram.now) (lent_ranges a.range_count a.bounds.now) in
+    let states = states_number_in a.tags.now a.valid.now a.lru.now a.address a.width in
+    asked_second (length a.ram.now) (length a.parity.now) (length a.«data».now) a.address a.width a.answers.now (length a.log.now)
+    (or_else kept states) _ c.input_number-number.ensures c.if-number-ne0.left _ c.answers_number-next.ensures c.if-next-ne0.taken
+
+pub returns-then-range_count-ne0 : goal.returns-then-range_count-ne0
+returns-then-range_count-ne0 c =
+    let a = c.args in
+    let kept = kept_number (length a.ram.now) (lent_ranges a.range_count a.bounds.now) in
+    let states = states_number_in a.tags.now a.valid.now a.lru.now a.address a.width in
+    asked_later (length a.ram.now) (length a.parity.now) (length a.«data».now) a.address a.width a.answers.now (length a.log.now)
+    (or_else kept states) _ c.input_number-number.ensures c.if-number-ne0.left _ c.answers_number-next.ensures c.if-next-ne0.left _
+    c.ranged_number.ensures
+
+pub returns : goal.returns
+returns c =
+    let a = c.args in
+    let kept = kept_number (length a.ram.now) (lent_ranges a.range_count a.bounds.now) in
+    let states = states_number_in a.tags.now a.valid.now a.lru.now a.address a.width in
+    asked_later (length a.ram.now) (length a.parity.now) (length a.«data».now) a.address a.width a.answers.now (length a.log.now)
+    (or_else kept states) _ c.input_number-number.ensures c.if-number-ne0.left _ c.answers_number-next.ensures c.if-next-ne0.left _
+    (none_first (length a.ram.now) (lent_ranges a.range_count a.bounds.now) c.if-range_count-ne0.left _ states c.states_number.ensures)

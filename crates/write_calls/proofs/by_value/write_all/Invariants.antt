@@ -1,0 +1,16 @@
+use Rattle.access.proofs.WriteLoop.{WriteKept}
+use Rattle.access.proofs.AccessLoop.{rest_of}
+use Rattle.refusal.specs.Call.{state}
+use Rattle.access.specs.Access.{all_of, write_one, operand_of}
+use Rattle.doubleword.specs.Cursor.{access_begin}
+use Rattle.memory.specs.Parity.{memory}
+use Rattle.ranges.specs.Ranges.{ranges_of}
+use Rattle.write_calls.proofs.by_value.write_all.Given as goal
+
+abbrev pub invariant-loop-cursor : goal.invariant-loop-cursor
+invariant-loop-cursor l = WriteKept (ranges_of l.ranges) (operand_of l.value) l.answers
+    (all_of (write_one (ranges_of l.ranges) (operand_of l.value)) (state l.initial.given (memory l.initial.ram l.initial.parity) l.initial.data) (rest_of (access_begin l.address l.width) l.answers)) l.initial.log l.initial.data
+    (memory l.initial.ram l.initial.parity) l.cursor l.given (memory l.ram l.parity) l.data l.log
+
+abbrev pub decreases-loop-cursor : goal.decreases-loop-cursor
+decreases-loop-cursor l = l.cursor.left
