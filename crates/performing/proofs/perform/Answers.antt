@@ -38,26 +38,26 @@ pub returns-in-Snoop : goal.returns-in-Snoop
 unfolding call_of call_done step_by
 returns-in-Snoop c =
     let a = c.args in
-    let s = lent_state a.tags a.valid a.lru a.cd.now a.nw.now no_ranges a.ram a.parity a.«data» in
+    let s = lent_state a.tags.now a.valid.now a.lru.now a.cd.now a.nw.now no_ranges a.ram.now a.parity.now a.«data».now in
     rw (sym c.scan-event.ensures ∙ c.event-in-Snoop-1.given.1, c.number_only-in-Snoop.ensures) (ap (on_directory s) (c.snoop_in_place.ensures _ _))
 
 pub returns-in-Flush : goal.returns-in-Flush
 unfolding call_of call_done step_by
 returns-in-Flush c =
     let a = c.args in
-    let s = lent_state a.tags a.valid a.lru a.cd.now a.nw.now no_ranges a.ram a.parity a.«data» in
+    let s = lent_state a.tags.now a.valid.now a.lru.now a.cd.now a.nw.now no_ranges a.ram.now a.parity.now a.«data».now in
     rw (sym c.scan-event.ensures ∙ c.enum_told-in-Flush-1.given.1, c.number_only-in-Flush.ensures) (ap (λ (d : Directory). on_directory s (outcome d 0 0 0)) (c.flush_in_place.ensures _ _ _ _))
 
 pub returns-in-Control : goal.returns-in-Control
 unfolding call_of call_done step_by
 returns-in-Control c =
     let a = c.args in
-    let s = lent_state a.tags a.valid a.lru a.cd.now a.nw.now no_ranges a.ram a.parity a.«data» in
+    let s = lent_state a.tags.now a.valid.now a.lru.now a.cd.now a.nw.now no_ranges a.ram.now a.parity.now a.«data».now in
     rw (sym c.scan-event.ensures ∙ c.event-in-Control-1.given.1, c.number_only-in-Control.ensures) (ap (on_directory s) (c.control_in_place.ensures _ _ _ _))
 
 pub returns-in-Reset : goal.returns-in-Reset
 unfolding call_of call_done step_by
 returns-in-Reset c =
     let a = c.args in
-    let s = lent_state a.tags a.valid a.lru a.cd.now a.nw.now no_ranges a.ram a.parity a.«data» in
+    let s = lent_state a.tags.now a.valid.now a.lru.now a.cd.now a.nw.now no_ranges a.ram.now a.parity.now a.«data».now in
     rw (sym c.scan-event.ensures ∙ c.enum_told-in-Reset-1.given.1, c.number_only-in-Reset.ensures) (ap (λ (d : Directory). on_directory s (outcome d 0 0 0)) (c.reset_in_place.ensures _))
