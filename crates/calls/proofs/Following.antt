@@ -148,7 +148,7 @@ ends_from moved answer [] [] g l = refl
 ends_from moved answer [] (w ∷ ws) g l = absurd (let h = g.0.some in omega arith)
 ends_from moved answer (x ∷ xs) [] g l = refl
 ends_from moved answer (x ∷ xs) (w ∷ ws) g l =
-    (refl, ends_from _ x xs (wanted_after x w ws) (left_each x w ws g.0 g.1) (omega (arith, left_total x w ws, size_some x w.from w.count g.0.some)))
+    (refl, ends_from (run w.from (size_of x w)) x xs (wanted_after x w ws) (left_each x w ws g.0 g.1) (omega (arith, left_total x w ws, size_some x w.from w.count g.0.some)))
 
 -- those for some wanted bytes begin with the first of them
 pub record Begins (from : ℕ) (cs : List Cycle) : Type 0 where
@@ -160,7 +160,7 @@ unfolding cycles_of records_of read_record
 cycles_begin [] w ws g l = absurd (let h = g.0.some in omega arith)
 cycles_begin (x ∷ xs) w ws g l =
     record {
-      ends = ends_from _ x xs (wanted_after x w ws) (left_each x w ws g.0 g.1) (omega (arith, left_total x w ws, size_some x w.from w.count g.0.some));
+      ends = ends_from (run w.from (size_of x w)) x xs (wanted_after x w ws) (left_each x w ws g.0 g.1) (omega (arith, left_total x w ws, size_some x w.from w.count g.0.some));
       starts = λ kind at line n. refl;
     }
 

@@ -8,7 +8,7 @@ pub returns-then-number-ne0 : goal.returns-then-number-ne0
 returns-then-number-ne0 c array =
     let a = c.args in
     rw c.answered.ensures
-    (refused_by (state a.t1 (memory a.ram.now a.parity.now) array) a.address a.bytes.now _ c.external_write_number-number.ensures c.if-number-ne0.true)
+    (refused_by (state a.given (memory a.ram.now a.parity.now) array) a.address a.bytes.now _ c.external_write_number-number.ensures c.if-number-ne0.true)
 
 pub put_bytes-requires : goal.put_bytes-requires
 put_bytes-requires c =
@@ -19,5 +19,5 @@ pub returns : goal.returns
 returns c array =
     let a = c.args in
     rw c.answered-2.ensures
-    (done_by (state a.t1 (memory a.ram.now a.parity.now) array) a.address a.bytes.now _ c.external_write_number-number.ensures c.if-number-ne0.false
+    (done_by (state a.given (memory a.ram.now a.parity.now) array) a.address a.bytes.now _ c.external_write_number-number.ensures c.if-number-ne0.false
     _ _ c.snooped.ensures c.put_bytes.ensures)

@@ -8,12 +8,12 @@ use Rattle.carrying_calls.proofs.by_value.read_all.Goals as goal
 pub taken_writes-taken-requires : goal.taken_writes-taken-requires
 taken_writes-taken-requires c =
     let a = c.args in
-    carry_few a.t1 (memory a.ram.now a.parity.now) a.«data».now a.address a.width a.answers.now a.log.now a.pcd a.carried c.requires
+    carry_few a.given (memory a.ram.now a.parity.now) a.«data».now a.address a.width a.answers.now a.log.now a.pcd a.carried c.requires
 
 pub loop-cursor-init : goal.loop-cursor-init
 loop-cursor-init c =
     let a = c.args in
-    rw c.begin-cursor.ensures (carry_begin a.t1 (memory a.ram.now a.parity.now) a.«data».now a.address a.width a.answers.now a.log.now
+    rw c.begin-cursor.ensures (carry_begin a.given (memory a.ram.now a.parity.now) a.«data».now a.address a.width a.answers.now a.log.now
     a.pcd a.carried c.requires _ c.taken_writes-taken.ensures.2)
 
 pub carried_next-read-requires : goal.carried_next-read-requires
@@ -64,5 +64,5 @@ shape_of-log c = c.loop-cursor.invariant.logs
 pub returns : goal.returns
 returns c =
     let a = c.args in
-    carry_made a.t1 (memory a.ram.now a.parity.now) a.«data».now a.address a.width a.answers.now a.log.now a.pcd a.carried
+    carry_made a.given (memory a.ram.now a.parity.now) a.«data».now a.address a.width a.answers.now a.log.now a.pcd a.carried
     c.requires _ c.taken_writes-taken.ensures.1 c.loop-cursor.invariant (omega (arith, c.loop-cursor-test.false)) _ _ c.snooped_by.ensures c.land.ensures

@@ -29,4 +29,4 @@ loop-k-preserved c =
 pub returns : goal.returns
 returns c =
     let a = c.args in
-    let e : c.loop-k.k ≡ a.to = omega arith in c.loop-k.invariant.2 ∙ ap (λ (i : ℕ). snooped_to a.t2 a.from i a.given) e
+    let e : c.loop-k.k ≡ a.to = omega arith in c.loop-k.invariant.2 ∙ ap (λ (i : ℕ). snooped_to a.carried a.from i a.given) e

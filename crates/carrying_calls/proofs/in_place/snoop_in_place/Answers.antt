@@ -29,5 +29,5 @@ loop-k-preserved c =
 pub returns : goal.returns
 returns c =
     let a = c.args in
-    λ lru cd ranges. let e : c.loop-k.k ≡ a.to = omega arith in c.loop-k.invariant.2 lru cd ranges ∙ ap (λ (i : ℕ). snooped_to a.t4 a.from i (directory_of
+    λ lru cd ranges. let e : c.loop-k.k ≡ a.to = omega arith in c.loop-k.invariant.2 lru cd ranges ∙ ap (λ (i : ℕ). snooped_to a.carried a.from i (directory_of
     a.tags.now a.valid.now lru cd a.nw ranges)) e

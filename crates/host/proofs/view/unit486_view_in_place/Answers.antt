@@ -13,15 +13,15 @@ use Rattle.host.proofs.view.unit486_view_in_place.Goals as goal
 -- the part that is copied is the view, sixteen bytes
 part : (c : goal.After-accepted_view-part) → let a = c.before.before.before.before.before.args in
     (c.accepted-view.result.now ≡ view_in a.tags.now a.valid.now a.lru.now (lent_ranges a.range_count a.bounds.now) a.ram.now a.«data».now a.address) × (length c.accepted-view.result.now ≡ 16)
-part c = view_made _ _ _ _ _ _ _ _ c.view_number-number.ensures c.if-number-ne0.left _ c.accepted_view-part.ensures.0
+part c = view_made _ _ _ _ _ _ _ _ c.view_number-number.ensures c.if-number-ne0.false _ c.accepted_view-part.ensures.0
 
 pub returns-then-number-ne0 : goal.returns-then-number-ne0
 returns-then-number-ne0 c =
     let en = c.view_number-number.ensures in
-    (en, ap (sets _ 0) (view_refused _ _ _ _ _ _ _ _ en c.if-number-ne0.taken))
+    (en, ap (sets _ 0) (view_refused _ _ _ _ _ _ _ _ en c.if-number-ne0.true))
 
 pub accepted_view-part-requires : goal.accepted_view-part-requires
-accepted_view-part-requires c = input_0 _ _ _ _ _ _ _ _ c.view_number-number.ensures c.if-number-ne0.left
+accepted_view-part-requires c = input_0 _ _ _ _ _ _ _ _ c.view_number-number.ensures c.if-number-ne0.false
 
 pub copy_line-requires : goal.copy_line-requires
 copy_line-requires c =
@@ -32,4 +32,4 @@ copy_line-requires c =
 pub returns : goal.returns
 returns c =
     let p = part c in
-    (sym c.if-number-ne0.left ∙ c.view_number-number.ensures, line_copied _ _ p.0 p.1 _ _ c.copy_line.ensures)
+    (sym c.if-number-ne0.false ∙ c.view_number-number.ensures, line_copied _ _ p.0 p.1 _ _ c.copy_line.ensures)

@@ -13,7 +13,7 @@ pub loop-cursor-init : goal.loop-cursor-init
 loop-cursor-init c =
     let a = c.args in
     rw c.begin-cursor.ensures
-    (read_begin a.t1 (memory a.ram.now a.parity.now) a.«data».now a.address a.width a.answers.now a.log.now
+    (read_begin a.given (memory a.ram.now a.parity.now) a.«data».now a.address a.width a.answers.now a.log.now
     a.pcd _ c.requires)
 
 pub read_next-next-requires : goal.read_next-next-requires
@@ -54,5 +54,5 @@ shape_of-log c = c.loop-cursor.invariant.logs
 pub returns : goal.returns
 returns c =
     let a = c.args in
-    read_made a.t1 (memory a.ram.now a.parity.now) a.«data».now a.address a.width a.answers.now a.log.now
+    read_made a.given (memory a.ram.now a.parity.now) a.«data».now a.address a.width a.answers.now a.log.now
     a.pcd c.requires _ _ _ _ _ (omega arith) c.loop-cursor.invariant.reading

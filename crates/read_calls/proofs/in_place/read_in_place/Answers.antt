@@ -19,14 +19,14 @@ accepted : (c : goal.Else-number-ne0) →
     ≡ 0)
 accepted c = let a = c.args in
     ranges_apart (directory_of a.tags.now a.valid.now a.lru.now a.cd true (lent_ranges a.range_count a.bounds.now)) (memory a.ram.now a.parity.now) a.«data».now
-    a.address a.width a.answers.now a.log.now (sym c.read_number-number.ensures ∙ c.if-number-ne0.left)
+    a.address a.width a.answers.now a.log.now (sym c.read_number-number.ensures ∙ c.if-number-ne0.false)
 
 pub returns-then-number-ne0 : goal.returns-then-number-ne0
 returns-then-number-ne0 c nw =
     let a = c.args in
     rw c.number_only.ensures
     (read_turned (directory_of a.tags.now a.valid.now a.lru.now a.cd nw (lent_ranges a.range_count a.bounds.now)) (memory a.ram.now a.parity.now) a.«data».now a.address a.width a.answers.now a.log.now
-    a.pcd _ c.read_number-number.ensures c.if-number-ne0.taken)
+    a.pcd _ c.read_number-number.ensures c.if-number-ne0.true)
 
 pub read_accepted-requires : goal.read_accepted-requires
 read_accepted-requires c = (accepted c).1

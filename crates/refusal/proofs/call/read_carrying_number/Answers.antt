@@ -16,7 +16,7 @@ returns-then-number-ne0 c =
     let own = states_number_in a.tags.now a.valid.now a.lru.now a.address a.width in
     let theirs = carried_states_number_in a.tags.now a.valid.now a.lru.now (carried_of a.carried) in
     asked_first (length a.ram.now) (length a.parity.now) (length a.«data».now) a.address a.width a.answers.now (length a.log.now)
-    (or_else wrong (or_else kept (or_else own theirs))) _ c.input_number-number.ensures c.if-number-ne0.taken
+    (or_else wrong (or_else kept (or_else own theirs))) _ c.input_number-number.ensures c.if-number-ne0.true
 
 pub returns-then-next-ne0 : goal.returns-then-next-ne0
 returns-then-next-ne0 c =
@@ -26,8 +26,8 @@ returns-then-next-ne0 c =
     let own = states_number_in a.tags.now a.valid.now a.lru.now a.address a.width in
     let theirs = carried_states_number_in a.tags.now a.valid.now a.lru.now (carried_of a.carried) in
     asked_joined (length a.ram.now) (length a.parity.now) (length a.«data».now) a.address a.width a.answers.now (length a.log.now)
-    wrong (or_else kept (or_else own theirs)) _ c.input_number-number.ensures c.if-number-ne0.left _
-    (c.or_else-next.ensures ∙ rw (c.answers_number.ensures, c.carried_number.ensures)) c.if-next-ne0.taken
+    wrong (or_else kept (or_else own theirs)) _ c.input_number-number.ensures c.if-number-ne0.false _
+    (c.or_else-next.ensures ∙ rw (c.answers_number.ensures, c.carried_number.ensures)) c.if-next-ne0.true
 
 pub returns-then-own-ne0 : goal.returns-then-own-ne0
 returns-then-own-ne0 c =
@@ -37,14 +37,14 @@ returns-then-own-ne0 c =
     let own = states_number_in a.tags.now a.valid.now a.lru.now a.address a.width in
     let theirs = carried_states_number_in a.tags.now a.valid.now a.lru.now (carried_of a.carried) in
     asked_after (length a.ram.now) (length a.parity.now) (length a.«data».now) a.address a.width a.answers.now (length a.log.now)
-    wrong (or_else kept (or_else own theirs)) _ c.input_number-number.ensures c.if-number-ne0.left _
-    (c.or_else-next.ensures ∙ rw (c.answers_number.ensures, c.carried_number.ensures)) c.if-next-ne0.left _
-    (number_first _ (or_else kept own) theirs c.own_number-own.ensures c.if-own-ne0.taken ∙ or_grouped kept own theirs)
+    wrong (or_else kept (or_else own theirs)) _ c.input_number-number.ensures c.if-number-ne0.false _
+    (c.or_else-next.ensures ∙ rw (c.answers_number.ensures, c.carried_number.ensures)) c.if-next-ne0.false _
+    (number_first _ (or_else kept own) theirs c.own_number-own.ensures c.if-own-ne0.true ∙ or_grouped kept own theirs)
 
 pub carried_states_number-requires : goal.carried_states_number-requires
 carried_states_number-requires c =
     let a = c.args in
-    let none = (or_zero c.answers_number.result c.carried_number.result (sym c.or_else-next.ensures ∙ c.if-next-ne0.left)).1 in
+    let none = (or_zero c.answers_number.result c.carried_number.result (sym c.or_else-next.ensures ∙ c.if-next-ne0.false)).1 in
     (carried_accepted a.carried (length a.ram.now) (length a.ram.now) (sym c.carried_number.ensures ∙ none) (omega arith)).few
 
 pub returns : goal.returns
@@ -55,6 +55,6 @@ returns c =
     let own = states_number_in a.tags.now a.valid.now a.lru.now a.address a.width in
     let theirs = carried_states_number_in a.tags.now a.valid.now a.lru.now (carried_of a.carried) in
     asked_after (length a.ram.now) (length a.parity.now) (length a.«data».now) a.address a.width a.answers.now (length a.log.now)
-    wrong (or_else kept (or_else own theirs)) _ c.input_number-number.ensures c.if-number-ne0.left _
-    (c.or_else-next.ensures ∙ rw (c.answers_number.ensures, c.carried_number.ensures)) c.if-next-ne0.left _
-    (number_later _ _ (or_else kept own) theirs c.own_number-own.ensures c.if-own-ne0.left c.carried_states_number.ensures ∙ or_grouped kept own theirs)
+    wrong (or_else kept (or_else own theirs)) _ c.input_number-number.ensures c.if-number-ne0.false _
+    (c.or_else-next.ensures ∙ rw (c.answers_number.ensures, c.carried_number.ensures)) c.if-next-ne0.false _
+    (number_later _ _ (or_else kept own) theirs c.own_number-own.ensures c.if-own-ne0.false c.carried_states_number.ensures ∙ or_grouped kept own theirs)

@@ -12,7 +12,7 @@ returns-then-number-ne0 c =
     let kept = kept_number (length a.ram.now) (lent_ranges a.range_count a.bounds.now) in
     let states = states_number_in a.tags.now a.valid.now a.lru.now a.address a.width in
     asked_first (length a.ram.now) (length a.parity.now) (length a.«data».now) a.address a.width a.answers.now (length a.log.now)
-    (or_else large (or_else kept states)) _ c.input_number-number.ensures c.if-number-ne0.taken
+    (or_else large (or_else kept states)) _ c.input_number-number.ensures c.if-number-ne0.true
 
 pub returns-then-next-ne0 : goal.returns-then-next-ne0
 returns-then-next-ne0 c =
@@ -21,8 +21,8 @@ returns-then-next-ne0 c =
     let kept = kept_number (length a.ram.now) (lent_ranges a.range_count a.bounds.now) in
     let states = states_number_in a.tags.now a.valid.now a.lru.now a.address a.width in
     asked_joined (length a.ram.now) (length a.parity.now) (length a.«data».now) a.address a.width a.answers.now (length a.log.now)
-    large (or_else kept states) _ c.input_number-number.ensures c.if-number-ne0.left _
-    (c.or_else-next.ensures ∙ rw (c.answers_number.ensures, c.value_number.ensures)) c.if-next-ne0.taken
+    large (or_else kept states) _ c.input_number-number.ensures c.if-number-ne0.false _
+    (c.or_else-next.ensures ∙ rw (c.answers_number.ensures, c.value_number.ensures)) c.if-next-ne0.true
 
 pub returns-then-range_count-ne0 : goal.returns-then-range_count-ne0
 returns-then-range_count-ne0 c =
@@ -31,8 +31,8 @@ returns-then-range_count-ne0 c =
     let kept = kept_number (length a.ram.now) (lent_ranges a.range_count a.bounds.now) in
     let states = states_number_in a.tags.now a.valid.now a.lru.now a.address a.width in
     asked_after (length a.ram.now) (length a.parity.now) (length a.«data».now) a.address a.width a.answers.now (length a.log.now)
-    large (or_else kept states) _ c.input_number-number.ensures c.if-number-ne0.left _
-    (c.or_else-next.ensures ∙ rw (c.answers_number.ensures, c.value_number.ensures)) c.if-next-ne0.left _ c.ranged_number.ensures
+    large (or_else kept states) _ c.input_number-number.ensures c.if-number-ne0.false _
+    (c.or_else-next.ensures ∙ rw (c.answers_number.ensures, c.value_number.ensures)) c.if-next-ne0.false _ c.ranged_number.ensures
 
 pub returns : goal.returns
 returns c =
@@ -41,6 +41,6 @@ returns c =
     let kept = kept_number (length a.ram.now) (lent_ranges a.range_count a.bounds.now) in
     let states = states_number_in a.tags.now a.valid.now a.lru.now a.address a.width in
     asked_after (length a.ram.now) (length a.parity.now) (length a.«data».now) a.address a.width a.answers.now (length a.log.now)
-    large (or_else kept states) _ c.input_number-number.ensures c.if-number-ne0.left _
-    (c.or_else-next.ensures ∙ rw (c.answers_number.ensures, c.value_number.ensures)) c.if-next-ne0.left _
-    (none_first (length a.ram.now) (lent_ranges a.range_count a.bounds.now) c.if-range_count-ne0.left _ states c.states_number.ensures)
+    large (or_else kept states) _ c.input_number-number.ensures c.if-number-ne0.false _
+    (c.or_else-next.ensures ∙ rw (c.answers_number.ensures, c.value_number.ensures)) c.if-next-ne0.false _
+    (none_first (length a.ram.now) (lent_ranges a.range_count a.bounds.now) c.if-range_count-ne0.false _ states c.states_number.ensures)

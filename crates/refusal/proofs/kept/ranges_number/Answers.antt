@@ -11,12 +11,12 @@ returns-then-range_count-eq0 c = let e : c.args.range_count ≡ 0 = omega arith 
 
 pub returns-then-any_kept_bad : goal.returns-then-any_kept_bad
 unfolding ranges_number
-returns-then-any_kept_bad c = rw (← c.any_kept_bad.ensures, c.if-any_kept_bad.taken)
+returns-then-any_kept_bad c = rw (← c.any_kept_bad.ensures, c.if-any_kept_bad.true)
 
 pub returns-then-range_count-gt-RANGES_MOST : goal.returns-then-range_count-gt-RANGES_MOST
 unfolding ranges_number
-returns-then-range_count-gt-RANGES_MOST c = rw (← c.any_kept_bad.ensures, c.if-any_kept_bad.left, lt-ltb _ _ c.if-range_count-gt-RANGES_MOST.taken)
+returns-then-range_count-gt-RANGES_MOST c = rw (← c.any_kept_bad.ensures, c.if-any_kept_bad.false, lt-ltb _ _ c.if-range_count-gt-RANGES_MOST.true)
 
 pub returns : goal.returns
 unfolding ranges_number
-returns c = rw (← c.any_kept_bad.ensures, c.if-any_kept_bad.left, le-ltb _ _ c.if-range_count-gt-RANGES_MOST.left)
+returns c = rw (← c.any_kept_bad.ensures, c.if-any_kept_bad.false, le-ltb _ _ c.if-range_count-gt-RANGES_MOST.false)

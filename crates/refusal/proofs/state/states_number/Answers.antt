@@ -23,4 +23,4 @@ pub returns : goal.returns
 unfolding states_number_in
 returns c =
     rw (← c.set_of-first.ensures, ← c.last_set-last.ensures.0)
-    (number_later _ _ _ _ c.state_number.ensures c.if-number-ne0.false c.state_number.ensures)
+    (number_later _ _ _ _ c.state_number-number.ensures c.if-number-ne0.false c.state_number.ensures)

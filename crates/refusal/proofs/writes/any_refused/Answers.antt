@@ -21,9 +21,9 @@ loop-k-smaller c = omega arith
 pub loop-k-preserved : goal.loop-k-preserved
 loop-k-preserved c =
     let a = c.args in
-    (c.loop-k.invariant.0, omega arith, rw c.external_number-number.ensures (refused_step a.t2 a.ram c.loop-k.k c.loop-k.refused (omega arith)) ∙ c.loop-k.invariant.2)
+    (c.loop-k.invariant.0, omega arith, rw c.external_number-number.ensures (refused_step a.carried a.ram c.loop-k.k c.loop-k.refused (omega arith)) ∙ c.loop-k.invariant.2)
 
 pub returns : goal.returns
 returns c =
     let a = c.args in
-    sym (refused_end a.t2 a.ram c.loop-k.k c.loop-k.refused (omega arith)) ∙ c.loop-k.invariant.2
+    sym (refused_end a.carried a.ram c.loop-k.k c.loop-k.refused (omega arith)) ∙ c.loop-k.invariant.2

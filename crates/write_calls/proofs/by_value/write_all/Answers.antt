@@ -13,7 +13,7 @@ pub loop-cursor-init : goal.loop-cursor-init
 loop-cursor-init c =
     let a = c.args in
     rw c.begin-cursor.ensures
-    (write_begin a.t1 (memory a.ram.now a.parity.now) a.«data».now a.address a.width a.answers.now a.log.now
+    (write_begin a.given (memory a.ram.now a.parity.now) a.«data».now a.address a.width a.answers.now a.log.now
     a.value c.requires)
 
 pub write_next-next-requires : goal.write_next-next-requires
@@ -56,5 +56,5 @@ shape_of-log c = c.loop-cursor.invariant.logs
 pub returns : goal.returns
 returns c =
     let a = c.args in
-    write_made a.t1 (memory a.ram.now a.parity.now) a.«data».now a.address a.width a.answers.now a.log.now
+    write_made a.given (memory a.ram.now a.parity.now) a.«data».now a.address a.width a.answers.now a.log.now
     a.value c.requires _ _ _ _ _ (omega arith) c.loop-cursor.invariant.writing
