@@ -16,7 +16,7 @@ use Rattle.words.proofs.Places.{bytes_length, sets_below, sets_above}
 use Rattle.ranges.specs.Ranges.{Range}
 use Rattle.memory.specs.Parity.{Memory, wrong_in}
 use Rattle.carried.specs.Carried.{Carried}
-use Rattle.bus.specs.Bus.{Run, run, Cycle, burst_order, burst, none, wanted_after, cycles_of, after_cycles, buffer_after}
+use Rattle.bus.specs.Bus.{Run, run, Cycle, burst_order, burst, none, wanted_after, cycles_of, after_cycles, buffer_after, size_of}
 use Rattle.bus.specs.Record.{Record, lanes_of, flags_of, read_record}
 use Rattle.bus.proofs.Flags.{lanes_below}
 use Rattle.bus.proofs.Sizing.{size_some}
