@@ -1,6 +1,5 @@
-use Prim.Native.Nat.{◌%◌}
 use native.Mathlib.Omega.{arith}
-use Rattle.words.proofs.Masks.{mask_bits, past_five}
+use Rattle.words.proofs.Masks.{mask_bits}
 use Rattle.words.proofs.lanes.lane_bits.Goals as goal
 
 pub returns-in-0 : goal.returns-in-0
@@ -49,4 +48,4 @@ pub returns-in-14 : goal.returns-in-14
 returns-in-14 c = mask_bits c.args.mask 14 c.in-14.is
 
 pub returns-in_default : goal.returns-in_default
-returns-in_default c = let d = c.in_default in ?
+returns-in_default c = mask_bits c.args.mask 15 (omega arith)
