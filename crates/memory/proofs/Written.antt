@@ -1,6 +1,6 @@
 -- Laws of bytes that RAM takes or ignores.
-use Prim.Native.Nat.{ℕ, suc, ◌+◌, ◌/◌, ◌%◌, ◌≤◌}
-use mathlib.Core.Path.{◌≡◌, refl, sym, ◌∙◌, ap}
+use Prim.Native.Nat.{ℕ, suc, ◌+◌, ◌%◌, ◌≤◌}
+use mathlib.Core.Path.{◌≡◌, refl, ◌∙◌, ap}
 use mathlib.Core.Bool.{Bool, true, false, cond}
 use mathlib.Core.List.{List, [], ◌∷◌, ◌++◌}
 use native.Mathlib.Omega.{arith}
@@ -10,7 +10,7 @@ use Rattle.ranges.specs.Ranges.{Range, read_only}
 use Rattle.ranges.proofs.Laws.{same_line}
 use Rattle.laws.proofs.Tests.{cond_true, cond_false, by_test}
 use Rattle.memory.specs.Parity.{Memory, put, stored, written}
-use Rattle.memory.proofs.Bits.{put_lengths, stored_lengths}
+use Rattle.memory.proofs.Bits.{put_lengths}
 
 -- with no range every byte is taken
 pub written_everywhere : (m : Memory) (a : ℕ) (bytes : List ℕ) → written [] m a bytes ≡ stored m a bytes

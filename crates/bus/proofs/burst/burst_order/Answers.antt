@@ -5,15 +5,15 @@ use Rattle.bus.proofs.burst.burst_order.Goals as goal
 
 pub returns-in-0 : goal.returns-in-0
 unfolding burst_order
-returns-in-0 c = rw c.in-0.keys1
+returns-in-0 c = rw c.in-0.is
 
 pub returns-in-4 : goal.returns-in-4
 unfolding burst_order
-returns-in-4 c = rw c.in-4.keys2
+returns-in-4 c = rw c.in-4.is
 
 pub returns-in-8 : goal.returns-in-8
 unfolding burst_order
-returns-in-8 c = rw c.in-8.keys3
+returns-in-8 c = rw c.in-8.is
 
 pub returns-in_default : goal.returns-in_default
 unfolding burst_order

@@ -1,5 +1,4 @@
 use native.Mathlib.Omega.{arith}
-use Prim.Native.Nat.{◌-◌}
 use Rattle.memory.proofs.Bits.{storing_begin, storing_next, storing_end}
 use Rattle.memory.proofs.parity.store_each.Goals as goal
 
@@ -8,8 +7,7 @@ loop-k-init c = storing_begin _ _ _ _ _
 
 pub loop-k-preserved : goal.loop-k-preserved
 loop-k-preserved c =
-    let ((_, most), stored) = c.store_next-n.ensures in
-    storing_next _ _ _ _ _ _ _ _ _ c.loop-k.invariant most stored
+    storing_next _ _ _ _ _ _ _ _ _ c.loop-k.invariant c.store_next-n.ensures.result_nonzero.1 c.store_next-n.ensures.parity_value
 
 pub shape_of-ram : goal.shape_of-ram
 shape_of-ram c = c.loop-k.invariant.ram

@@ -10,8 +10,8 @@ store_doubleword-requires c = starts_room _ _ c.if-left-a.true _ _ _ _ c.require
 pub returns-then-left-a : goal.returns-then-left-a
 returns-then-left-a c =
     let a = c.args in
-    ((omega arith, starts_whole a.left a.a c.if-left-a.true), c.store_doubleword.ensures)
+    record { result_nonzero = (omega arith, starts_whole a.left a.a c.if-left-a.true); parity_value = c.store_doubleword.ensures }
 
 pub returns : goal.returns
 unfolding stored bytes_at
-returns c = ((omega arith, omega arith), c.put_byte.ensures)
+returns c = record { result_nonzero = (omega arith, omega arith); parity_value = c.put_byte.ensures }

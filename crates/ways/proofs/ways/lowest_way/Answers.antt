@@ -19,16 +19,12 @@ counted false false true test3 e3 e2 e1 e0 = rw (e0, e1, e2)
 counted false false false true e3 e2 e1 e0 = rw (e0, e1, e2, e3)
 counted false false false false e3 e2 e1 e0 = rw (e0, e1, e2, e3)
 
-found : (c : goal.After-lowest_from-way) → let a = c.before.before.before.before.args in
-    cond (ltb c.lowest-from4.result 4) (At c.lowest-from4.result) Nothing ≡ lowest a.test0 a.test1 a.test2 a.test3
-found c = counted _ _ _ _
-    c.lowest_from.ensures.0
-    c.lowest_from-2.ensures.0
-    c.lowest_from-3.ensures.0
-    c.lowest_from-way.ensures.0
-
 pub returns-then-way-lt-WAYS : goal.returns-then-way-lt-WAYS
-returns-then-way-lt-WAYS c = sym (cond_true _ _ _ (lt-ltb _ _ c.if-way-lt-WAYS.true)) ∙ found c
+returns-then-way-lt-WAYS c =
+    sym (cond_true _ _ _ (lt-ltb _ _ c.if-way-lt-WAYS.true)) ∙
+    counted _ _ _ _ c.lowest_from.ensures.0 c.lowest_from-2.ensures.0 c.lowest_from-3.ensures.0 c.lowest_from-way.ensures.0
 
 pub returns-else-way-lt-WAYS : goal.returns-else-way-lt-WAYS
-returns-else-way-lt-WAYS c = sym (cond_false _ _ _ (le-ltb _ _ c.if-way-lt-WAYS.false)) ∙ found c
+returns-else-way-lt-WAYS c =
+    sym (cond_false _ _ _ (le-ltb _ _ c.if-way-lt-WAYS.false)) ∙
+    counted _ _ _ _ c.lowest_from.ensures.0 c.lowest_from-2.ensures.0 c.lowest_from-3.ensures.0 c.lowest_from-way.ensures.0

@@ -2,7 +2,7 @@ use native.Mathlib.Numerals.{unary_clauses}
 use Prim.Native.Nat.{◌-◌}
 use mathlib.Core.Path.{◌≡◌, refl, ◌∙◌}
 use native.Mathlib.Omega.{arith}
-use lib.ListN.{length, length-set}
+use lib.ListN.{length-set}
 use Rattle.words.specs.Bytes.{bytes_at}
 use Rattle.words.proofs.Moves.{copy_next}
 use Rattle.words.proofs.bytes.copy_each.Goals as goal
