@@ -3,14 +3,17 @@ use Prim.Native.Nat.{ℕ, suc, ◌+◌, ◌-◌, ◌≤◌, ◌<◌}
 use mathlib.Core.Path.{◌≡◌, refl, sym, ◌∙◌}
 use mathlib.Core.Bool.{cond}
 use mathlib.Core.List.{List, [], ◌∷◌}
-use native.Mathlib.Nat.{zero-add}
 use native.Mathlib.Omega.{arith}
 use lib.Seq.{take-length, take_all}
-use lib.Dec.{eqb}
+use lib.Dec.{eqb, ltb}
 use lib.ListN.{length, take, drop, drop_of_length-le, length-drop}
-use borrow.Author.Tests.{ne_eqb}
+use borrow.Author.Tests.{ne_eqb, ltb-false}
 use Rattle.laws.proofs.Tests.{by_test, same_or}
-use Rattle.fields.specs.Fields.{index_of, index_after, slice}
+use Rattle.std.specs.List.{position_or_len}
+use Rattle.std.specs.Prelude.{Option, Some, None}
+use Rattle.std.specs.Option.{unwrap_or}
+use Rattle.std.proofs.lemmas.List.Recursion.{is_position_or_len}
+use Rattle.fields.specs.Fields.{index_of, index_after}
 use Rattle.fields.specs.Fields.{in_front, parts_of, newline, without_empty_end, lines_of}
 
 -- a text from a place on, as a part of it up to its end
@@ -73,10 +76,23 @@ index_most separator (c ∷ cs) =
     by_test (λ t. index_after t (index_of separator cs) ≤ suc (length cs)) (eqb c separator) (λ _. omega arith)
     (λ _. omega (arith, index_most separator cs))
 
--- what `find` over a whole text finds
-pub find_index : (separator : ℕ) (l : List ℕ) (r : ℕ) → r ≡ 0 + index_of separator (slice 0 (length l) l) → r ≡ index_of separator l
-unfolding slice
-find_index separator l r e = e ∙ rw (take-length l) (zero-add _)
+-- what a search for the separator finds, and the length where it finds none, is the place of the first separator
+index_position : (separator : ℕ) (l : List ℕ) → index_of separator l ≡ position_or_len (λ c. eqb c separator) l
+unfolding index_of index_after
+index_position separator = is_position_or_len (index_of separator) (λ c. eqb c separator) refl
+    (λ c cs. by_test (λ t. index_after t (index_of separator cs) ≡ cond t 0 (1 + index_of separator cs)) (eqb c separator) (λ _. refl) (λ _. omega arith))
+
+place_or_length : (place size : ℕ) → place ≤ size → unwrap_or (cond (ltb place size) (Some place) None) size ≡ place
+place_or_length place size h =
+    by_test (λ t. ltb place size ≡ t → unwrap_or (cond t (Some place) None) size ≡ place) (ltb place size)
+    (λ _ _. refl)
+    (λ _ e. omega (arith, ltb-false place size e))
+    refl
+
+pub found_index : (separator : ℕ) (l : List ℕ) (found : Option ℕ)
+    → found ≡ cond (ltb (position_or_len (λ c. eqb c separator) l) (length l)) (Some (position_or_len (λ c. eqb c separator) l)) None
+    → unwrap_or found (length l) ≡ index_of separator l
+found_index separator l found e = rw (e, ← index_position separator l) (place_or_length (index_of separator l) (length l) (index_most separator l))
 
 -- a line without a newline is the last, and one with it has lines after it
 last_line : (l : List ℕ) (e : ℕ) → 0 < length l → e ≡ length l → without_empty_end (l ∷ []) ≡ take e l ∷ without_empty_end (parts_of newline (drop (suc e) l))

@@ -1,7 +1,6 @@
 use Rattle.rows.proofs.Printing.{header_begin, header_next, header_end}
 use Rattle.rows.specs.Row.{header}
 use mathlib.Core.Path.{refl}
-use Prim.Native.Nat.{◌-◌}
 use native.Mathlib.Omega.{arith}
 use Rattle.rows.proofs.put_header.Goals as goal
 

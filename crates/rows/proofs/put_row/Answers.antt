@@ -9,11 +9,11 @@ pub overflow_add-result : goal.overflow_add-result
 overflow_add-result c =
     omega (
       arith,
-      c.put_number-a.ensures.1,
-      c.put_number-b.ensures.1,
-      c.put_number-c.ensures.1,
-      c.put_number-d.ensures.1,
-      c.?IsPlace-in?.ensures.0,
+      c.put_number-a.ensures.upper_bound,
+      c.put_number-b.ensures.upper_bound,
+      c.put_number-c.ensures.upper_bound,
+      c.put_number-d.ensures.upper_bound,
+      c.place_in-from.ensures.0,
       c.ranges,
     )
 
@@ -21,30 +21,30 @@ pub overflow_sub-result : goal.overflow_sub-result
 overflow_sub-result c =
     omega (
       arith,
-      c.put_number-a.ensures.0.0,
-      c.put_number-b.ensures.0.0,
-      c.put_number-c.ensures.0.0,
-      c.put_number-d.ensures.0.0,
+      c.put_number-a.ensures.value.0,
+      c.put_number-b.ensures.value.0,
+      c.put_number-c.ensures.value.0,
+      c.put_number-d.ensures.value.0,
     )
 
 pub returns : goal.returns
 returns c =
     let a = c.args in
-    let put = row_put a.out.now c.?IsPlace-in?.result a.event a.number a.value a.cycles c.put_number-a.result c.put_number-b.result
-    c.put_number-c.result c.put_number-d.result _ _ _ _ _ _ _ _ c.put_number-a.ensures.0.0
-    c.put_number-a.ensures.0.1 c.put.ensures c.put_number-b.ensures.0.0
-    c.put_number-b.ensures.0.1 c.put-2.ensures c.put_number-c.ensures.0.0
-    c.put_number-c.ensures.0.1 c.put-3.ensures c.put_number-d.ensures.0.0
-    c.put_number-d.ensures.0.1 c.put-4.ensures in (
-      (omega (arith, put.0), put.1 ∙ c.?IsPlace-in?.ensures.1 (row_of a.event a.number a.value a.cycles)),
-      omega (
+    let put = row_put a.out.now c.place_in-from.result a.event a.number a.value a.cycles c.put_number-a.result c.put_number-b.result
+    c.put_number-c.result c.put_number-d.result _ _ _ _ _ _ _ _ c.put_number-a.ensures.value.0
+    c.put_number-a.ensures.value.1 c.put.ensures c.put_number-b.ensures.value.0
+    c.put_number-b.ensures.value.1 c.put-2.ensures c.put_number-c.ensures.value.0
+    c.put_number-c.ensures.value.1 c.put-3.ensures c.put_number-d.ensures.value.0
+    c.put_number-d.ensures.value.1 c.put-4.ensures in record {
+      value = (omega (arith, put.0), put.1 ∙ c.place_in-from.ensures.1 (row_of a.event a.number a.value a.cycles));
+      upper_bound = omega (
         arith,
-        c.put_number-a.ensures.0.0,
+        c.put_number-a.ensures.value.0,
         decimal_most 9 a.event (omega arith),
-        c.put_number-b.ensures.0.0,
+        c.put_number-b.ensures.value.0,
         decimal_most 9 a.number (omega arith),
-        c.put_number-c.ensures.1,
-        c.put_number-d.ensures.0.0,
+        c.put_number-c.ensures.upper_bound,
+        c.put_number-d.ensures.value.0,
         decimal_most 9 a.cycles (omega arith),
-      ),
-    )
+      );
+    }

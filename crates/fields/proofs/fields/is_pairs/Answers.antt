@@ -1,7 +1,6 @@
 use Rattle.fields.proofs.Digits.{all_and, all_and_end}
 use native.Mathlib.Omega.{arith}
 use mathlib.Core.Path.{refl, sym, ◌∙◌}
-use Prim.Native.Nat.{◌-◌}
 use Rattle.fields.specs.Fields.{is_pairs, is_hex}
 use Rattle.fields.proofs.fields.is_pairs.Goals as goal
 
@@ -19,7 +18,7 @@ pub loop-k-smaller : goal.loop-k-smaller
 loop-k-smaller c = omega arith
 
 pub loop-k-preserved : goal.loop-k-preserved
-loop-k-preserved c = (omega arith, rw c.is_hex-well_formed.ensures (all_and is_hex c.args.field.now c.loop-k.k c.loop-k.well-formed (omega arith) ∙ c.loop-k.invariant.1))
+loop-k-preserved c = (omega arith, rw c.is_hex-well_formed.ensures (all_and is_hex c.args.field.now c.loop-k.k c.loop-k.well_formed (omega arith) ∙ c.loop-k.invariant.1))
 
 pub returns : goal.returns
-returns c = sym (all_and_end is_hex c.args.field.now c.loop-k.k c.loop-k.well-formed (omega arith)) ∙ c.loop-k.invariant.1
+returns c = sym (all_and_end is_hex c.args.field.now c.loop-k.k c.loop-k.well_formed (omega arith)) ∙ c.loop-k.invariant.1

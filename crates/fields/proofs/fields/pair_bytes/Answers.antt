@@ -1,7 +1,6 @@
 use Rattle.fields.proofs.Pairs.{pair_next, pair_none, pairs_length}
-use lib.ListN.{length, length-set}
+use lib.ListN.{length-set}
 use mathlib.Core.Path.{refl, sym, ◌∙◌}
-use Prim.Native.Nat.{◌-◌}
 use native.Mathlib.Omega.{arith}
 use Rattle.fields.proofs.fields.pair_bytes.Goals as goal
 

@@ -1,13 +1,11 @@
-use Prim.Native.Nat.{◌-◌}
 use native.Mathlib.Omega.{arith}
 use lib.ListN.{get_or}
 use Rattle.fields.proofs.LeadingNumber.{NextDigit, leading_begin, digit_more, leading_next, lead_end, lead_empty, lead_large, lead_field, lead_other}
 use Rattle.fields.proofs.numbers.leading_number.Goals as goal
 
 -- the byte is a digit, and the number has room for it
-known : (c : tie.Else1 invariant-loop decreases-loop) → let at-loop = c.before.before.before in
-    NextDigit (get_or at-loop.before.args.text.now at-loop.loop.k 0) at-loop.loop.value at-loop.loop.k
-known c = digit_more _ _ _ _ c.before.before.before.loop.invariant c.if1.false
+known : (c : goal.Else-digit-k) → NextDigit (get_or c.args.text.now c.loop-k.k 0) c.loop-k.value c.loop-k.k
+known c = digit_more _ _ _ _ c.loop-k.invariant c.if-digit-k.false
 
 pub loop-k-init : goal.loop-k-init
 loop-k-init c = leading_begin _

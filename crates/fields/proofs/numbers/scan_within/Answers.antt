@@ -1,5 +1,4 @@
 use Rattle.fields.proofs.Digits.{number_empty, number_long, low_digit, high_digit, scan_begin, scan_other, scan_large, scan_next, scan_value}
-use Prim.Native.Nat.{◌-◌}
 use native.Mathlib.Omega.{arith}
 use Rattle.fields.proofs.numbers.scan_within.Goals as goal
 
