@@ -28,7 +28,7 @@ loop-turn-smaller c = omega (arith, c.loop-turn-test.true)
 pub loop-turn-preserved : goal.loop-turn-preserved
 loop-turn-preserved c =
     λ z y. let e = c.run_cycles-now.ensures in let k = c.run_cycles-now.auto in turn_next _ _ _ _ _ _ _ _ z _ _ _ _ _ y (c.loop-turn.invariant z y)
-    c.loop-turn-test.true e.0 e.2 k.0 k.1.0 k.1.1.1.1.0 k.1.1.1.0
+    c.loop-turn-test.true e.0 e.2 k.ram k.parity k.log k.buffer
 
 pub shape_of-ram : goal.shape_of-ram
 shape_of-ram c = (c.loop-turn.invariant c.requires.0 c.requires.2).rams

@@ -12,14 +12,14 @@ pub hit_read-requires : goal.hit_read-requires
 hit_read-requires c =
     let p = c.requires in
     let z = cursor_doubleword _ _ _ _ _ _ _ _ _ p.0 c.wanted-w.ensures p.1 refl c.group_of-group.ensures.1 in
-    (lookup_below _ _ _ _ (sym c.lookup.ensures ∙ c.way-1.given.1), p.1.array_length, z.some, z.lanes, z.line)
+    (lookup_below _ _ _ _ (sym c.in-At.ensures), p.1.array_length, z.some, z.lanes, z.line)
 
 pub returns-in-At : goal.returns-in-At
 returns-in-At c =
     let p = c.requires in
     let a = c.args in
     let r = c.hit_read.ensures in
-    hit_next a.cursor a.answers.now a.carried a.landed (memory a.ram.now a.parity.now) a.«data».now a.log.now a.may_fill _ _ c.wanted-w.ensures _ _ _ (sym (rw c.wanted-w.ensures at c.lookup.ensures) ∙ c.way-1.given.1) p.4 p.3 r.0 r.1 r.2
+    hit_next a.cursor a.answers.now a.carried a.landed (memory a.ram.now a.parity.now) a.«data».now a.log.now a.may_fill _ _ c.wanted-w.ensures _ _ _ (sym (rw c.wanted-w.ensures at c.in-At.ensures)) p.4 p.3 r.0 r.1 r.2
 
 pub bounds-group-0 : goal.bounds-group-0
 bounds-group-0 c = omega (arith, c.group_of-group.ensures.1)
@@ -43,7 +43,7 @@ returns-then-not-may_fill-group c =
     let g = c.group_of-group.ensures in
     let r = c.miss_read.ensures in
     let k = c.plain_miss-plain.ensures in
-    plain_next a.cursor a.answers.now a.carried a.landed (memory a.ram.now a.parity.now) a.«data».now a.log.now a.may_fill _ _ c.wanted-w.ensures (sym (rw c.wanted-w.ensures at c.lookup.ensures) ∙ c.enum_told-1.given.1) (group_at a.cursor a.answers.now) _ _
+    plain_next a.cursor a.answers.now a.carried a.landed (memory a.ram.now a.parity.now) a.«data».now a.log.now a.may_fill _ _ c.wanted-w.ensures (sym (rw c.wanted-w.ensures at c.in_default.ensures)) (group_at a.cursor a.answers.now) _ _
     _ _ _ _ r.0 r.1 r.2 k.1 _ g.0 (not-true _ c.if-not-may_fill-group.true) refl k.0
 
 pub fill_miss-fill-requires : goal.fill_miss-fill-requires
@@ -71,5 +71,5 @@ returns c =
     let g = c.group_of-group.ensures in
     let r = c.miss_read-2.ensures in
     let k = c.fill_miss-fill.ensures in
-    fill_next a.cursor a.answers.now a.carried a.landed (memory a.ram.now a.parity.now) a.«data».now a.log.now a.may_fill _ _ c.wanted-w.ensures (sym (rw c.wanted-w.ensures at c.lookup.ensures) ∙ c.enum_told-1.given.1) (group_at a.cursor a.answers.now) _ _
+    fill_next a.cursor a.answers.now a.carried a.landed (memory a.ram.now a.parity.now) a.«data».now a.log.now a.may_fill _ _ c.wanted-w.ensures (sym (rw c.wanted-w.ensures at c.in_default.ensures)) (group_at a.cursor a.answers.now) _ _
     _ _ _ _ r.0 r.1 r.2 k.2 _ g.0 (not-false _ c.if-not-may_fill-group.false) k.0 k.1 refl

@@ -8,14 +8,11 @@ use native.Mathlib.Omega.{arith}
 use borrow.Author.Rules.{rules}
 use Rattle.carrying.proofs.next.settle.Goals as goal
 
-sixteen : (c : goal.After-buffer-then-kept-1) → length c.before.before.before.before.before.before.before.args.read.buffer ≡ 16
-sixteen c = search rules
-
 pub data_offset-offset-requires : goal.data_offset-offset-requires
 data_offset-offset-requires c = rw c.victim-way.ensures (victim_below _ _ _)
 
 pub copy_line-requires : goal.copy_line-requires
-copy_line-requires c = (omega (arith, sixteen c), omega (arith, c.data_offset-offset.ensures.1, c.requires.0))
+copy_line-requires c = (omega arith, omega (arith, c.data_offset-offset.ensures.1, c.requires.0))
 
 pub returns-then-kept : goal.returns-then-kept
 returns-then-kept c =

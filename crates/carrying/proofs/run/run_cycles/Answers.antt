@@ -1,6 +1,7 @@
 use Rattle.carrying.proofs.Runs.{run_begin, land_needs, answer_there, place_small, move_needs, run_ends, run_goes}
 use mathlib.Core.Path.{◌∙◌}
 use native.Mathlib.Omega.{arith}
+use borrow.Author.Tests.{eq-eqb, ne_eqb}
 use Rattle.carrying.proofs.run.run_cycles.Goals as goal
 
 pub loop-carried-init : goal.loop-carried-init
@@ -40,7 +41,7 @@ shape_of-log-then-done c = c.move_bytes-now.auto.log ∙ c.loop-carried.invarian
 pub returns-then-done : goal.returns-then-done
 returns-then-done c =
     let s = c.moved_count-size.ensures in
-    run_ends _ _ _ _ _ _ _ _ _ _ _ _ _ c.requires.0 c.loop-carried.invariant c.land_due-now.ensures c.land_due-now.auto.ram c.land_due-now.auto.parity _ s.0 s.1 s.2 c.move_bytes-now.ensures c.move_bytes-now.auto.log c.move_bytes-now.auto.buffer c.if-done.true
+    run_ends _ _ _ _ _ _ _ _ _ _ _ _ _ c.requires.0 c.loop-carried.invariant c.land_due-now.ensures c.land_due-now.auto.ram c.land_due-now.auto.parity _ s.0 s.1 s.2 c.move_bytes-now.ensures c.move_bytes-now.auto.log c.move_bytes-now.auto.buffer (eq-eqb _ _ c.if-done.true)
 
 pub overflow_add-next : goal.overflow_add-next
 overflow_add-next c = omega (arith, c.moved_count-size.ensures.2, c.loop-carried.invariant.lanes, c.loop-carried.invariant.short)
@@ -54,4 +55,4 @@ loop-carried-smaller c = omega (arith, c.moved_count-size.ensures.1, c.moved_cou
 pub loop-carried-preserved : goal.loop-carried-preserved
 loop-carried-preserved c =
     let s = c.moved_count-size.ensures in
-    run_goes _ _ _ _ _ _ _ _ _ _ _ _ _ c.requires.0 c.loop-carried.invariant c.land_due-now.ensures c.land_due-now.auto.ram c.land_due-now.auto.parity _ s.0 s.1 s.2 c.move_bytes-now.ensures c.move_bytes-now.auto.log c.move_bytes-now.auto.buffer c.if-done.false
+    run_goes _ _ _ _ _ _ _ _ _ _ _ _ _ c.requires.0 c.loop-carried.invariant c.land_due-now.ensures c.land_due-now.auto.ram c.land_due-now.auto.parity _ s.0 s.1 s.2 c.move_bytes-now.ensures c.move_bytes-now.auto.log c.move_bytes-now.auto.buffer (ne_eqb _ _ c.if-done.false)

@@ -13,7 +13,7 @@ pub changed_by-requires : goal.changed_by-requires
 changed_by-requires c = c.settle-change.ensures.1
 
 pub returns-in-Unchanged : goal.returns-in-Unchanged
-returns-in-Unchanged c = ended_by _ _ c.snooped_by-snooped.ensures c.settle-change.ensures.0 (keep_changed _ _ _ _ c.enum_told-1.given.1 refl) c.settle-change.ensures.2
+returns-in-Unchanged c = ended_by _ _ c.snooped_by-snooped.ensures c.settle-change.ensures.0 (keep_changed _ _ _ _ c.in-Unchanged.is refl) c.settle-change.ensures.2
 
 pub returns-in_default : goal.returns-in_default
 returns-in_default c = ended_by _ _ c.snooped_by-snooped.ensures c.settle-change.ensures.0 c.changed_by.ensures c.settle-change.ensures.2

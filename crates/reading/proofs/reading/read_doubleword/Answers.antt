@@ -14,19 +14,19 @@ use Rattle.words.proofs.value_at.Reads as value-at-reads
 use Rattle.reading.proofs.reading.read_doubleword.Goals as goal
 
 pub data_offset-requires : goal.data_offset-requires
-data_offset-requires c = lookup_below _ _ _ _ (sym c.lookup.ensures ∙ c.way-1.given.1)
+data_offset-requires c = lookup_below _ _ _ _ (sym c.in-At.ensures)
 
 pub returns-in-At : goal.returns-in-At
 returns-in-At c =
-    hit_reads _ _ _ _ _ _ _ _ _ _ _ (sym c.lookup.ensures ∙ c.way-1.given.1)
-    (lookup_below _ _ _ _ (sym c.lookup.ensures ∙ c.way-1.given.1)) c.data_offset.ensures.0 c.value_at-value.ensures
+    hit_reads _ _ _ _ _ _ _ _ _ _ _ (sym c.in-At.ensures)
+    (lookup_below _ _ _ _ (sym c.in-At.ensures)) c.data_offset.ensures.0 c.value_at-value.ensures
     (λ i. omega (arith, c.slice_known-1.given i))
 
 pub returns-then-not-may_fill-answers : goal.returns-then-not-may_fill-answers
 returns-then-not-may_fill-answers c =
     let p = c.requires.0 in
     let r = c.plain_read-plain.ensures in
-    plain_reads _ _ _ _ _ _ _ _ (sym c.lookup.ensures ∙ c.enum_told-1.given.1) (one_doubleword _ _ _ _ _ _ p)
+    plain_reads _ _ _ _ _ _ _ _ (sym c.in_default.ensures) (one_doubleword _ _ _ _ _ _ p)
     (omega (arith, p.served)) _ r.0 (λ i. omega (arith, c.shared_slice_known-1.given i)) _ _ (not-true _ c.if-not-may_fill-answers.true)
     r.1 r.2
 
@@ -34,7 +34,7 @@ pub returns-then-kept : goal.returns-then-kept
 returns-then-kept c =
     let p = c.requires.0 in
     let r = c.fill_cycles-cycles.ensures in
-    kept_reads _ _ _ _ _ _ _ _ (sym c.lookup.ensures ∙ c.enum_told-1.given.1) (one_doubleword _ _ _ _ _ _ p)
+    kept_reads _ _ _ _ _ _ _ _ (sym c.in_default.ensures) (one_doubleword _ _ _ _ _ _ p)
     (omega (arith, p.served)) _ c.value_at-value-2.ensures (λ i. omega (arith, c.shared_slice_known-1.given i)) _ _
     (not-false _ c.if-not-may_fill-answers.false) r.0 r.1 r.2 c.if-kept.true _ c.keep_line-way.ensures.0
     (rw c.keep_line-way.ensures.0 (victim_below _ _ _)) _ c.keep_line-way.ensures.1
@@ -43,6 +43,6 @@ pub returns : goal.returns
 returns c =
     let p = c.requires.0 in
     let r = c.fill_cycles-cycles.ensures in
-    dropped_reads _ _ _ _ _ _ _ _ (sym c.lookup.ensures ∙ c.enum_told-1.given.1) (one_doubleword _ _ _ _ _ _ p)
+    dropped_reads _ _ _ _ _ _ _ _ (sym c.in_default.ensures) (one_doubleword _ _ _ _ _ _ p)
     (omega (arith, p.served)) _ c.value_at-value-2.ensures (λ i. omega (arith, c.shared_slice_known-1.given i)) _ _
     (not-false _ c.if-not-may_fill-answers.false) r.0 r.1 r.2 c.if-kept.false
