@@ -11,16 +11,16 @@ pub returns-then-number-ne0 : goal.returns-then-number-ne0
 returns-then-number-ne0 c tags valid lru cd nw parity array =
     let a = c.args in
     refused_by (state (directory_of tags valid lru cd nw (lent_ranges a.range_count.now a.bounds.now)) (memory a.ram.now parity) array) a.ranges.now _
-    c.set_ranges_number-number.ensures c.if-number-ne0.taken
+    c.set_ranges_number-number.ensures c.if-number-ne0.true
 
 pub overflow_cast-range_count : goal.overflow_cast-range_count
-overflow_cast-range_count c = omega (arith, words_fit _ _ _ c.set_ranges_number-number.ensures c.if-number-ne0.left)
+overflow_cast-range_count c = omega (arith, words_fit _ _ _ c.set_ranges_number-number.ensures c.if-number-ne0.false)
 
 pub bounds_of-requires : goal.bounds_of-requires
-bounds_of-requires c = words_fit _ _ _ c.set_ranges_number-number.ensures c.if-number-ne0.left
+bounds_of-requires c = words_fit _ _ _ c.set_ranges_number-number.ensures c.if-number-ne0.false
 
 pub returns : goal.returns
 returns c tags valid lru cd nw parity array =
     let a = c.args in
     done_by (state (directory_of tags valid lru cd nw (lent_ranges a.range_count.now a.bounds.now)) (memory a.ram.now parity) array) a.ranges.now _
-    c.set_ranges_number-number.ensures c.if-number-ne0.left _ c.bounds_of.ensures _ (ranges_of_lem tags valid lru cd nw _ _)
+    c.set_ranges_number-number.ensures c.if-number-ne0.false _ c.bounds_of.ensures _ (ranges_of_lem tags valid lru cd nw _ _)

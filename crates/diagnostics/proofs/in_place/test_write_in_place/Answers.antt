@@ -2,13 +2,9 @@ use mathlib.Core.Path.{◌≡◌}
 use lib.ListN.{length}
 use Rattle.directory.specs.Steps.{directory_of}
 use Rattle.refusal.specs.Call.{state}
-use Rattle.diagnostics.proofs.Lines.{Placed, write_placed, write_refused, write_made}
+use Rattle.diagnostics.proofs.Lines.{write_placed, write_refused, write_made}
 use borrow.Author.Rules.{rules}
 use Rattle.diagnostics.proofs.in_place.test_write_in_place.Goals as goal
-
--- the line is one of the directory's
-place : (c : goal.Else-number-ne0) → let a = c.before.before.before.args in Placed (length a.«data».now) a.set a.way
-place c = write_placed _ _ _ _ c.args.tag _ c.test_write_number-number.ensures c.if-number-ne0.false
 
 pub returns-then-number-ne0 : goal.returns-then-number-ne0
 returns-then-number-ne0 c lru nw ranges m =
@@ -17,13 +13,19 @@ returns-then-number-ne0 c lru nw ranges m =
     c.test_write_number-number.ensures c.if-number-ne0.true
 
 pub line_offset-requires : goal.line_offset-requires
-line_offset-requires c = let p = place c in (p.set_below, p.way_below)
+line_offset-requires c =
+    let p = write_placed _ _ c.args.set c.args.way c.args.tag _ c.test_write_number-number.ensures c.if-number-ne0.false in
+    (p.set_below, p.way_below)
 
 pub copy_line-requires : goal.copy_line-requires
-copy_line-requires c = (search rules, rw (place c).whole c.line_offset.ensures.1)
+copy_line-requires c =
+    let p = write_placed _ _ c.args.set c.args.way c.args.tag _ c.test_write_number-number.ensures c.if-number-ne0.false in
+    (search rules, rw p.whole c.line_offset.ensures.1)
 
 pub line_in_place-requires : goal.line_in_place-requires
-line_in_place-requires c = let p = place c in search rules
+line_in_place-requires c =
+    let p = write_placed _ _ c.args.set c.args.way c.args.tag _ c.test_write_number-number.ensures c.if-number-ne0.false in
+    (p.set_below, p.way_below)
 
 pub returns : goal.returns
 returns c lru nw ranges m =
