@@ -1,6 +1,6 @@
-use Prim.Native.Nat.{◌-◌}
 use mathlib.Core.Path.{◌∙◌}
 use native.Mathlib.Omega.{arith}
+use borrow.Author.Tests.{eq-eqb, ne_eqb}
 use Rattle.words.proofs.Masks.{one_shl}
 use Rattle.parts.proofs.Sized.{sized_begin, mask_small, mask_wanted, lowest_small, sized_next, sized_end}
 use Rattle.parts.proofs.part.sized_cycles.Goals as goal
@@ -38,7 +38,7 @@ pub returns-then-last : goal.returns-then-last
 returns-then-last c =
     let p = c.requires in
     let k = c.loop-base.invariant in (
-      sized_end _ _ _ _ _ _ _ _ _ _ _ _ k c.moved_lanes-mask.ensures _ p.3 c.put_part.ensures c.if-last.true,
+      sized_end _ _ _ _ _ _ _ _ _ _ _ _ k c.moved_lanes-mask.ensures _ p.3 c.put_part.ensures (eq-eqb _ _ c.if-last.true),
       omega arith,
       omega (arith, k.most, k.some),
     )
@@ -57,4 +57,4 @@ loop-base-smaller c = let k = c.loop-base.invariant in omega (arith, k.most, k.s
 pub loop-base-preserved : goal.loop-base-preserved
 loop-base-preserved c =
     let p = c.requires in
-    sized_next _ _ _ _ _ _ _ _ _ _ _ _ c.loop-base.invariant c.moved_lanes-mask.ensures _ p.3 c.put_part.ensures c.if-last.false
+    sized_next _ _ _ _ _ _ _ _ _ _ _ _ c.loop-base.invariant c.moved_lanes-mask.ensures _ p.3 c.put_part.ensures (ne_eqb _ _ c.if-last.false)
