@@ -49,7 +49,7 @@ pub fn view<'a>(
     address: u32,
 ) -> &'a [u8]
     ensures { (result.now ≡ view_in tags.now valid.now lru.now (lent_ranges range_count bounds.now) ram.now «data».now address)
-        × (result.ref_ptr ≡ view_at tags.now valid.now lru.now (lent_ranges range_count bounds.now) ram.now «data».now ram.ref_ptr «data».ref_ptr address) }
+        × (result.ref_ptr ≡ view_at tags.now valid.now lru.now (lent_ranges range_count bounds.now) ram.now «data».now ram.entry.ref_ptr «data».entry.ref_ptr address) }
 {
     let number = view_number(tags, valid, lru, range_count, bounds, ram, data, address);
     if number != 0 {
@@ -68,7 +68,7 @@ pub fn accepted_view<'a>(
 ) -> &'a [u8]
     requires { view_input_number (length ram.now) (length «data».now) address ≡ 0 }
     ensures { (result.now ≡ shown (lookup_in tags.now valid.now address) ram.now «data».now address)
-        × (result.ref_ptr ≡ shown_at (lookup_in tags.now valid.now address) ram.ref_ptr «data».ref_ptr address) }
+        × (result.ref_ptr ≡ shown_at (lookup_in tags.now valid.now address) ram.entry.ref_ptr «data».entry.ref_ptr address) }
 {
     match lookup(tags, valid, address) {
         Found::At(way) => sixteen(data, data_offset(address, way)),
@@ -79,7 +79,7 @@ pub fn accepted_view<'a>(
 // Sixteen bytes, from a place on.
 fn sixteen<'a>(bytes: &'a [u8], from: usize) -> &'a [u8]
     requires { from + 16 ≤ length bytes.now }
-    ensures { (result.now ≡ bytes_at bytes.now from 16) × (result.ref_ptr ≡ (bytes.ref_ptr.0, bytes.ref_ptr.1 + from)) }
+    ensures { (result.now ≡ bytes_at bytes.now from 16) × (result.ref_ptr ≡ (bytes.entry.ref_ptr.0, bytes.entry.ref_ptr.1 + from)) }
 {
     let to = from + 16;
     &bytes[from..to]
