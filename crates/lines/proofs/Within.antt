@@ -10,7 +10,7 @@ use borrow.Author.Tests.{ltb-false}
 use Rattle.laws.proofs.Tests.{by_test}
 use Rattle.fields.specs.declared.numbers.Number.{Number}
 use Rattle.fields.specs.declared.numbers.Number.TheVariants.{Value, NotANumber}
-use Rattle.fields.specs.Fields.{tab, fields_of, parts_of, in_front, is_pairs}
+use Rattle.fields.specs.Fields.{tab, fields_of, is_pairs}
 use Rattle.fields.proofs.Parts.{total, parts_total}
 use Rattle.lines.specs.declared.Event.{Event}
 use Rattle.lines.specs.declared.Event.TheVariants.{Malformed, Read, Write, External, Snoop, Flush, Control, Reset}

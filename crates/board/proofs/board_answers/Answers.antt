@@ -5,15 +5,6 @@ use Rattle.board.specs.Board.{answer_at}
 use Rattle.board.proofs.Answers.{filled_lowest, filled_one, filled_none, board_same}
 use Rattle.board.proofs.board_answers.Goals as goal
 
-pub answer_at-lowest-requires : goal.answer_at-lowest-requires
-answer_at-lowest-requires c = tt
-
-pub overflow_mul-t-10 : goal.overflow_mul-t-10
-overflow_mul-t-10 c = omega arith
-
-pub overflow_sub-t-11 : goal.overflow_sub-t-11
-overflow_sub-t-11 c = omega arith
-
 pub returns-then-address : goal.returns-then-address
 returns-then-address c = board_same _ _ _ c.if-address.true _ c.answer_at-lowest.ensures
 
@@ -22,9 +13,6 @@ loop-group-init c = (omega arith, filled_lowest _ _ _ _ c.answer_at-lowest.ensur
 
 pub group_address-requires : goal.group_address-requires
 group_address-requires c = omega arith
-
-pub answer_at-answer-requires : goal.answer_at-answer-requires
-answer_at-answer-requires c = tt
 
 pub fill_group-requires : goal.fill_group-requires
 fill_group-requires c = omega arith
