@@ -14,7 +14,7 @@ returns c =
     record {
       logs = moved_record a.ram.now a.parity.now a.line a.from a.count a.kind a.last a.place a.log.now (λ i. omega (
         arith,
-        c.shared_slice_known-1.given i,
+        c.type_inv.ram i,
       )) p.0 p.4 p.5 _ _ c.word_at-word.ensures c.due_bits-due.ensures (c.put_part.ensures (a.from % 4) a.count p.5 c.lanes_mask-mask.ensures.0);
       buffers = c.copy_bytes.ensures;
       makes = refl;

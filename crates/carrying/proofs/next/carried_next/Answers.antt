@@ -3,7 +3,6 @@ use Rattle.doubleword.proofs.Cursors.{cursor_doubleword}
 use Rattle.ways.proofs.FourWays.{lookup_below}
 use Rattle.doubleword.specs.Cursor.{group_at}
 use Rattle.memory.specs.Parity.{memory}
-use borrow.Author.Tests.{not-true, not-false}
 use mathlib.Core.Path.{refl, sym, ◌∙◌}
 use native.Mathlib.Omega.{arith}
 use Rattle.carrying.proofs.next.carried_next.Goals as goal
@@ -44,7 +43,7 @@ returns-then-not-may_fill-group c =
     let r = c.miss_read.ensures in
     let k = c.plain_miss-plain.ensures in
     plain_next a.cursor a.answers.now a.carried a.landed (memory a.ram.now a.parity.now) a.«data».now a.log.now a.may_fill _ _ c.wanted-w.ensures (sym (rw c.wanted-w.ensures at c.in_default.ensures)) (group_at a.cursor a.answers.now) _ _
-    _ _ _ _ r.0 r.1 r.2 k.1 _ g.0 (not-true _ c.if-not-may_fill-group.true) refl k.0
+    _ _ _ _ r.0 r.1 r.2 k.1 _ g.0 c.if-not-may_fill-group.true refl k.0
 
 pub fill_miss-fill-requires : goal.fill_miss-fill-requires
 fill_miss-fill-requires c =
@@ -72,4 +71,4 @@ returns c =
     let r = c.miss_read-2.ensures in
     let k = c.fill_miss-fill.ensures in
     fill_next a.cursor a.answers.now a.carried a.landed (memory a.ram.now a.parity.now) a.«data».now a.log.now a.may_fill _ _ c.wanted-w.ensures (sym (rw c.wanted-w.ensures at c.in_default.ensures)) (group_at a.cursor a.answers.now) _ _
-    _ _ _ _ r.0 r.1 r.2 k.2 _ g.0 (not-false _ c.if-not-may_fill-group.false) k.0 k.1 refl
+    _ _ _ _ r.0 r.1 r.2 k.2 _ g.0 c.if-not-may_fill-group.false k.0 k.1 refl

@@ -1,6 +1,6 @@
+use borrow.Author.Tests.{eq-eqb, ne_eqb}
 use native.Mathlib.Omega.{arith}
 use mathlib.Core.Path.{sym, ◌∙◌}
-use borrow.Author.Tests.{not-true, not-false}
 use Rattle.ways.proofs.FourWays.{lookup_below, victim_below}
 use Rattle.reading.proofs.ReadDoublewords.{hit_reads, plain_reads, dropped_reads, kept_reads, one_doubleword}
 use Rattle.reading.proofs.reading.read_doubleword.Reads as reads
@@ -20,14 +20,14 @@ pub returns-in-At : goal.returns-in-At
 returns-in-At c =
     hit_reads _ _ _ _ _ _ _ _ _ _ _ (sym c.in-At.ensures)
     (lookup_below _ _ _ _ (sym c.in-At.ensures)) c.data_offset.ensures.0 c.value_at-value.ensures
-    (λ i. omega (arith, c.slice_known-1.given i))
+    (search rules)
 
 pub returns-then-not-may_fill-answers : goal.returns-then-not-may_fill-answers
 returns-then-not-may_fill-answers c =
     let p = c.requires.0 in
     let r = c.plain_read-plain.ensures in
     plain_reads _ _ _ _ _ _ _ _ (sym c.in_default.ensures) (one_doubleword _ _ _ _ _ _ p)
-    (omega (arith, p.served)) _ r.0 (λ i. omega (arith, c.shared_slice_known-1.given i)) _ _ (not-true _ c.if-not-may_fill-answers.true)
+    (omega (arith, p.served)) _ r.0 (λ i. omega (arith, c.type_inv.ram i)) _ _ c.if-not-may_fill-answers.true
     r.1 r.2
 
 pub returns-then-kept : goal.returns-then-kept
@@ -35,8 +35,8 @@ returns-then-kept c =
     let p = c.requires.0 in
     let r = c.fill_cycles-cycles.ensures in
     kept_reads _ _ _ _ _ _ _ _ (sym c.in_default.ensures) (one_doubleword _ _ _ _ _ _ p)
-    (omega (arith, p.served)) _ c.value_at-value-2.ensures (λ i. omega (arith, c.shared_slice_known-1.given i)) _ _
-    (not-false _ c.if-not-may_fill-answers.false) r.0 r.1 r.2 c.if-kept.true _ c.keep_line-way.ensures.0
+    (omega (arith, p.served)) _ c.value_at-value-2.ensures (λ i. omega (arith, c.type_inv.ram i)) _ _
+    c.if-not-may_fill-answers.false r.0 r.1 r.2 (eq-eqb _ _ c.if-kept.true) _ c.keep_line-way.ensures.0
     (rw c.keep_line-way.ensures.0 (victim_below _ _ _)) _ c.keep_line-way.ensures.1
 
 pub returns : goal.returns
@@ -44,5 +44,5 @@ returns c =
     let p = c.requires.0 in
     let r = c.fill_cycles-cycles.ensures in
     dropped_reads _ _ _ _ _ _ _ _ (sym c.in_default.ensures) (one_doubleword _ _ _ _ _ _ p)
-    (omega (arith, p.served)) _ c.value_at-value-2.ensures (λ i. omega (arith, c.shared_slice_known-1.given i)) _ _
-    (not-false _ c.if-not-may_fill-answers.false) r.0 r.1 r.2 c.if-kept.false
+    (omega (arith, p.served)) _ c.value_at-value-2.ensures (λ i. omega (arith, c.type_inv.ram i)) _ _
+    c.if-not-may_fill-answers.false r.0 r.1 r.2 (ne_eqb _ _ c.if-kept.false)
