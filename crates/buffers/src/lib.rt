@@ -1,0 +1,43 @@
+// Buffers that a program reads a whole input into or puts its output in, and how much of one is filled.
+#![tactic(auto)]
+
+ghost use Rattle.std.specs.Prelude.{◌≡◌, length};
+ghost use Rattle.std.specs.Io.{ReadsAtMost};
+ghost use Rattle.buffers.specs.Counts.{IsPrefixLen};
+
+use std::io;
+use std::io::Read;
+
+// 65,536 zeros. The contract gives only the length: proofs would write all bytes out.
+pub fn large_buffer() -> [u8; 65536]
+    ensures { 65536 ≡ length result }
+{
+    [0u8; 65536]
+}
+
+// Reads until the input ends or fills the buffer. Answers how many bytes it put at the start, or the error of a read that failed.
+pub fn read_full(reader: &mut impl Read, buffer: &mut [u8]) -> io::Result<usize>
+    ensures bound { ReadsAtMost result buffer.new }
+    ensures same_length { length buffer.new ≡ length buffer.old }
+{
+    let mut done: usize = 0;
+    while done < buffer.len() {
+        let n = reader.read(&mut buffer[done..])?;
+        if n == 0 {
+            break;
+        }
+        done += n;
+    }
+    Ok(done)
+}
+
+// How much of a text of this length the buffer has.
+pub fn within(whole: usize, buffer: &[u8]) -> usize
+    ensures { IsPrefixLen result buffer.now }
+{
+    if whole < buffer.len() {
+        whole
+    } else {
+        buffer.len()
+    }
+}
