@@ -4,43 +4,43 @@ use crate::print::{end_row, flag, label, number};
 use directory::Directory;
 use ways::Found;
 
-pub fn control_rows() {
-    control_row(false, false);
-    control_row(false, true);
-    control_row(true, false);
-    control_row(true, true);
+pub fn control_rows(rt: &impl Print) {
+    control_row(rt, false, false);
+    control_row(rt, false, true);
+    control_row(rt, true, false);
+    control_row(rt, true, true);
 }
 
 // The call's number, and CD and NW after it.
-fn control_row(cd: bool, nw: bool) {
-    label(b"control");
-    flag(cd);
-    flag(nw);
+fn control_row(rt: &impl Print, cd: bool, nw: bool) {
+    label(rt, b"control");
+    flag(rt, cd);
+    flag(rt, nw);
     let result = Directory::first().control(cd, nw);
-    number(result.number as u64);
-    flag(result.directory.cd);
-    flag(result.directory.nw);
-    end_row();
+    number(rt, result.number as u64);
+    flag(rt, result.directory.cd);
+    flag(rt, result.directory.nw);
+    end_row(rt);
 }
 
-pub fn snoop_rows() {
-    snoop_row(false, false);
-    snoop_row(false, true);
-    snoop_row(true, false);
-    snoop_row(true, true);
+pub fn snoop_rows(rt: &impl Print) {
+    snoop_row(rt, false, false);
+    snoop_row(rt, false, true);
+    snoop_row(rt, true, false);
+    snoop_row(rt, true, true);
 }
 
 // The call's number, and whether the snooped line and another of its set are still held.
-fn snoop_row(cd: bool, nw: bool) {
-    label(b"snoop");
-    flag(cd);
-    flag(nw);
+fn snoop_row(rt: &impl Print, cd: bool, nw: bool) {
+    label(rt, b"snoop");
+    flag(rt, cd);
+    flag(rt, nw);
     let result = two_lines(cd, nw).snoop(address(7, 11));
-    number(result.number as u64);
+    number(rt, result.number as u64);
     let d = result.directory;
-    flag(is_held(d, address(7, 11)));
-    flag(is_held(d, address(9, 0)));
-    end_row();
+    flag(rt, is_held(d, address(7, 11)));
+    flag(rt, is_held(d, address(9, 0)));
+    end_row(rt);
 }
 
 // The pair CD = 0, NW = 1, which a control call refuses, is wanted here too.

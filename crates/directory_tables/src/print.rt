@@ -1,29 +1,25 @@
 // Rows on standard output. A row is a label, fields with a tab before each, and a newline.
 ghost use Rattle.std.specs.Prelude.{◌≤◌};
 
-use libc::STDOUT_FILENO;
-
-pub fn label(text: &[u8]) {
-    io::write_all(STDOUT_FILENO, text);
+pub fn label(rt: &impl Print, text: &[u8]) {
+    let _ = rt.write_all(text);
 }
 
-pub fn number(n: u64) {
-    label(b"\t");
-    io::print_decimal(STDOUT_FILENO, n);
+pub fn number(rt: &impl Print, n: u64) {
+    let _ = print!(rt; "\t{n}");
 }
 
 // The end of a label: the number of a way, or an LRU number.
-pub fn label_part(n: u64) {
-    label(b"_");
-    io::print_decimal(STDOUT_FILENO, n);
+pub fn label_part(rt: &impl Print, n: u64) {
+    let _ = print!(rt; "_{n}");
 }
 
-pub fn flag(b: bool) {
-    number(bit(b));
+pub fn flag(rt: &impl Print, b: bool) {
+    number(rt, bit(b));
 }
 
-pub fn end_row() {
-    label(b"\n");
+pub fn end_row(rt: &impl Print) {
+    label(rt, b"\n");
 }
 
 // Named conversions, whose callers need no proof that the number fits. The bounds are for sums.

@@ -6,27 +6,27 @@ use crate::print::{bit, end_row, flag, label, number, wide};
 use directory::Directory;
 use ways::{LINES, SETS};
 
-pub fn reset_row() {
-    label(b"reset");
-    end_with_sums(Directory::first());
+pub fn reset_row(rt: &impl Print) {
+    label(rt, b"reset");
+    end_with_sums(rt, Directory::first());
 }
 
 // Lines of two sets are valid before the flush.
-pub fn flush_row() {
-    label(b"flush");
+pub fn flush_row(rt: &impl Print) {
+    label(rt, b"flush");
     let mut d = full_set(3).with_control(false, false);
     d = with_line(d, 127, 3, 99);
     d = with_lru(d, 127, 5);
-    end_with_sums(d.flushed());
+    end_with_sums(rt, d.flushed());
 }
 
-fn end_with_sums(d: Directory) {
-    number(valid_lines(&d.valid));
-    number(tag_sum(&d.tags));
-    number(lru_sum(&d.lru));
-    flag(d.cd);
-    flag(d.nw);
-    end_row();
+fn end_with_sums(rt: &impl Print, d: Directory) {
+    number(rt, valid_lines(&d.valid));
+    number(rt, tag_sum(&d.tags));
+    number(rt, lru_sum(&d.lru));
+    flag(rt, d.cd);
+    flag(rt, d.nw);
+    end_row(rt);
 }
 
 fn valid_lines(valid: &[bool; LINES]) -> u64 {

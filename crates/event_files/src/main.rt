@@ -1,46 +1,42 @@
 // Runs each event file that its arguments name and prints the whole output of `events` for it below its name. The oracle's
 // model makes the files (../data, ../args) and the output that is expected (../stdout), by oracle/expectations.py --write.
+// A file that cannot be read ends the run with the error; a write that fails is passed over.
 #![tactic(auto)]
 
 ghost use Rattle.std.specs.Prelude.{◌≡◌, ◌+◌, length};
-ghost use Rattle.io.specs.Counts.{IsPrefixLen};
 ghost use Rattle.events.specs.Output.{longest_input};
 
+use buffers::{read_full, within};
 use events::LONGEST_INPUT;
-use libc::STDOUT_FILENO;
+use std::rt::Files;
+use std::{env, fs, io};
 
-fn main() {
-    let count = os::arg_count();
-    for i in 1..count {
-        run_file(i);
+fn main(rt: HostRuntime) -> io::Result<()> {
+    for name in env::args(&rt)?.skip(1) {
+        run_file(&rt, name.as_str())?;
     }
+    Ok(())
 }
 
-fn run_file(argument: usize) {
-    let mut name = io::buffer();
-    let length = os::arg(argument, &mut name);
-    let file = os::open_read(&name[..length]);
-    if file < 0 {
-        os::fail(&name[..length]);
-        return;
-    }
-    io::write_all(STDOUT_FILENO, &name[..length]);
-    io::write_all(STDOUT_FILENO, b"\n");
+fn run_file(rt: &(impl Files + Print), name: &str) -> io::Result<()> {
+    let mut file = fs::open(rt, name)?;
+    let _ = rt.write_all(name.as_bytes());
+    let _ = rt.write_all(b"\n");
     let mut input = input_buffer();
-    let n = io::read_full(file, &mut input);
-    libc::close(file);
-    print_output(&input[..n]);
+    let n = read_full(&mut file, &mut input)?;
+    print_output(rt, &input[..n]);
+    Ok(())
 }
 
-fn print_output(input: &[u8]) {
+fn print_output(rt: &impl Print, input: &[u8]) {
     let mut output = output_buffer();
     let whole = events::run_program(input, &mut output);
     let n = within(whole, &output);
-    io::write_all(STDOUT_FILENO, &output[..n]);
+    let _ = rt.write_all(&output[..n]);
 }
 
 // One byte more than an input may have, so that a longer file shows. The contracts of both buffers give only the length,
-// as io's do: proofs would write all bytes out.
+// as those of `buffers` do: proofs would write all bytes out.
 fn input_buffer() -> [u8; LONGEST_INPUT + 1]
     ensures { longest_input + 1 ≡ length result }
 {
@@ -52,15 +48,4 @@ fn output_buffer() -> [u8; 1048576]
     ensures { 1048576 ≡ length result }
 {
     [0u8; 1048576]
-}
-
-// How much of a text of this length the buffer has.
-fn within(whole: usize, buffer: &[u8]) -> usize
-    ensures { IsPrefixLen result buffer.now }
-{
-    if whole < buffer.len() {
-        whole
-    } else {
-        buffer.len()
-    }
 }

@@ -1,5 +1,5 @@
 // Lines on a unit: calls, views and test calls, each with its row, and the board's answers.
-ghost use Rattle.io.specs.Counts.{IsPrefixLen};
+ghost use Rattle.buffers.specs.Counts.{IsPrefixLen};
 
 use crate::print::{board_row, call_row, end_with_digests, ranges_row, test_fields, view_fields};
 use crate::script::{at_most, bytes, bytes_from, digits, letter_of, number, wide_number, words};
@@ -20,6 +20,7 @@ struct Access {
 
 // Any letter but a call's, a view's, the ranges' and the board's is a store's.
 pub fn run_line(
+    rt: &impl Print,
     line: &[u8],
     d: Directory,
     ram: &mut [u8],
@@ -29,21 +30,21 @@ pub fn run_line(
 ) -> Directory {
     fresh_log(log);
     match letter_of(line) {
-        b'R' | b'r' => read_line(line, d, ram, parity, data, log),
-        b'Q' => carrying_line(line, d, ram, parity, data, log),
-        b'W' | b'w' => write_line(line, d, ram, parity, data, log),
-        b'X' => external_line(line, d, ram, parity, data, log),
-        b'S' | b'F' | b'C' | b'Z' => directory_line(line, d, ram, parity, data, log),
-        b'V' => view_line(line, d, ram, parity, data, log),
-        b'p' => test_write_line(line, d, ram, parity, data, log),
-        b't' => test_read_line(line, d, ram, parity, data, log),
-        b'O' => set_ranges_line(line, d, ram, parity, data, log),
+        b'R' | b'r' => read_line(rt, line, d, ram, parity, data, log),
+        b'Q' => carrying_line(rt, line, d, ram, parity, data, log),
+        b'W' | b'w' => write_line(rt, line, d, ram, parity, data, log),
+        b'X' => external_line(rt, line, d, ram, parity, data, log),
+        b'S' | b'F' | b'C' | b'Z' => directory_line(rt, line, d, ram, parity, data, log),
+        b'V' => view_line(rt, line, d, ram, parity, data, log),
+        b'p' => test_write_line(rt, line, d, ram, parity, data, log),
+        b't' => test_read_line(rt, line, d, ram, parity, data, log),
+        b'O' => set_ranges_line(rt, line, d, ram, parity, data, log),
         b'g' => {
-            ranges_row(d);
+            ranges_row(rt, d);
             d
         }
         b'B' => {
-            board_line(line);
+            board_line(rt, line);
             d
         }
         _ => store_line(line, d, parity),
@@ -59,13 +60,17 @@ pub fn fresh_log(log: &mut [u32]) {
     }
 }
 
-fn board_line(line: &[u8]) {
+fn board_line(rt: &impl Print, line: &[u8]) {
     let address = number(line, 1);
     let width = number(line, address.next);
-    board_row(&board::board_answers(&board::block_answers(), address.value, width.value));
+    board_row(
+        rt,
+        &board::board_answers(&board::block_answers(), address.value, width.value),
+    );
 }
 
 fn read_line(
+    rt: &impl Print,
     line: &[u8],
     d: Directory,
     ram: &[u8],
@@ -87,10 +92,11 @@ fn read_line(
         &answers[..n],
         log,
     );
-    call_row(letter_of(line), done, ram, parity, data, log)
+    call_row(rt, letter_of(line), done, ram, parity, data, log)
 }
 
 fn carrying_line(
+    rt: &impl Print,
     line: &[u8],
     d: Directory,
     ram: &mut [u8],
@@ -114,7 +120,7 @@ fn carrying_line(
         log,
         carried,
     );
-    call_row(b'Q', done, ram, parity, data, log)
+    call_row(rt, b'Q', done, ram, parity, data, log)
 }
 
 // The writes from a place of the line on: how many, and of each cycle number, address, length and bytes, sixteen at most. A write that
@@ -145,6 +151,7 @@ fn carried_writes(line: &[u8], at: usize) -> CarriedWrites {
 }
 
 fn write_line(
+    rt: &impl Print,
     line: &[u8],
     d: Directory,
     ram: &mut [u8],
@@ -166,7 +173,7 @@ fn write_line(
         &answers[..n],
         log,
     );
-    call_row(letter_of(line), done, ram, parity, data, log)
+    call_row(rt, letter_of(line), done, ram, parity, data, log)
 }
 
 fn fields_of(line: &[u8]) -> Access {
@@ -210,6 +217,7 @@ fn copy(from: &[u8], to: &mut [u8]) -> usize
 }
 
 fn external_line(
+    rt: &impl Print,
     line: &[u8],
     d: Directory,
     ram: &mut [u8],
@@ -221,10 +229,11 @@ fn external_line(
     let mut values = [0u8; 64];
     let n = bytes(line, address.next, &mut values);
     let done = masters::external_write(d, ram, parity, address.value, &values[..n]);
-    call_row(b'X', done, ram, parity, data, log)
+    call_row(rt, b'X', done, ram, parity, data, log)
 }
 
 fn directory_line(
+    rt: &impl Print,
     line: &[u8],
     d: Directory,
     ram: &[u8],
@@ -234,11 +243,12 @@ fn directory_line(
 ) -> Directory {
     let letter = letter_of(line);
     let done = directory_call(letter, line, d);
-    call_row(letter, done, ram, parity, data, log)
+    call_row(rt, letter, done, ram, parity, data, log)
 }
 
 // The digests show that a view and its number leave all as it was.
 fn view_line<'a>(
+    rt: &impl Print,
     line: &'a [u8],
     d: Directory,
     ram: &'a [u8],
@@ -248,6 +258,7 @@ fn view_line<'a>(
 ) -> Directory {
     let address = number(line, 1);
     view_answer(
+        rt,
         &d.tags,
         &d.valid,
         &d.lru,
@@ -257,12 +268,13 @@ fn view_line<'a>(
         data,
         address.value,
     );
-    end_with_digests(d, ram, parity, data, log);
+    end_with_digests(rt, d, ram, parity, data, log);
     d
 }
 
 // The part that a view shows is RAM's or the data array's, so all that it is lent has one lifetime.
 fn view_answer<'a>(
+    rt: &impl Print,
     tags: &'a [u32; LINES],
     valid: &'a [bool; LINES],
     lru: &'a [u8; SETS],
@@ -274,10 +286,11 @@ fn view_answer<'a>(
 ) {
     let number = views::view_number(tags, valid, lru, range_count, bounds, ram, data, address);
     let shown = views::view(tags, valid, lru, range_count, bounds, ram, data, address);
-    view_fields(number, shown);
+    view_fields(rt, number, shown);
 }
 
 fn test_write_line(
+    rt: &impl Print,
     line: &[u8],
     d: Directory,
     ram: &[u8],
@@ -300,10 +313,11 @@ fn test_write_line(
         mark.value == 1,
         sixteen,
     );
-    call_row(b'p', done, ram, parity, data, log)
+    call_row(rt, b'p', done, ram, parity, data, log)
 }
 
 fn test_read_line(
+    rt: &impl Print,
     line: &[u8],
     d: Directory,
     ram: &[u8],
@@ -314,13 +328,14 @@ fn test_read_line(
     let set = number(line, 1);
     let way = number(line, set.next);
     let done = diagnostics::test_read(d, data, set.value, way.value);
-    test_fields(done.line);
-    end_with_digests(done.directory, ram, parity, data, log);
+    test_fields(rt, done.line);
+    end_with_digests(rt, done.directory, ram, parity, data, log);
     done.directory
 }
 
 // The words that the line gives are lent, a start without a length too.
 fn set_ranges_line(
+    rt: &impl Print,
     line: &[u8],
     d: Directory,
     ram: &[u8],
@@ -331,7 +346,7 @@ fn set_ranges_line(
     let mut given = [0u32; 32];
     let n = words(line, 1, &mut given);
     let done = set_ranges(d, ram, &given[..n]);
-    call_row(b'O', done, ram, parity, data, log)
+    call_row(rt, b'O', done, ram, parity, data, log)
 }
 
 // Of S, F, C and Z.

@@ -1,6 +1,6 @@
 // Script lines: a letter and fields, a blank before each field, a newline at the end.
 ghost use Rattle.std.specs.Prelude.{◌+◌, ◌<◌, ◌≤◌, length};
-ghost use Rattle.io.specs.Counts.{IsPrefixLen};
+ghost use Rattle.buffers.specs.Counts.{IsPrefixLen};
 
 // A field's number, and the place after it.
 #[derive(Clone, Copy)]

@@ -4,6 +4,7 @@ ghost use Rattle.std.specs.Prelude.{◌≡◌, ◌<◌, ◌≤◌, length};
 use crate::calls::{fresh_log, run_line};
 use crate::print::unit_row;
 use crate::script::{at_most, line_end, number};
+use buffers::large_buffer;
 use directory::Directory;
 
 // What RAM and data array are filled from.
@@ -13,16 +14,16 @@ struct Seeds {
     data: u32,
 }
 
-pub fn run_script(script: &[u8]) {
+pub fn run_script(rt: &impl Print, script: &[u8]) {
     let mut at = 0;
     while at < script.len() {
         let begin = line_end(script, at);
-        at = run_unit(script, at, begin);
+        at = run_unit(rt, script, at, begin);
     }
 }
 
 // The unit of the line from `at` to `begin`, which says how much of each buffer is lent.
-fn run_unit(script: &[u8], at: usize, begin: usize) -> usize
+fn run_unit(rt: &impl Print, script: &[u8], at: usize, begin: usize) -> usize
     requires { (at < begin) × (begin ≤ length script.now) }
     ensures { begin ≤ result }
 {
@@ -37,15 +38,16 @@ fn run_unit(script: &[u8], at: usize, begin: usize) -> usize
         ram: ram_seed.value,
         data: data_seed.value,
     };
-    let mut ram = io::large_buffer();
-    let mut parity = io::large_buffer();
-    let mut data = io::large_buffer();
+    let mut ram = large_buffer();
+    let mut parity = large_buffer();
+    let mut data = large_buffer();
     let mut log = log_buffer();
     let r = at_most(ram_field.value, 65536);
     let p = at_most(parity_field.value, 65536);
     let d = at_most(data_field.value, 65536);
     let l = at_most(log_field.value, 192);
     run_calls(
+        rt,
         script,
         begin,
         seeds,
@@ -65,6 +67,7 @@ fn log_buffer() -> [u32; 192]
 
 // A new unit has the directory of a reset and parity that agrees.
 fn run_calls(
+    rt: &impl Print,
     script: &[u8],
     begin: usize,
     seeds: Seeds,
@@ -77,12 +80,13 @@ fn run_calls(
 {
     set_contents(seeds, ram, parity, data);
     fresh_log(log);
-    unit_row(Directory::first(), ram, parity, data, log);
-    run_lines(script, begin, ram, parity, data, log)
+    unit_row(rt, Directory::first(), ram, parity, data, log);
+    run_lines(rt, script, begin, ram, parity, data, log)
 }
 
 // The lines up to the next unit's.
 fn run_lines(
+    rt: &impl Print,
     script: &[u8],
     begin: usize,
     ram: &mut [u8],
@@ -96,7 +100,7 @@ fn run_lines(
     let mut at = begin;
     while at < script.len() && script[at] != b'N' {
         let end = line_end(script, at);
-        let after = run_line(&script[at..end], d, ram, parity, data, log);
+        let after = run_line(rt, &script[at..end], d, ram, parity, data, log);
         d = after;
         at = end;
     }

@@ -2,61 +2,67 @@
 // file's name it prints what both loads hand back, the board's answers by the table in force, and the rows of the event file, which
 // the first argument names, by each of the two tables. The oracle's model makes the files (../data, ../args) and the output that
 // is expected (../stdout), by oracle/expectations.py --write.
+// A file that cannot be read ends the run with the error; a write that fails is passed over.
 #![tactic(auto)]
 
 mod print;
 
 ghost use Rattle.std.specs.Prelude.{◌≡◌, length};
-ghost use Rattle.io.specs.Counts.{IsPrefixLen};
+ghost use Rattle.std.specs.Io.{ReadsAtMost};
 
 use board::BLOCKS;
+use buffers::{large_buffer, read_full};
 use print::{board_rows, file_name, run_rows, table_row};
+use std::env::Args;
+use std::rt::Files;
+use std::{env, fs, io};
 
-fn main() {
-    let mut input = io::large_buffer();
-    let n = read_file(1, &mut input);
-    load_all(&input[..n]);
+fn main(rt: HostRuntime) -> io::Result<()> {
+    let mut names = env::args(&rt)?;
+    let _ = names.next();
+    let name = names.next().ok_or(io::ErrorKind::NotFound)?;
+    let mut input = large_buffer();
+    let n = read_file(&rt, name.as_str(), &mut input)?;
+    load_all(&rt, names, &input[..n])
 }
 
-fn load_all(input: &[u8]) {
+fn load_all(rt: &(impl Files + Print), names: Args, input: &[u8]) -> io::Result<()> {
     let mut table = board::block_answers();
-    let count = os::arg_count();
-    for i in 2..count {
-        load_file(i, &mut table, input);
+    for name in names {
+        load_file(rt, name.as_str(), &mut table, input)?;
     }
+    Ok(())
 }
 
-fn load_file(argument: usize, table: &mut [u8; BLOCKS], input: &[u8]) {
-    file_name(argument);
+fn load_file(
+    rt: &(impl Files + Print),
+    name: &str,
+    table: &mut [u8; BLOCKS],
+    input: &[u8],
+) -> io::Result<()> {
+    file_name(rt, name);
     let mut space = text_buffer();
-    let n = read_file(argument, &mut space);
+    let n = read_file(rt, name, &mut space)?;
     let text = &space[..n];
     let done = block_table::load(table, text);
     let in_force = done.table;
     *table = in_force;
-    table_row(b"load", done.number, table);
+    table_row(rt, b"load", done.number, table);
     let mut other = junk_table();
     let number = block_table::load_in_place(&mut other, text);
-    table_row(b"junk", number, &other);
-    board_rows(table);
-    run_rows(table, input);
-    run_rows(&other, input);
+    table_row(rt, b"junk", number, &other);
+    board_rows(rt, table);
+    run_rows(rt, table, input);
+    run_rows(rt, &other, input);
+    Ok(())
 }
 
-// Puts the bytes of the file that an argument names at the start of a buffer, and answers how many there are.
-fn read_file(argument: usize, buffer: &mut [u8]) -> usize
-    ensures { IsPrefixLen result buffer.new }
+// Puts the bytes of a file at the start of a buffer, and answers how many there are.
+fn read_file(rt: &impl Files, name: &str, buffer: &mut [u8]) -> io::Result<usize>
+    ensures { ReadsAtMost result buffer.new }
 {
-    let mut name = io::buffer();
-    let length = os::arg(argument, &mut name);
-    let file = os::open_read(&name[..length]);
-    if file < 0 {
-        os::fail(&name[..length]);
-        return 0;
-    }
-    let n = io::read_full(file, buffer);
-    libc::close(file);
-    n
+    let mut file = fs::open(rt, name)?;
+    read_full(&mut file, buffer)
 }
 
 // Enough for every table file in ../data.

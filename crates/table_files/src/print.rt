@@ -2,64 +2,61 @@
 ghost use Rattle.std.specs.Prelude.{◌<◌};
 
 use board::BLOCKS;
-use libc::STDOUT_FILENO;
+use buffers::{large_buffer, within};
 
-fn label(text: &[u8]) {
-    io::write_all(STDOUT_FILENO, text);
+fn label(rt: &impl Print, text: &[u8]) {
+    let _ = rt.write_all(text);
 }
 
-fn number(n: u64) {
-    label(b"\t");
-    io::print_decimal(STDOUT_FILENO, n);
+fn number(rt: &impl Print, n: u64) {
+    let _ = print!(rt; "\t{n}");
 }
 
-fn answer(a: u8) {
-    number(a as u64);
+fn answer(rt: &impl Print, a: u8) {
+    number(rt, a as u64);
 }
 
-pub fn file_name(argument: usize) {
-    let mut name = io::buffer();
-    let length = os::arg(argument, &mut name);
-    label(&name[..length]);
-    label(b"\n");
+pub fn file_name(rt: &impl Print, name: &str) {
+    label(rt, name.as_bytes());
+    label(rt, b"\n");
 }
 
 // The number that a load answered, and the table that it handed back.
-pub fn table_row(load: &[u8], answered: u32, table: &[u8; BLOCKS]) {
-    label(load);
-    number(answered as u64);
+pub fn table_row(rt: &impl Print, load: &[u8], answered: u32, table: &[u8; BLOCKS]) {
+    label(rt, load);
+    number(rt, answered as u64);
     for block in 0..BLOCKS {
-        answer(table[block]);
+        answer(rt, table[block]);
     }
-    label(b"\n");
+    label(rt, b"\n");
 }
 
-pub fn board_rows(table: &[u8; BLOCKS]) {
+pub fn board_rows(rt: &impl Print, table: &[u8; BLOCKS]) {
     for block in 0..16u32 {
-        board_row(table, block);
+        board_row(rt, table, block);
     }
 }
 
 // An access of eight bytes from the last three of a block on: the first and the last answer of each group.
-fn board_row(table: &[u8; BLOCKS], block: u32)
+fn board_row(rt: &impl Print, table: &[u8; BLOCKS], block: u32)
     requires { block < 16 }
 {
     let answers = board::board_answers(table, (block + 1) * 1048576 - 3, 8);
-    label(b"board");
-    number(block as u64);
-    answer(answers[0]);
-    answer(answers[15]);
-    answer(answers[16]);
-    answer(answers[31]);
-    answer(answers[32]);
-    answer(answers[47]);
-    label(b"\n");
+    label(rt, b"board");
+    number(rt, block as u64);
+    answer(rt, answers[0]);
+    answer(rt, answers[15]);
+    answer(rt, answers[16]);
+    answer(rt, answers[31]);
+    answer(rt, answers[32]);
+    answer(rt, answers[47]);
+    label(rt, b"\n");
 }
 
 // The output of the run over event lines, which is short.
-pub fn run_rows(table: &[u8; BLOCKS], input: &[u8]) {
-    let mut output = io::large_buffer();
+pub fn run_rows(rt: &impl Print, table: &[u8; BLOCKS], input: &[u8]) {
+    let mut output = large_buffer();
     let whole = events::run(table, input, &mut output);
-    let n = io::count(whole as isize, &output);
-    label(&output[..n]);
+    let n = within(whole, &output);
+    label(rt, &output[..n]);
 }

@@ -2,46 +2,33 @@
 #![tactic(auto)]
 
 ghost use Rattle.std.specs.Prelude.{◌≡◌, ◌+◌, length};
-ghost use Rattle.libc.specs.Io.{Moved};
+ghost use Rattle.std.specs.Io.{ReadsAtMost};
 ghost use Rattle.events.specs.Output.{longest_input, longest_output};
 
 use events::{LONGEST_INPUT, LONGEST_OUTPUT};
-use libc::{STDIN_FILENO, STDOUT_FILENO};
+use std::io;
 
-fn main() {
+fn main(rt: HostRuntime) {
     let mut input = input_buffer();
-    let got = read_input(&mut input);
-    if got < 0 {
+    let Ok(n) = read_input(&rt, &mut input) else {
         return;
-    }
-    let n = io::count(got, &input);
-    print_output(&input[..n]);
+    };
+    print_output(&rt, &input[..n]);
 }
 
-// Reads until the input ends or fills the buffer. Answers how many bytes there are, or -1 where a read failed: what was read
-// before it may end within a line.
-fn read_input(buffer: &mut [u8]) -> isize
-    ensures { Moved (length buffer.old) result × (length buffer.new ≡ length buffer.old) }
+// Reads until the input ends or fills the buffer. Answers how many bytes there are, or the error of a read that failed: what was
+// read before it may end within a line.
+fn read_input(rt: &impl Input, buffer: &mut [u8]) -> io::Result<usize>
+    ensures bound { ReadsAtMost result buffer.new }
+    ensures same_length { length buffer.new ≡ length buffer.old }
 {
-    let mut done: usize = 0;
-    while done < buffer.len() {
-        let got = libc::read(STDIN_FILENO, &mut buffer[done..]);
-        if got < 0 {
-            return -1;
-        }
-        let n = io::count(got, &buffer[done..]);
-        if n == 0 {
-            return done as isize;
-        }
-        done += n;
-    }
-    done as isize
+    buffers::read_full(&mut rt.reader(), buffer)
 }
 
-fn print_output(input: &[u8]) {
+fn print_output(rt: &impl Print, input: &[u8]) {
     let mut output = output_buffer();
     let n = events::run_program(input, &mut output);
-    io::write_all(STDOUT_FILENO, &output[..n]);
+    let _ = rt.write_all(&output[..n]);
 }
 
 // One byte more than an input may have is enough to know that it is too long.

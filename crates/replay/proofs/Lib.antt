@@ -1,2 +1,0 @@
--- What a loop keeps.
-mod Lines
