@@ -22,9 +22,12 @@ COLUMNS = ("definition", "calls", "law", "test", "edit")
 LOGIC, CODE = r"\w+/[A-Z]\w*\.[\w-]+", r"\w+(::\w+)+"
 SHAPES = dict(zip(COLUMNS, (f"{LOGIC}|{CODE}", CODE, LOGIC, r"\w+/[\w/.*-]+", r"\w+/\w+")))
 
-USE = re.compile(r"(?:ghost )?use Rattle·(\w+?)(?:·\w+)?\.(specs|proofs)\.([\w.-]+)\.\{(.*)\};?$")
+USE = re.compile(r"(?:ghost |pub )?use Rattle\.(\w+)\.(specs|proofs)\.([\w.-]+)\.\{(.*)\};?$")
 DECLARED = re.compile(r" *(abbrev |unfoldable |)(pub |)(?:(record|data) (\S+)|(\S+) :(?: |$))")
 FUNCTION = re.compile(r' *(pub |)(?:extern "C" )?fn (\w+)')
+# A clause of a contract, which may have a name; and what opens a definition outside a line `unfolding`.
+CLAUSE = re.compile(r" *(?:requires|ensures)\*? ?(?:\w+ )?\{")
+OPENED = re.compile(r"\bunfold\s+(\S+)|\bunfolding\(([^)]*)\)")
 TYPE = re.compile(r"(?:pub )?(?:struct|enum) (\w+)")
 
 
@@ -40,19 +43,19 @@ class Node:
 
 def words_of(text: str) -> list[str]:
     """Without projections, and without the fields and variables that get a value or a type."""
-    words = re.split(r"[\s(){};,⌜⌝]+", text)
+    words = [word.split(".")[0] for word in re.split(r"[\s(){};,]+", text)]
     followed = zip(words, words[1:] + [""])
-    return [word for word, after in followed if word[:1] != "." and after not in ("=", ":")]
+    return [word for word, after in followed if word and after not in ("=", ":")]
 
 
 def names_used(lines: list[str]) -> dict[str, str]:
     """What the names of the `use` lines stand for; the case of an enum stands for the enum."""
     names = {}
     for crate, kind, path, used in (use.groups() for use in map(USE.match, lines) if use):
-        declared = path.removesuffix(".the-variants").split(".")
-        for name in used.split(", "):
+        declared = path.removesuffix(".TheVariants").split(".")
+        for name, _, alias in (one.partition(" as ") for one in used.split(", ")):
             logic = f"{kind}:{crate}/{path}.{name}"
-            names[name] = f"{crate}::{declared[-1]}" if declared[0] == "declared" else logic
+            names[alias or name] = f"{crate}::{declared[-1]}" if declared[0] == "declared" else logic
     return names
 
 
@@ -63,7 +66,7 @@ def read_logic(path: Path, nodes: dict[str, Node]) -> None:
     modules, node, is_law = [], None, False
     for line in lines:
         indent = len(line) - len(line.lstrip())
-        if not line.strip() or line.startswith(("--", "use "), indent):
+        if not line.strip() or line.startswith(("--", "use ", "pub use "), indent):
             continue
         modules = [module for module in modules if module[0] < indent]
         if line.startswith("module ", indent):
@@ -87,13 +90,13 @@ def read_code(path: Path, nodes: dict[str, Node]) -> None:
     names, prefix, owner, node = names_used(lines), f"{path.parts[-3]}::", "", None
     for line in lines:
         if line.startswith(("impl ", "}")):
-            owner = line.split()[1] + "::" if line != "}" else ""
+            owner = line.split()[1] + "::" if line.startswith("impl ") else ""
         elif found := TYPE.match(line):
             nodes[prefix + found[1]] = Node(names)
         elif found := FUNCTION.match(line):
             node = nodes[prefix + owner + found[2]] = Node(names, bool(found[1]), True)
         elif node:
-            node.words += words_of(line)
+            node.words += words_of(CLAUSE.sub("", line))
         if line.endswith("{"):
             node = None
 
@@ -156,7 +159,7 @@ def read_crates() -> dict[str, Node]:
     for path in CRATES.glob("*/*/*"):
         if path.suffix == ".antt" and path.parent.name in ("specs", "proofs"):
             read_logic(path, nodes)
-        elif path.suffix == ".rt":
+        elif path.suffix == ".rt" and path.parent.name == "src":
             read_code(path, nodes)
     return nodes
 
@@ -186,7 +189,8 @@ def layer_faults() -> list[str]:
     """Where a file above the directory's layer unfolds a definition of it."""
     closed = tuple(f"specs:{crate}/" for crate in LAYER)
     faults = []
-    for path in sorted(CRATES.rglob("*.antt")):
+    places = ("*/specs/**/*.antt", "*/proofs/**/*.antt", "*/src/*.rt")
+    for path in sorted(path for place in places for path in CRATES.glob(place)):
         place = path.relative_to(ROOT)
         if place.parts[1] in LAYER or path == BENCH:
             continue
@@ -194,7 +198,9 @@ def layer_faults() -> list[str]:
         names = names_used(lines)
         for number, line in enumerate(lines, start=1):
             words = line.split() if line.lstrip().startswith("unfolding ") else []
+            words += re.split(r"[\s,]+", " ".join(map(" ".join, OPENED.findall(line))))
             opened = [names[word] for word in words if names.get(word, "").startswith(closed)]
+            opened += [word for word in words if word.startswith(tuple(f"{crate}::specs" for crate in LAYER))]
             faults += [f"{place}:{number}: unfolds {name}" for name in opened]
     return faults
 
