@@ -1,7 +1,8 @@
 #!/bin/sh
 # Builds the host's programs into target/host/ of the repository, with a C++ compiler alone.
 #
-#     host/build.sh [FOLDER]     default: target/staticlib, where `rt staticlib host` and `rt staticlib program` write the libraries
+#     host/build.sh [FOLDER]     default: crates/host/out and crates/program/out, where `rt lib` in crates/host and in crates/program
+#                                writes the libraries
 #
 # From the environment: CXX, the compiler (g++), and CXXFLAGS_BASELINE, how it optimises the baseline (-O2).
 set -eu
@@ -12,16 +13,17 @@ usage() {
 [ $# -le 1 ] || usage
 case ${1:-} in -*) usage ;; esac
 root=$(cd "$(dirname "$0")/.." && pwd)
-folder=${1:-$root/target/staticlib}
-for name in host program; do
-    if [ ! -f "$folder/lib$name.a" ]; then
-        echo "build.sh: no library at $folder/lib$name.a; run rt staticlib $name, or name another folder" >&2
+calls=${1:-$root/crates/host/out}/libhost.a
+program=${1:-$root/crates/program/out}/libprogram.a
+for library in "$calls" "$program"; do
+    if [ ! -f "$library" ]; then
+        name=$(basename "$library" .a)
+        echo "build.sh: no library at $library; run rt lib in crates/${name#lib}, or name another folder" >&2
         exit 2
     fi
 done
-folder=$(cd "$folder" && pwd)
-calls="$folder/libhost.a"
-program="$folder/libprogram.a"
+calls=$(cd "$(dirname "$calls")" && pwd)/libhost.a
+program=$(cd "$(dirname "$program")" && pwd)/libprogram.a
 cd "$root"
 cxx=${CXX:-g++}
 flags="-std=c++17 -Wall -Wextra -Werror -Ihost/include -Ihost"
