@@ -8,6 +8,7 @@ use mathlib.Core.Path.{◌∙◌}
 use mathlib.Core.Logic.{⊎_elim}
 use native.Mathlib.Omega.{arith}
 use Rattle.read_calls.proofs.by_value.read_all.Goals as goal
+use Rattle.read_calls.proofs.by_value.read_all.Goals.{in-Unchanged, in_default}
 
 pub loop-cursor-init : goal.loop-cursor-init
 loop-cursor-init c =
@@ -39,7 +40,7 @@ unfolding one_alone
 loop-cursor-preserved c =
     let r = c.read_next-next.ensures in
     kept_next c.loop-cursor.invariant c.loop-cursor-test.true r.reads c.read_next-next.result.line _ r.line r.counts _ _ _
-    (⊎_elim (λ w. keep_changed _ _ _ _ w.1.given.1 w.2) (λ w. w.2 ∙ w.1.ensures) c.match-change.branch) c.with_part-value.ensures c.next-cursor.ensures
+    (elim c.match-change.branch [ in-Unchanged w ↦ keep_changed _ _ _ _ w.in-Unchanged.is w.given-is | in_default w ↦ w.given-is ∙ w.changed_by.ensures ]) c.with_part-value.ensures c.next-cursor.ensures
     c.read_next-next.auto.data c.read_next-next.auto.log
 
 pub overflow_cast-result : goal.overflow_cast-result

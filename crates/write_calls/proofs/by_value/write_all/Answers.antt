@@ -8,6 +8,7 @@ use mathlib.Core.Path.{◌∙◌}
 use mathlib.Core.Logic.{⊎_elim}
 use native.Mathlib.Omega.{arith}
 use Rattle.write_calls.proofs.by_value.write_all.Goals as goal
+use Rattle.write_calls.proofs.by_value.write_all.Goals.{in-Unchanged, in_default}
 
 pub loop-cursor-init : goal.loop-cursor-init
 loop-cursor-init c =
@@ -35,7 +36,7 @@ unfolding write_one
 loop-cursor-preserved c =
     let r = c.write_next-next.ensures in
     kept_next c.loop-cursor.invariant c.loop-cursor-test.true r.writes c.write_next-next.result.line _ r.line r.counts _ _
-    (⊎_elim (λ w. keep_changed _ _ _ _ w.1.given.1 w.2) (λ w. w.2 ∙ w.1.ensures) c.match-change.branch) c.next-cursor.ensures
+    (elim c.match-change.branch [ in-Unchanged w ↦ keep_changed _ _ _ _ w.in-Unchanged.is w.given-is | in_default w ↦ w.given-is ∙ w.changed_by.ensures ]) c.next-cursor.ensures
     c.write_next-next.auto.ram c.write_next-next.auto.parity c.write_next-next.auto.data c.write_next-next.auto.log
 
 pub overflow_cast-result : goal.overflow_cast-result

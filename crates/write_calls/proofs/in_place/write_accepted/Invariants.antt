@@ -10,7 +10,7 @@ use Rattle.directory.specs.Steps.{directory_of}
 use Rattle.write_calls.proofs.in_place.write_accepted.Given as goal
 
 abbrev pub invariant-loop-cursor : goal.invariant-loop-cursor
-invariant-loop-cursor l = let ranges : Ranges = record { count = l.range_count; l.bounds = l.bounds } in
+invariant-loop-cursor l = let ranges : Ranges = record { count = l.range_count; bounds = l.bounds } in
     let rs = ranges_of ranges in
     WriteKept rs (operand_of l.value) l.answers
     (all_of (write_one rs (operand_of l.value)) (state (directory_of l.tags l.valid l.initial.lru l.cd l.nw ranges) (memory l.initial.ram l.initial.parity) l.initial.data)
