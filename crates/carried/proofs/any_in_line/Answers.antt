@@ -1,6 +1,5 @@
 use Rattle.carried.proofs.Writes.{writes_none, in_line_more, whole_list}
 use Rattle.carried.specs.Carried.{in_line}
-use Prim.Native.Nat.{◌-◌}
 use native.Mathlib.Omega.{arith}
 use Rattle.carried.proofs.any_in_line.Goals as goal
 

@@ -1,7 +1,6 @@
 use mathlib.Core.Path.{refl}
 use Rattle.carried.proofs.Writes.{due_begin, due_next, due_stopped, due_all}
 use borrow.Author.Rules.{rules}
-use Prim.Native.Nat.{◌-◌}
 use native.Mathlib.Omega.{arith}
 use Rattle.carried.proofs.due_end.Goals as goal
 

@@ -1,7 +1,6 @@
 use Rattle.carried.proofs.Writes.{land_begin, land_next, land_fits, whole_list}
 use Rattle.carried.specs.Carried.{Carried, landed}
 use Rattle.memory.specs.Parity.{memory}
-use Prim.Native.Nat.{◌-◌}
 use mathlib.Core.List.{List, []}
 use native.Mathlib.Omega.{arith}
 use Rattle.carried.proofs.land.Goals as goal

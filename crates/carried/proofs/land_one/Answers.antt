@@ -1,7 +1,6 @@
 use Rattle.memory.proofs.Bits.{storing_begin, storing_next, storing_end}
 use Rattle.memory.specs.Parity.{stored}
 use Rattle.words.specs.Bytes.{bytes_at}
-use Prim.Native.Nat.{◌-◌}
 use native.Mathlib.Omega.{arith}
 use Rattle.carried.proofs.land_one.Goals as goal
 

@@ -1,8 +1,9 @@
-use Prim.Native.Nat.{ℕ, ◌-◌}
+use Prim.Native.Nat.{ℕ, ◌*◌, ◌<◌}
 use mathlib.Core.List.{List}
-use mathlib.Core.Path.{ap}
+use mathlib.Core.Path.{◌≡◌, ap}
 use native.Mathlib.Omega.{arith}
-use lib.ListN.{length, get_or}
+use lib.ListN.{get_or}
+use Rattle.bus.specs.Bus.{burst_order}
 use Rattle.bus.specs.Record.{fill_kind}
 use Rattle.bus.proofs.BurstOrder.{Whole, burst_turn}
 use Rattle.parts.specs.Parts.{LineNeeds}
@@ -11,16 +12,11 @@ use Rattle.cycles.proofs.Loops.{fill_begin, fill_next, fill_end}
 use Rattle.cycles.proofs.fill.fill_cycles.Goals as goal
 
 -- the doubleword of a turn lies in the line
-here : (c : tie.In-loop invariant-loop decreases-loop) →
-    let at-burst-order = c.before.before in
-    let a = at-burst-order.before.before.before.before.before.args in
-    LineNeeds a.line (get_or at-burst-order.burst-order.result c.before.loop.turn 0) (length a.ram.now) (length a.parity.now)
-here c =
-    let at-burst-order = c.before.before in
-    let start = at-burst-order.before.before.before.before.before in
-    let n = start.requires.3 in
-    let t = burst_turn start.args.start c.before.loop.turn c.loop-test.true in
-    let w : Whole (get_or at-burst-order.burst-order.result c.before.loop.turn 0) = rw at-burst-order.burst-order.ensures t.whole in
+here : {line ram parity : ℕ} (order : List ℕ) (start turn : ℕ) → LineNeeds line 0 ram parity → order ≡ burst_order (start * 4) → turn < 4 →
+    LineNeeds line (get_or order turn 0) ram parity
+here order start turn n e l =
+    let t = burst_turn start turn l in
+    let w : Whole (get_or order turn 0) = rw e t.whole in
     record { aligned = n.aligned; whole = w.aligned; short = w.inside; inside = n.inside; small = n.small; bits = n.bits }
 
 pub overflow_mul-start : goal.overflow_mul-start
@@ -30,19 +26,19 @@ pub loop-turn-init : goal.loop-turn-init
 loop-turn-init c = fill_begin _ _ _ _ _
 
 pub overflow_add-base : goal.overflow_add-base
-overflow_add-base c = let n = here c in omega arith
+overflow_add-base c = let n = here _ c.args.start c.loop-turn.turn c.requires.3 c.burst_order-order.ensures c.loop-turn-test.true in omega arith
 
 pub word_at-word-requires : goal.word_at-word-requires
-word_at-word-requires c = let n = here c in omega arith
+word_at-word-requires c = let n = here _ c.args.start c.loop-turn.turn c.requires.3 c.burst_order-order.ensures c.loop-turn-test.true in omega arith
 
 pub bounds-parity-base : goal.bounds-parity-base
-bounds-parity-base c = let n = here c in omega arith
+bounds-parity-base c = let n = here _ c.args.start c.loop-turn.turn c.requires.3 c.burst_order-order.ensures c.loop-turn-test.true in omega arith
 
 pub due_bits-due-requires : goal.due_bits-due-requires
-due_bits-due-requires c = let n = here c in omega arith
+due_bits-due-requires c = let n = here _ c.args.start c.loop-turn.turn c.requires.3 c.burst_order-order.ensures c.loop-turn-test.true in omega arith
 
 pub overflow_cast-base : goal.overflow_cast-base
-overflow_cast-base c = let n = here c in omega arith
+overflow_cast-base c = let n = here _ c.args.start c.loop-turn.turn c.requires.3 c.burst_order-order.ensures c.loop-turn-test.true in omega arith
 
 pub whole_cycles-used-requires : goal.whole_cycles-used-requires
 whole_cycles-used-requires c =
@@ -57,7 +53,7 @@ pub loop-turn-preserved : goal.loop-turn-preserved
 loop-turn-preserved c =
     let a = c.args in
     let p = c.requires in
-    let n = here c in
+    let n = here _ c.args.start c.loop-turn.turn c.requires.3 c.burst_order-order.ensures c.loop-turn-test.true in
     let g = rw (c.word_at-word.ensures, c.due_bits-due.ensures) at c.whole_cycles-used.ensures in
     fill_next _ _ _ _ _ c.loop-turn.turn _ _ _ _ _ c.loop-turn-test.true p.1 c.loop-turn.invariant
     (ap (λ (l : List ℕ). get_or l c.loop-turn.turn 0) c.burst_order-order.ensures)
