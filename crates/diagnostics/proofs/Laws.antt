@@ -6,14 +6,14 @@ use mathlib.Core.List.{List, []}
 use mathlib.Core.Logic.{◌⊎◌, inl, inr}
 use native.Mathlib.Omega.{arith}
 use lib.Dec.{eqb, ltb}
-use lib.ListN.{length, replicate}
+use lib.ListN.{length}
 use lib.Seq.{sets}
 use borrow.Author.Tests.{eq-eqb, ne_eqb, eqb-true, ltb-false, not-false}
 use Rattle.laws.proofs.Tests.{neither, cond_true, cond_false, same_or}
 use Rattle.ways.specs.Address.{line_offset}
 use Rattle.directory.specs.declared.steps.Directory.{Directory}
 use Rattle.directory.specs.Outcome.{outcome}
-use Rattle.directory.specs.Steps.{valid_at, tag_at, lru_at, with_line}
+use Rattle.directory.specs.Steps.{with_line}
 use Rattle.words.specs.Bytes.{bytes_at}
 use Rattle.refusal.specs.Call.{State, after, refused}
 use Rattle.refusal.specs.Refusal.{when, or_else}

@@ -1,7 +1,7 @@
 -- The test calls by the number that the code has, and by what it stored and copied.
-use Prim.Native.Nat.{ℕ, ◌+◌, ◌≤◌, ◌<◌}
+use Prim.Native.Nat.{ℕ, ◌<◌}
 use mathlib.Core.Path.{◌≡◌, refl, sym, ◌∙◌, ap}
-use mathlib.Core.Bool.{Bool, false}
+use mathlib.Core.Bool.{Bool}
 use mathlib.Core.List.{List, []}
 use native.Mathlib.Omega.{arith}
 use lib.ListN.{length, replicate}
@@ -9,11 +9,10 @@ use lib.Seq.{sets}
 use Rattle.ways.specs.Address.{line_index, line_offset}
 use Rattle.directory.specs.declared.steps.Directory.{Directory}
 use Rattle.directory.specs.Outcome.{outcome}
-use Rattle.directory.specs.Steps.{valid_at, tag_at, lru_at, with_line}
+use Rattle.directory.specs.Steps.{with_line}
 use Rattle.words.specs.Bytes.{bytes_at}
 use Rattle.words.proofs.Places.{bytes_all}
 use Rattle.refusal.specs.Call.{State, after, refused}
-use Rattle.diagnostics.specs.declared.in_place.TestLine.{TestLine}
 use Rattle.diagnostics.specs.Diagnostics.{test_write_number, test_read_number, test_write_call, line_read, nothing_read, test_read_line}
 use Rattle.diagnostics.proofs.Laws.{test_array, test_write_place, test_read_place, test_write_done, test_write_refused, test_read_done, test_read_refused}
 
