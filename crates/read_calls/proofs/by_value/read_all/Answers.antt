@@ -40,7 +40,7 @@ unfolding one_alone
 loop-cursor-preserved c =
     let r = c.read_next-next.ensures in
     kept_next c.loop-cursor.invariant c.loop-cursor-test.true r.reads c.read_next-next.result.line _ r.line r.counts _ _ _
-    (elim c.match-change.branch [ in-Unchanged w ↦ keep_changed _ _ _ _ w.in-Unchanged.is w.given-is | in_default w ↦ w.given-is ∙ w.changed_by.ensures ]) c.with_part-value.ensures c.next-cursor.ensures
+    (elim c.match-change.branch [ in-Unchanged w ↦ keep_changed _ _ _ _ w.in-Unchanged.is w.given-is | in_default w ↦ w.given-is ∙ w.changed_by-given.ensures ]) c.with_part-value.ensures c.next-cursor.ensures
     c.read_next-next.auto.data c.read_next-next.auto.log
 
 pub overflow_cast-result : goal.overflow_cast-result

@@ -36,7 +36,7 @@ unfolding write_one
 loop-cursor-preserved c =
     let r = c.write_next-next.ensures in
     kept_next c.loop-cursor.invariant c.loop-cursor-test.true r.writes c.write_next-next.result.line _ r.line r.counts _ _
-    (elim c.match-change.branch [ in-Unchanged w ↦ keep_changed _ _ _ _ w.in-Unchanged.is w.given-is | in_default w ↦ w.given-is ∙ w.changed_by.ensures ]) c.next-cursor.ensures
+    (elim c.match-change.branch [ in-Unchanged w ↦ keep_changed _ _ _ _ w.in-Unchanged.is w.given-is | in_default w ↦ w.given-is ∙ w.changed_by-given.ensures ]) c.next-cursor.ensures
     c.write_next-next.auto.ram c.write_next-next.auto.parity c.write_next-next.auto.data c.write_next-next.auto.log
 
 pub overflow_cast-result : goal.overflow_cast-result
