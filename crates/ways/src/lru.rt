@@ -4,6 +4,7 @@ ghost use Rattle.ways.specs.Lru.{lru_after, lru_way};
 ghost use Rattle.ways.specs.Address.{way_count};
 
 // The LRU number after a use of a way.
+#[tactic(auto, unfolding(crate::specs::Lru::lru_after))]
 pub fn lru_after(lru: u8, way: usize) -> u8
     requires { way < way_count }
     ensures { result ≡ lru_after lru way }
