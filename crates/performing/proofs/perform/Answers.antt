@@ -10,54 +10,57 @@ use Rattle.lines.proofs.Within.{external_line}
 use Rattle.performing.specs.Perform.{call_of, call_done}
 use Rattle.performing.proofs.perform.Goals as goal
 
+pub slice_bounds-perform_external-start : goal.slice_bounds-perform_external-start
+slice_bounds-perform_external-start c = omega (arith, external_line _ _ _ (sym c.scan-event.ensures ∙ c.in-External.is))
+
 pub slice_bounds-perform_external-count : goal.slice_bounds-perform_external-count
-slice_bounds-perform_external-count c = omega (arith, external_line _ _ _ (sym c.scan-event.ensures ∙ c.event-in-External-1.given.1))
+slice_bounds-perform_external-count c = omega (arith, external_line _ _ _ (sym c.scan-event.ensures ∙ c.in-External.is))
 
 pub perform_external-requires : goal.perform_external-requires
-perform_external-requires c = omega (arith, external_line _ _ _ (sym c.scan-event.ensures ∙ c.event-in-External-1.given.1))
+perform_external-requires c = omega (arith, external_line _ _ _ (sym c.scan-event.ensures ∙ c.in-External.is))
 
 pub returns-in-Malformed : goal.returns-in-Malformed
 unfolding call_of call_done
-returns-in-Malformed c = rw (sym c.scan-event.ensures ∙ c.enum_told-1.given.1, c.number_only.ensures)
+returns-in-Malformed c = rw (sym c.scan-event.ensures ∙ c.in-Malformed.is, c.number_only.ensures)
 
 pub returns-in-Read : goal.returns-in-Read
 unfolding call_of call_done
-returns-in-Read c = rw (sym c.scan-event.ensures ∙ c.event-1.given.1) (c.perform_read.ensures _)
+returns-in-Read c = rw (sym c.scan-event.ensures ∙ c.in-Read.is) (c.perform_read.ensures _)
 
 pub returns-in-Write : goal.returns-in-Write
 unfolding call_of call_done
-returns-in-Write c = rw (sym c.scan-event.ensures ∙ c.event-in-Write-1.given.1) c.perform_write.ensures
+returns-in-Write c = rw (sym c.scan-event.ensures ∙ c.in-Write.is) c.perform_write.ensures
 
 pub returns-in-External : goal.returns-in-External
 unfolding call_of call_done
 returns-in-External c =
     let a = c.args in
-    rw (sym c.scan-event.ensures ∙ c.event-in-External-1.given.1) (rw drop_part at (c.perform_external.ensures a.cd.now a.«data».now))
+    rw (sym c.scan-event.ensures ∙ c.in-External.is) (rw drop_part at (c.perform_external.ensures a.cd.now a.«data».now))
 
 pub returns-in-Snoop : goal.returns-in-Snoop
 unfolding call_of call_done step_by
 returns-in-Snoop c =
     let a = c.args in
     let s = lent_state a.tags.now a.valid.now a.lru.now a.cd.now a.nw.now no_ranges a.ram.now a.parity.now a.«data».now in
-    rw (sym c.scan-event.ensures ∙ c.event-in-Snoop-1.given.1, c.number_only-in-Snoop.ensures) (ap (on_directory s) (c.snoop_in_place.ensures _ _))
+    rw (sym c.scan-event.ensures ∙ c.in-Snoop.is, c.number_only-in-Snoop.ensures) (ap (on_directory s) (c.snoop_in_place.ensures _ _))
 
 pub returns-in-Flush : goal.returns-in-Flush
 unfolding call_of call_done step_by
 returns-in-Flush c =
     let a = c.args in
     let s = lent_state a.tags.now a.valid.now a.lru.now a.cd.now a.nw.now no_ranges a.ram.now a.parity.now a.«data».now in
-    rw (sym c.scan-event.ensures ∙ c.enum_told-in-Flush-1.given.1, c.number_only-in-Flush.ensures) (ap (λ (d : Directory). on_directory s (outcome d 0 0 0)) (c.flush_in_place.ensures _ _ _ _))
+    rw (sym c.scan-event.ensures ∙ c.in-Flush.is, c.number_only-in-Flush.ensures) (ap (λ (d : Directory). on_directory s (outcome d 0 0 0)) (c.flush_in_place.ensures _ _ _ _))
 
 pub returns-in-Control : goal.returns-in-Control
 unfolding call_of call_done step_by
 returns-in-Control c =
     let a = c.args in
     let s = lent_state a.tags.now a.valid.now a.lru.now a.cd.now a.nw.now no_ranges a.ram.now a.parity.now a.«data».now in
-    rw (sym c.scan-event.ensures ∙ c.event-in-Control-1.given.1, c.number_only-in-Control.ensures) (ap (on_directory s) (c.control_in_place.ensures _ _ _ _))
+    rw (sym c.scan-event.ensures ∙ c.in-Control.is, c.number_only-in-Control.ensures) (ap (on_directory s) (c.control_in_place.ensures _ _ _ _))
 
 pub returns-in-Reset : goal.returns-in-Reset
 unfolding call_of call_done step_by
 returns-in-Reset c =
     let a = c.args in
     let s = lent_state a.tags.now a.valid.now a.lru.now a.cd.now a.nw.now no_ranges a.ram.now a.parity.now a.«data».now in
-    rw (sym c.scan-event.ensures ∙ c.enum_told-in-Reset-1.given.1, c.number_only-in-Reset.ensures) (ap (λ (d : Directory). on_directory s (outcome d 0 0 0)) (c.reset_in_place.ensures _))
+    rw (sym c.scan-event.ensures ∙ c.in-Reset.is, c.number_only-in-Reset.ensures) (ap (λ (d : Directory). on_directory s (outcome d 0 0 0)) (c.reset_in_place.ensures _))
