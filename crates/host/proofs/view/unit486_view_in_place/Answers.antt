@@ -10,11 +10,6 @@ use Rattle.host.proofs.Copies.{line_copied}
 use borrow.Author.Rules.{rules}
 use Rattle.host.proofs.view.unit486_view_in_place.Goals as goal
 
--- the part that is copied is the view, sixteen bytes
-part : (c : goal.After-accepted_view-part) → let a = c.before.before.before.before.before.args in
-    (c.accepted-view.result.now ≡ view_in a.tags.now a.valid.now a.lru.now (lent_ranges a.range_count a.bounds.now) a.ram.now a.«data».now a.address) × (length c.accepted-view.result.now ≡ 16)
-part c = view_made _ _ _ _ _ _ _ _ c.view_number-number.ensures c.if-number-ne0.false _ c.accepted_view-part.ensures.0
-
 pub returns-then-number-ne0 : goal.returns-then-number-ne0
 returns-then-number-ne0 c =
     let en = c.view_number-number.ensures in
@@ -26,10 +21,15 @@ accepted_view-part-requires c = input_0 _ _ _ _ _ _ _ _ c.view_number-number.ens
 pub copy_line-requires : goal.copy_line-requires
 copy_line-requires c =
     let room : 16 ≤ length c.args.shown.now = search rules in
-    let l : length c.accepted_view-part.result.now ≡ 16 = (part c).1 in
+    let a = c.args in
+    let p : (c.accepted_view-part.result.now ≡ view_in a.tags.now a.valid.now a.lru.now (lent_ranges a.range_count a.bounds.now) a.ram.now a.«data».now a.address) × (length c.accepted_view-part.result.now ≡ 16) =
+        view_made _ _ _ _ _ _ _ _ c.view_number-number.ensures c.if-number-ne0.false _ c.accepted_view-part.ensures.0 in
+    let whole = p.1 in
     (omega arith, room)
 
 pub returns : goal.returns
 returns c =
-    let p = part c in
+    let a = c.args in
+    let p : (c.accepted_view-part.result.now ≡ view_in a.tags.now a.valid.now a.lru.now (lent_ranges a.range_count a.bounds.now) a.ram.now a.«data».now a.address) × (length c.accepted_view-part.result.now ≡ 16) =
+        view_made _ _ _ _ _ _ _ _ c.view_number-number.ensures c.if-number-ne0.false _ c.accepted_view-part.ensures.0 in
     (sym c.if-number-ne0.false ∙ c.view_number-number.ensures, line_copied _ _ p.0 p.1 _ _ c.copy_line.ensures)
