@@ -5,14 +5,8 @@ use Rattle.events.proofs.Rest.{output_long, output_lines, after_header}
 use native.Mathlib.Omega.{arith}
 use Rattle.events.proofs.run.Goals as goal
 
-pub put_header-at-requires : goal.put_header-at-requires
-put_header-at-requires c = tt
-
-pub put_row-requires : goal.put_row-requires
-put_row-requires c = tt
-
 pub overflow_add-result : goal.overflow_add-result
-overflow_add-result c = omega (arith, c.put_row.ensures.1, c.put_header-at.ensures.0, header_length)
+overflow_add-result c = omega (arith, c.put_row.ensures.upper_bound, c.put_header-at.ensures.0, header_length)
 
 pub shape_of-output-then-input-gt-LONGEST_INPUT : goal.shape_of-output-then-input-gt-LONGEST_INPUT
 shape_of-output-then-input-gt-LONGEST_INPUT c = c.put_row.auto.out ∙ c.put_header-at.auto.out
@@ -21,11 +15,12 @@ pub returns-then-input-gt-LONGEST_INPUT : goal.returns-then-input-gt-LONGEST_INP
 returns-then-input-gt-LONGEST_INPUT c =
     let a = c.args in
     let h = c.put_header-at.ensures in
-    let ((size, put), few) = c.put_row.ensures in (
-      rw (output_long a.table.now a.input.now c.if-input-gt-LONGEST_INPUT.true)
-          (after_header a.output.now _ _ _ _ _ h (ap (λ (n : ℕ). c.put_header-at.result + n) size, put)),
-      omega (arith, h.0, header_length, few),
-    )
+    let (size, put) = c.put_row.ensures.value in
+    record {
+      value = rw (output_long a.table.now a.input.now c.if-input-gt-LONGEST_INPUT.true)
+          (after_header a.output.now _ _ _ _ _ h (ap (λ (n : ℕ). c.put_header-at.result + n) size, put));
+      upper_bound = omega (arith, h.0, header_length, c.put_row.ensures.upper_bound);
+    }
 
 pub run_lines-requires : goal.run_lines-requires
 run_lines-requires c = (omega arith, omega (arith, c.put_header-at.ensures.0))
@@ -37,5 +32,7 @@ pub returns : goal.returns
 returns c =
     let a = c.args in
     let h = c.put_header-at.ensures in
-    let (put, most) = c.run_lines.ensures in
-    (rw (output_lines a.table.now a.input.now (omega arith)) (after_header a.output.now _ _ _ _ _ h put), omega (arith, h.0, header_length, most))
+    record {
+      value = rw (output_lines a.table.now a.input.now (omega arith)) (after_header a.output.now _ _ _ _ _ h c.run_lines.ensures.value);
+      upper_bound = omega (arith, h.0, header_length, c.run_lines.ensures.upper_bound);
+    }
