@@ -7,7 +7,7 @@ use native.Mathlib.Omega.{arith}
 use lib.Dec.{eqb, ltb}
 use lib.ListN.{length}
 use borrow.Author.Tests.{eq-eqb, ne_eqb, eqb-true, eqb-false, ltb-true, ltb-false, le-ltb, not-false}
-use Rattle.laws.proofs.Tests.{neither, cond_true, cond_false, same_or, by_test}
+use Rattle.laws.proofs.Tests.{neither, cond_true, cond_false, same_or}
 use Rattle.ranges.specs.declared.Ranges.{Ranges}
 use Rattle.ranges.specs.Ranges.{Range, ranges_in, ranges_of, any_bad}
 use Rattle.bus.specs.Groups.{widest, bad_width, group_count, answer_count, highest_answer, log_size}

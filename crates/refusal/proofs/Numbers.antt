@@ -1,7 +1,7 @@
 -- Laws of the numbers that turn a call away.
 use Prim.Native.Nat.{ℕ, ◌+◌, ◌*◌, ◌/◌, ◌^◌, ◌<◌, ◌≤◌}
 use mathlib.Core.Path.{◌≡◌}
-use mathlib.Core.Bool.{Bool, true, not, ◌||◌, or_assoc, or-false}
+use mathlib.Core.Bool.{Bool, true, ◌||◌, or_assoc, or-false}
 use mathlib.Core.List.{List}
 use native.Mathlib.Nat.{pow-le-pow_right, div-eq_of_lt, div-eq-sub-div}
 use native.Mathlib.Numerals.{add-one}

@@ -1,5 +1,5 @@
 use Rattle.carrying.proofs.Sizes.{size_single, size_least}
-use mathlib.Core.Logic.{⊎_elim, inl, inr}
+use mathlib.Core.Logic.{inl, inr}
 use native.Mathlib.Omega.{arith}
 use Rattle.carrying.proofs.cycle.moved_count.Goals as goal
 use Rattle.carrying.proofs.cycle.moved_count.Goals.{then-answer-eq1-2, else-answer-eq1-2}

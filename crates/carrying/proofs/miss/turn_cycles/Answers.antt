@@ -1,6 +1,5 @@
 use Rattle.carrying.proofs.Misses.{turn_begin, turn_needs, turn_next, turn_end}
 use lib.ListN.{length}
-use Prim.Native.Nat.{◌-◌}
 use mathlib.Core.Path.{ap}
 use native.Mathlib.Omega.{arith}
 use Rattle.carrying.proofs.miss.turn_cycles.Goals as goal

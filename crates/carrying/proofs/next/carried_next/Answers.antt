@@ -3,7 +3,7 @@ use Rattle.doubleword.proofs.Cursors.{cursor_doubleword}
 use Rattle.ways.proofs.FourWays.{lookup_below}
 use Rattle.doubleword.specs.Cursor.{group_at}
 use Rattle.memory.specs.Parity.{memory}
-use mathlib.Core.Path.{refl, sym, ◌∙◌}
+use mathlib.Core.Path.{refl, sym}
 use native.Mathlib.Omega.{arith}
 use Rattle.carrying.proofs.next.carried_next.Goals as goal
 

@@ -2,10 +2,7 @@ use Rattle.ways.specs.Address.{set_of}
 use Rattle.ways.specs.Ways.{victim_in}
 use Rattle.carrying.proofs.Settled.{kept_settled, not_settled}
 use Rattle.ways.proofs.FourWays.{victim_below}
-use lib.ListN.{length}
-use mathlib.Core.Path.{◌≡◌}
 use native.Mathlib.Omega.{arith}
-use borrow.Author.Rules.{rules}
 use Rattle.carrying.proofs.next.settle.Goals as goal
 
 pub data_offset-offset-requires : goal.data_offset-offset-requires

@@ -1,7 +1,7 @@
 use native.Mathlib.Omega.{arith}
 use lib.ListN.{get_or}
 use mathlib.Core.Path.{◌≡◌, sym, ◌∙◌, ap}
-use Prim.Native.Nat.{ℕ, ◌-◌}
+use Prim.Native.Nat.{ℕ}
 use Rattle.directory.specs.Steps.{after_snoop}
 use Rattle.directory.specs.declared.steps.Directory.{Directory}
 use Rattle.carrying_calls.specs.CarryingCalls.{snooped_to}
@@ -18,13 +18,12 @@ pub loop-k-smaller : goal.loop-k-smaller
 loop-k-smaller c = omega arith
 
 pub loop-k-preserved : goal.loop-k-preserved
-loop-k-preserved c =
-    (
-      omega arith,
-      omega arith,
-      c.snooped-given.ensures ∙ ap (λ (d : Directory). after_snoop d (get_or c.args.carried.addresses c.loop-k.k 0))
-          c.loop-k.invariant.2 ∙ sym (snooped_next _ _ _ _ c.loop-k.invariant.0),
-    )
+loop-k-preserved c = (
+  omega arith,
+  omega arith,
+  c.snooped-given.ensures ∙ ap (λ (d : Directory). after_snoop d (get_or c.args.carried.addresses c.loop-k.k 0))
+      c.loop-k.invariant.2 ∙ sym (snooped_next _ _ _ _ c.loop-k.invariant.0),
+)
 
 pub returns : goal.returns
 returns c =

@@ -5,7 +5,6 @@ use Rattle.access.proofs.Alone.{one_alone}
 use Rattle.doubleword.proofs.Cursors.{cursor_less, cursor_next}
 use Rattle.memory.specs.Parity.{memory}
 use mathlib.Core.Path.{◌∙◌}
-use mathlib.Core.Logic.{⊎_elim}
 use native.Mathlib.Omega.{arith}
 use Rattle.read_calls.proofs.by_value.read_all.Goals as goal
 use Rattle.read_calls.proofs.by_value.read_all.Goals.{in-Unchanged, in_default}

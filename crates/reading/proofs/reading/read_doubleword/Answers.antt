@@ -1,17 +1,9 @@
 use borrow.Author.Rules.{rules}
 use borrow.Author.Tests.{eq-eqb, ne_eqb}
 use native.Mathlib.Omega.{arith}
-use mathlib.Core.Path.{sym, ◌∙◌}
+use mathlib.Core.Path.{sym}
 use Rattle.ways.proofs.FourWays.{lookup_below, victim_below}
 use Rattle.reading.proofs.ReadDoublewords.{hit_reads, plain_reads, dropped_reads, kept_reads, one_doubleword}
-use Rattle.reading.proofs.reading.read_doubleword.Reads as reads
-use Rattle.reading.proofs.reading.read_doubleword.Lts as lts
-use Rattle.cycles.proofs.fill_cycles.Reads as fill-cycles-reads
-use Rattle.ways.proofs.data_offset.Reads as data-offset-reads
-use Rattle.reading.proofs.plain.plain_read.Reads as plain-read-reads
-use Rattle.reading.proofs.reading.keep_line.Reads as keep-line-reads
-use Rattle.ways.proofs.lookup.Reads as lookup-reads
-use Rattle.words.proofs.value_at.Reads as value-at-reads
 use Rattle.reading.proofs.reading.read_doubleword.Goals as goal
 
 pub data_offset-requires : goal.data_offset-requires

@@ -1,5 +1,4 @@
 use Rattle.refusal.proofs.Numbers.{above_step, above_end}
-use Prim.Native.Nat.{◌-◌}
 use mathlib.Core.Path.{refl, sym, ◌∙◌}
 use native.Mathlib.Omega.{arith}
 use Rattle.refusal.proofs.input.any_above.Goals as goal

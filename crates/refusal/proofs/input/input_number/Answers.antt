@@ -2,7 +2,6 @@ use mathlib.Core.Path.{◌≡◌, sym, ◌∙◌}
 use mathlib.Core.Bool.{false}
 use Prim.Native.Nat.{ℕ, ◌/◌}
 use Rattle.ways.specs.Address.{data_size}
-use lib.ListN.{length}
 use borrow.Author.Tests.{eq-eqb, ne_eqb, lt-ltb, le-ltb}
 use Rattle.refusal.specs.Refusal.{bad_ram, memory_number, lent_number}
 use Rattle.refusal.proofs.input.input_number.Goals as goal

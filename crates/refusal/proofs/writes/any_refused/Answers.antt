@@ -1,7 +1,6 @@
 use borrow.Author.Rules.{rules}
 use native.Mathlib.Omega.{arith}
 use mathlib.Core.Path.{sym, ◌∙◌, ap}
-use Prim.Native.Nat.{◌-◌}
 use Rattle.refusal.specs.Refusal.{any_refused}
 use Rattle.refusal.proofs.Carried.{all_left, refused_step, refused_end}
 use Rattle.refusal.proofs.writes.any_refused.Goals as goal

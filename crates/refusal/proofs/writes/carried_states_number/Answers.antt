@@ -1,7 +1,6 @@
 use borrow.Author.Rules.{rules}
 use native.Mathlib.Omega.{arith}
 use mathlib.Core.Path.{sym, ◌∙◌, ap}
-use Prim.Native.Nat.{◌-◌}
 use Rattle.refusal.specs.Refusal.{carried_states_number_in}
 use Rattle.refusal.proofs.Accepted.{number_first, zero_or}
 use Rattle.refusal.proofs.Carried.{all_left, states_left, states_end}

@@ -4,7 +4,6 @@ use Rattle.carried.specs.Carried.{Carried}
 use mathlib.Core.List.{List}
 use mathlib.Core.Bool.{not}
 use mathlib.Core.Path.{sym, ◌∙◌, ap}
-use Prim.Native.Nat.{◌-◌}
 use Rattle.refusal.specs.Refusal.{in_order}
 use Rattle.refusal.proofs.Carried.{all_left, order_step, order_end}
 use Rattle.refusal.proofs.writes.out_of_order.Goals as goal

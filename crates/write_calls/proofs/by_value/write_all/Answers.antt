@@ -5,7 +5,6 @@ use Rattle.access.specs.Access.{write_one}
 use Rattle.doubleword.proofs.Cursors.{cursor_less, cursor_next}
 use Rattle.memory.specs.Parity.{memory}
 use mathlib.Core.Path.{◌∙◌}
-use mathlib.Core.Logic.{⊎_elim}
 use native.Mathlib.Omega.{arith}
 use Rattle.write_calls.proofs.by_value.write_all.Goals as goal
 use Rattle.write_calls.proofs.by_value.write_all.Goals.{in-Unchanged, in_default}

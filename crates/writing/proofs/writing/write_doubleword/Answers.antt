@@ -1,5 +1,5 @@
 use native.Mathlib.Omega.{arith}
-use mathlib.Core.Path.{sym, ◌∙◌}
+use mathlib.Core.Path.{sym}
 use Rattle.ways.proofs.FourWays.{lookup_below}
 use Rattle.cycles.proofs.Stored.{one_run}
 use Rattle.writing.proofs.WriteDoublewords.{lane_place, stay_writes, hit_writes, miss_writes}
