@@ -1,7 +1,7 @@
 -- A loaded table gives each block the answer on its line; a rejected one leaves the given table.
 use Prim.Native.Nat.{ℕ, zero, suc, ◌+◌, ◌≤◌, ◌<◌}
 use mathlib.Core.Path.{◌≡◌, refl, sym, ap, ◌∙◌}
-use mathlib.Core.Bool.{true, false, cond}
+use mathlib.Core.Bool.{cond}
 use mathlib.Core.List.{List, [], ◌∷◌}
 use native.Mathlib.Nat.{zero-add}
 use native.Mathlib.Omega.{arith}
@@ -17,7 +17,7 @@ use Rattle.fields.specs.declared.numbers.Number.TheVariants.{Value, NotANumber}
 use Rattle.fields.specs.Number.{number_of}
 use Rattle.fields.specs.Fields.{fields_of, lines_of}
 use Rattle.block_table.specs.Load.{answering, refused, entry_with, entry_of, entry_on, number_from, table_number, answers_from, table_of, loaded, load_call}
-use Rattle.block_table.specs.Table.{Says, Gives, LoadedGives, RejectedLeaves}
+use Rattle.block_table.specs.Table.{Says, LoadedGives, RejectedLeaves}
 use Rattle.block_table.proofs.Loading.{table_length}
 
 -- two numbers that are not refused

@@ -1,8 +1,7 @@
-use mathlib.Core.Path.{◌≡◌, sym, ◌∙◌}
+use mathlib.Core.Path.{sym, ◌∙◌}
 use borrow.Author.Tests.{eq-eqb, ne_eqb, lt-ltb, le-ltb}
-use Rattle.fields.specs.declared.numbers.Number.TheVariants.{Value}
 use Rattle.fields.proofs.LeadingNumber.{Led, led}
-use Rattle.block_table.specs.Load.{entry_on, entry_with}
+use Rattle.block_table.specs.Load.{entry_with}
 use Rattle.block_table.proofs.Entries.{entry_led, entry_unled}
 use Rattle.block_table.proofs.entry_on.Goals as goal
 

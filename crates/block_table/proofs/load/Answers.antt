@@ -1,7 +1,5 @@
-use Prim.Native.Nat.{◌-◌}
 use mathlib.Core.Path.{refl, sym, ap, ◌∙◌}
 use native.Mathlib.Omega.{arith}
-use lib.ListN.{length}
 use lib.Seq.{length-take-le}
 use Rattle.refusal.specs.Refusal.{or_else}
 use Rattle.block_table.proofs.Loading.{load_begin, load_next, load_refused, load_loaded}

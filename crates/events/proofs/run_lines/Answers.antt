@@ -1,7 +1,5 @@
 use native.Mathlib.Omega.{arith}
-use Prim.Native.Nat.{◌-◌}
 use mathlib.Core.Path.{refl, sym}
-use lib.ListN.{length}
 use lib.Seq.{length-take-le}
 use Rattle.events.specs.Output.{start}
 use Rattle.rows.proofs.Printing.{header_length}
