@@ -2,8 +2,8 @@
    the test calls, of carried writes, of a flush, of eight-byte operands, of loaded block tables and of
    read-only ranges are document 02's, requests C-11, C-12 and C-14 to C-17.
 
-   Link with target/staticlib/libhost.a, which `rt staticlib host` writes for x86-64; a host that calls
-   unit486_run links target/staticlib/libprogram.a too, which `rt staticlib program` writes. The unit
+   Link with crates/host/out/libhost.a, which `rt lib` in crates/host writes for x86-64; a host that calls
+   unit486_run links crates/program/out/libprogram.a too, which `rt lib` in crates/program writes. The unit
    keeps nothing between calls: each works on what the caller lends it for the time of that call, so that
    calls on different directories and buffers may run at the same time.
 

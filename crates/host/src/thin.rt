@@ -1,4 +1,4 @@
-// The one call on a directory by `&mut`; its proof is by hand, since the prover walks no reference to a struct by itself.
+// The one call on a directory by `&mut`.
 ghost use Rattle.std.specs.Prelude.{◌≡◌};
 ghost use Rattle.directory.specs.Outcome.{outcome};
 ghost use Rattle.directory.specs.Steps.{snoop_call};
