@@ -23,7 +23,7 @@ copy_line-requires c =
     let room : 16 ≤ length c.args.shown.now = search rules in
     let a = c.args in
     let p : (c.accepted_view-part.result.now ≡ view_in a.tags.now a.valid.now a.lru.now (lent_ranges a.range_count a.bounds.now) a.ram.now a.«data».now a.address) × (length c.accepted_view-part.result.now ≡ 16) =
-        view_made _ _ _ _ _ _ _ _ c.view_number-number.ensures c.if-number-ne0.false _ c.accepted_view-part.ensures.0 in
+    view_made _ _ _ _ _ _ _ _ c.view_number-number.ensures c.if-number-ne0.false _ c.accepted_view-part.ensures.0 in
     let whole = p.1 in
     (omega arith, room)
 
@@ -31,5 +31,5 @@ pub returns : goal.returns
 returns c =
     let a = c.args in
     let p : (c.accepted_view-part.result.now ≡ view_in a.tags.now a.valid.now a.lru.now (lent_ranges a.range_count a.bounds.now) a.ram.now a.«data».now a.address) × (length c.accepted_view-part.result.now ≡ 16) =
-        view_made _ _ _ _ _ _ _ _ c.view_number-number.ensures c.if-number-ne0.false _ c.accepted_view-part.ensures.0 in
+    view_made _ _ _ _ _ _ _ _ c.view_number-number.ensures c.if-number-ne0.false _ c.accepted_view-part.ensures.0 in
     (sym c.if-number-ne0.false ∙ c.view_number-number.ensures, line_copied _ _ p.0 p.1 _ _ c.copy_line.ensures)
