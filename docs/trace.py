@@ -15,7 +15,7 @@ from pathlib import Path
 ROOT = Path(__file__).resolve().parent.parent
 CRATES = ROOT / "crates"
 # The directory's layer, and the one file above it that computes with its definitions.
-LAYER, BENCH = ("ways", "directory", "steps_in_place"), CRATES / "access/proofs/Bench.antt"
+LAYER, BENCH = ("ways", "directory"), CRATES / "access/proofs/Bench.antt"
 LONGEST = 400
 COLUMNS = ("definition", "calls", "law", "test", "edit")
 # The form of a reference, by column; a definition may also be a type or a function of the code.
@@ -89,8 +89,8 @@ def read_code(path: Path, nodes: dict[str, Node]) -> None:
     lines = path.read_text().splitlines()
     names, prefix, owner, node = names_used(lines), f"{path.parts[-3]}::", "", None
     for line in lines:
-        if line.startswith(("impl ", "}")):
-            owner = line.split()[1] + "::" if line.startswith("impl ") else ""
+        if line.startswith(("impl", "}")):
+            owner = re.match(r"impl(?:<[^>]*>)? (\w+)", line)[1] + "::" if line.startswith("impl") else ""
         elif found := TYPE.match(line):
             nodes[prefix + found[1]] = Node(names)
         elif found := FUNCTION.match(line):

@@ -1,5 +1,6 @@
 -- Laws of a read that carries nothing: its doublewords one after the other, as those of a write, and its number. It writes nothing, so that no
 -- read-only range matters.
+use Rattle.std.specs.Prelude.{Option, Some, None}
 use Prim.Native.Nat.{ℕ, ◌+◌}
 use mathlib.Core.Path.{◌≡◌, refl, sym, ◌∙◌, ap}
 use mathlib.Core.Bool.{Bool, not, ◌&&◌}
@@ -7,8 +8,6 @@ use mathlib.Core.List.{List, [], ◌∷◌}
 use lib.ListN.{length}
 use Rattle.laws.proofs.Tests.{same_or}
 use Rattle.ways.specs.Address.{set_of}
-use Rattle.ways.specs.declared.ways.Found.{Found}
-use Rattle.ways.specs.declared.ways.Found.TheVariants.{At, Nothing}
 use Rattle.ranges.specs.Ranges.{Range}
 use Rattle.directory.specs.Steps.{lookup_of, victim_of}
 use Rattle.words.proofs.Places.{bytes_length}
@@ -38,11 +37,11 @@ unfolding read_one one_alone due snooped_by
 one_alone_lem pcd rs s n w = done_alone_lem _ _ _ rs s.memory n s.array w ∙ sym (done_alone_lem _ _ _ [] s.memory 0 s.array w)
 
 -- it gives its wanted bytes, whatever the read carries
-pub done_length : (f : Found) (victim : ℕ) (mayFill : Bool) (rs : List Range) (m : Memory) (ws : List Carried) (first : ℕ) (array : List ℕ) (w : Doubleword) →
+pub done_length : (f : Option ℕ) (victim : ℕ) (mayFill : Bool) (rs : List Range) (m : Memory) (ws : List Carried) (first : ℕ) (array : List ℕ) (w : Doubleword) →
     length (read_done f victim mayFill rs m ws first array w).bytes ≡ w.wanted.count
 unfolding read_done read_hit settled
-done_length (At way) victim mayFill rs m ws first array w = bytes_length _ _ w.wanted.count
-done_length Nothing victim mayFill rs m ws first array w = bytes_length _ _ w.wanted.count
+done_length (Some way) victim mayFill rs m ws first array w = bytes_length _ _ w.wanted.count
+done_length None victim mayFill rs m ws first array w = bytes_length _ _ w.wanted.count
 
 pub one_length : (pcd : Bool) (s : State) (w : Doubleword) → length (one_alone pcd s w).bytes ≡ w.wanted.count
 unfolding one_alone

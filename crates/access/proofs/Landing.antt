@@ -1,4 +1,5 @@
 -- A carried write that lands puts its bytes into memory, but for read-only ranges, and snoops, as an external write does.
+use Rattle.std.specs.Prelude.{None}
 use Prim.Native.Nat.{ℕ, ◌+◌}
 use mathlib.Core.Path.{◌≡◌, refl, sym, ◌∙◌, ap}
 use mathlib.Core.Bool.{Bool, true, false, cond, not, ◌&&◌, ◌||◌}
@@ -10,7 +11,6 @@ use lib.ListN.{length, get_or}
 use borrow.Author.Tests.{eqb-true, not-false}
 use Rattle.laws.proofs.Tests.{by_test, neither}
 use Rattle.ways.specs.Address.{set_of}
-use Rattle.ways.specs.declared.ways.Found.TheVariants.{Nothing}
 use Rattle.ranges.specs.Ranges.{Range}
 use Rattle.directory.specs.declared.steps.Directory.{Directory}
 use Rattle.directory.specs.Steps.{lookup_of, victim_of, after_snoop}
@@ -41,7 +41,7 @@ unfolding snooped_by
 none_snooped u e = rw (add-zero u.cycle, e)
 
 -- a fill that a later write spoils changes neither directory nor data array: "with NW = 1 too"
-module _ (pcd : Bool) (rs : List Range) (u : UnderWay) (w : Doubleword) (missed : lookup_of u.unit.directory w.line ≡ Nothing) (h : spoiled u.writes u.cycle w ≡ true) where
+module _ (pcd : Bool) (rs : List Range) (u : UnderWay) (w : Doubleword) (missed : lookup_of u.unit.directory w.line ≡ None) (h : spoiled u.writes u.cycle w ≡ true) where
   pub spoiled_dropped : ((read_one pcd rs u w).change ≡ Unchanged) × ((read_one pcd rs u w).array ≡ u.unit.array)
   unfolding read_one read_done settled read_miss fill_miss plain_miss
   spoiled_dropped =

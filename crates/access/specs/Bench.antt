@@ -1,9 +1,7 @@
 -- Document 01, 'Bench table († marked)': the † rows, of the rules as a group. `proofs/Bench.antt` proves them.
-use Rattle.std.specs.Prelude.{ℕ, ◌*◌, ◌-◌, ◌≡◌, false, List, [], ◌∷◌, take, replicate}
+use Rattle.std.specs.Prelude.{ℕ, ◌*◌, ◌-◌, ◌≡◌, false, List, [], ◌∷◌, take, replicate, Option, Some}
 use Rattle.ways.specs.Address.{data_size}
 use Rattle.directory.specs.declared.steps.Directory.{Directory}
-use Rattle.ways.specs.declared.ways.Found.{Found}
-use Rattle.ways.specs.declared.ways.Found.TheVariants.{At}
 use Rattle.directory.specs.Steps.{lookup_of, first_reset, after_control}
 use Rattle.memory.specs.Parity.{memory}
 use Rattle.bus.specs.Groups.{answer_count, log_size}
@@ -45,7 +43,7 @@ abbrev pub bench_addresses : List ℕ
 bench_addresses = 0 ∷ 0x800 ∷ 0x1000 ∷ 0x1800 ∷ 0x2000 ∷ 0x2800 ∷ []
 
 -- The way that holds an address after the first n of these reads.
-abbrev pub way_after : ℕ → ℕ → Found
+abbrev pub way_after : ℕ → ℕ → Option ℕ
 way_after n a = lookup_of (after_reads (after_control first_reset false false) (take n bench_addresses)) a
 
 -- Each row is a field, in the table's order.
@@ -63,13 +61,13 @@ pub record BenchTable : Type 0 where
   -- "Fill under BS8#: 16 cycles."
   pub byte_fill : (bench_read 0 1 (always 3)).outcome.cycles ≡ 16
   -- "Empty set filled from 0, 800, 1000, 1800, 2000 (hex): ways 0, 1, 2, 3, 0."
-  pub first_way : way_after 1 0 ≡ At 0
-  pub second_way : way_after 2 0x800 ≡ At 1
-  pub third_way : way_after 3 0x1000 ≡ At 2
-  pub fourth_way : way_after 4 0x1800 ≡ At 3
-  pub fifth_way : way_after 5 0x2000 ≡ At 0
+  pub first_way : way_after 1 0 ≡ Some 0
+  pub second_way : way_after 2 0x800 ≡ Some 1
+  pub third_way : way_after 3 0x1000 ≡ Some 2
+  pub fourth_way : way_after 4 0x1800 ≡ Some 3
+  pub fifth_way : way_after 5 0x2000 ≡ Some 0
   -- "A sixth at 2800: way 2."
-  pub sixth_way : way_after 6 0x2800 ≡ At 2
+  pub sixth_way : way_after 6 0x2800 ≡ Some 2
   -- "KEN# first only: nothing held."
   pub ken_first_only : (bench_read 0 4 (1 ∷ replicate (answer_count - 1) 0)).outcome.directory ≡ (enabled 32 8).directory
   -- "Width 3: 4."

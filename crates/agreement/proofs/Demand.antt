@@ -7,13 +7,13 @@ use mathlib.Core.List.{List, [], ◌∷◌}
 use lib.Dec.{eqb}
 use borrow.Author.Tests.{eqb-true, ne_eqb}
 use Rattle.laws.proofs.Tests.{differ, cond_true, cond_false, by_test}
-use Rattle.ranges.specs.Ranges.{ranges_of, any_bad}
+use Rattle.ranges.specs.Ranges.{any_bad}
 use Rattle.ranges.proofs.Laws.{no_ranges_lem}
 use Rattle.directory.specs.Steps.{ranges_kept, no_ranges, first_reset}
 use Rattle.directory.proofs.Laws.{reset_none, reset_control, reset_ranges, reset_limits, reset_apart}
 use Rattle.memory.specs.Parity.{Memory}
 use Rattle.bus.specs.Record.{Record}
-use Rattle.refusal.specs.Call.{State, state, next_state}
+use Rattle.refusal.specs.Call.{State, next_state}
 use Rattle.refusal.specs.Refusal.{ranges_number, kept_number}
 use Rattle.calls.specs.Calls.{Call, read, write, external, snoop, flush, control, view, reset, test_write, test_read, set_ranges, step, records_left}
 use Rattle.calls.specs.Plain.{PlainMemory, plain_memory, plain_number, plain_done, plain_refused, plain, plain_told}
@@ -22,7 +22,7 @@ use Rattle.agreement.specs.Agreement.{Comparison, beside, suspended, begun, ende
 use Rattle.calls.proofs.Kept.{Kept, call_kept}
 use Rattle.calls.proofs.Coherence.{Empty, Coherent, empty_beside}
 use Rattle.calls.proofs.Numbers.{plain_arises, test_write_arises, test_read_arises}
-use Rattle.calls.proofs.Steps.{CallMatches, Allowed, emptying_matches, call_matches}
+use Rattle.calls.proofs.Steps.{CallMatches, emptying_matches, call_matches}
 
 -- no range is kept at first, so that 37 and 38 are not met
 none_number : (ram : ℕ) → kept_number ram first_reset.ranges ≡ 0

@@ -12,37 +12,37 @@ use Rattle.laws.proofs.Tests.{by_test}
 use Rattle.bus.specs.Groups.{highest_answer}
 use Rattle.refusal.proofs.Accepted.{or_zero}
 use Rattle.board.specs.Board.{block_count, GoodTable}
-use Rattle.fields.specs.declared.numbers.Number.{Number}
-use Rattle.fields.specs.declared.numbers.Number.TheVariants.{Value, NotANumber}
+use Rattle.std.specs.Prelude.{Option, Some, None, Ok, Err}
+use Rattle.block_table.specs.declared.TableFault.TheVariants.{WrongBlock, LargeAnswer}
 use Rattle.fields.specs.Number.{number_of}
 use Rattle.fields.specs.Fields.{fields_of, lines_of}
-use Rattle.block_table.specs.Load.{answering, refused, entry_with, entry_of, entry_on, number_from, table_number, answers_from, table_of, loaded, load_call}
+use Rattle.block_table.specs.Load.{entry_number, entry_answer, entry_with, entry_of, entry_on, number_from, table_number, answers_from, table_of, loaded, load_call}
 use Rattle.block_table.specs.Table.{Says, LoadedGives, RejectedLeaves}
 use Rattle.block_table.proofs.Loading.{table_length}
 
 -- two numbers that are not refused
-record Accepted (block : ℕ) (b a : Number) : Type 0 where
-  block_said : b ≡ Value block
-  answer_said : a ≡ Value (entry_with block b a).answer
-  good : (entry_with block b a).answer ≤ highest_answer
+record Accepted (block : ℕ) (b a : Option ℕ) : Type 0 where
+  block_said : b ≡ Some block
+  answer_said : a ≡ Some (entry_answer (entry_with block b a))
+  good : entry_answer (entry_with block b a) ≤ highest_answer
 
-accepted : (block : ℕ) (b a : Number) → (entry_with block b a).number ≡ 0 → Accepted block b a
+accepted : (block : ℕ) (b a : Option ℕ) → entry_number (entry_with block b a) ≡ 0 → Accepted block b a
 unfolding entry_with
-accepted block (Value b) (Value a) =
-    by_test (λ t. eqb b block ≡ t → (cond t (cond (ltb highest_answer a) (refused 36) (answering a)) (refused 35)).number ≡ 0 → Accepted block (Value b) (Value a)) (eqb b block)
+accepted block (Some b) (Some a) =
+    by_test (λ t. eqb b block ≡ t → entry_number (cond t (cond (ltb highest_answer a) (Err LargeAnswer) (Ok a)) (Err WrongBlock)) ≡ 0 → Accepted block (Some b) (Some a)) (eqb b block)
     (λ _ e.
-    by_test (λ t. ltb highest_answer a ≡ t → (cond t (refused 36) (answering a)).number ≡ 0 → Accepted block (Value b) (Value a)) (ltb highest_answer a)
+    by_test (λ t. ltb highest_answer a ≡ t → entry_number (cond t (Err LargeAnswer) (Ok a)) ≡ 0 → Accepted block (Some b) (Some a)) (ltb highest_answer a)
     (λ _ _ z. absurd (omega (arith, z)))
     (λ _ f z. record { block_said = rw (eqb-true b block e); answer_said = rw (e, f); good = rw (e, f) (ltb-false highest_answer a f) })
     refl)
     (λ _ _ z. absurd (omega (arith, z)))
     refl
-accepted block (Value b) NotANumber = λ z. absurd (omega (arith, z))
-accepted block NotANumber a = λ z. absurd (omega (arith, z))
+accepted block (Some b) None = λ z. absurd (omega (arith, z))
+accepted block None a = λ z. absurd (omega (arith, z))
 
 -- a line that is not refused says its block and the answer, which is good
-entry_says : (block : ℕ) (line : List ℕ) (fields : List (List ℕ)) → fields_of line ≡ fields → (entry_of block fields).number ≡ 0 →
-    Says line block (entry_of block fields).answer × ((entry_of block fields).answer ≤ highest_answer)
+entry_says : (block : ℕ) (line : List ℕ) (fields : List (List ℕ)) → fields_of line ≡ fields → entry_number (entry_of block fields) ≡ 0 →
+    Says line block (entry_answer (entry_of block fields)) × (entry_answer (entry_of block fields) ≤ highest_answer)
 unfolding entry_of
 entry_says block line [] e z = absurd (omega (arith, z))
 entry_says block line (b ∷ []) e z = absurd (omega (arith, z))
@@ -58,11 +58,11 @@ unfolding number_from answers_from
 each_says block zero lines z k h = absurd (omega (arith, h))
 each_says block (suc more) [] z k h = absurd (omega (arith, z))
 each_says block (suc more) (line ∷ lines) z zero h =
-    let (n, _) = or_zero (entry_on block line).number (number_from (suc block) more lines) z in
+    let (n, _) = or_zero (entry_number (entry_on block line)) (number_from (suc block) more lines) z in
     let e : block + 0 ≡ block = omega arith in
     rw e (entry_says block line (fields_of line) refl n).0
 each_says block (suc more) (line ∷ lines) z (suc k) h =
-    let (_, later) = or_zero (entry_on block line).number (number_from (suc block) more lines) z in
+    let (_, later) = or_zero (entry_number (entry_on block line)) (number_from (suc block) more lines) z in
     let e : block + suc k ≡ suc block + k = omega arith in
     rw e (each_says (suc block) more lines later k (omega (arith, h)))
 
@@ -71,10 +71,10 @@ unfolding number_from answers_from
 all_good block more [] z k = omega arith
 all_good block zero (line ∷ lines) z k = absurd (omega (arith, z))
 all_good block (suc more) (line ∷ lines) z zero =
-    let (n, _) = or_zero (entry_on block line).number (number_from (suc block) more lines) z in
+    let (n, _) = or_zero (entry_number (entry_on block line)) (number_from (suc block) more lines) z in
     (entry_says block line (fields_of line) refl n).1
 all_good block (suc more) (line ∷ lines) z (suc k) =
-    let (_, later) = or_zero (entry_on block line).number (number_from (suc block) more lines) z in
+    let (_, later) = or_zero (entry_number (entry_on block line)) (number_from (suc block) more lines) z in
     all_good (suc block) more lines later k
 
 answers_length : (block : ℕ) (lines : List (List ℕ)) → length (answers_from block lines) ≡ length lines

@@ -10,22 +10,23 @@ use borrow.Author.Tests.{eq-eqb, ne_eqb, le-ltb}
 use Rattle.laws.proofs.Tests.{both, differ}
 use Rattle.bus.specs.Groups.{highest_answer}
 use Rattle.board.specs.Board.{block_count, GoodTable}
-use Rattle.fields.specs.declared.numbers.Number.TheVariants.{Value}
-use Rattle.fields.specs.Number.{is_digit, all_are, number_of}
+use Rattle.std.specs.Prelude.{Some, Ok}
+use Rattle.std.specs.List.{list_all}
+use Rattle.fields.specs.Number.{is_digit, number_of}
 use Rattle.fields.specs.Fields.{tab, newline, in_front, parts_of, fields_of, without_empty_end, lines_of}
 use Rattle.fields.proofs.Parts.{parts_some}
 use Rattle.rows.specs.Decimal.{decimal}
 use Rattle.rows.proofs.Decimal.{decimal_digits, printed_scanned}
-use Rattle.block_table.specs.Load.{answering, entry_with, entry_of, entry_on, number_from, table_number, answers_from, load_call}
+use Rattle.block_table.specs.Load.{entry_with, entry_of, entry_on, number_from, table_number, answers_from, load_call}
 use Rattle.block_table.specs.Table.{printed_from, PrintedLoads}
 
 -- digits stand in the first part of a text, where no digit parts it
-digit_parts : (separator : ℕ) → is_digit separator ≡ false → (digits rest part : List ℕ) (parts : List (List ℕ)) → all_are is_digit digits ≡ true → parts_of separator rest ≡ part ∷ parts →
+digit_parts : (separator : ℕ) → is_digit separator ≡ false → (digits rest part : List ℕ) (parts : List (List ℕ)) → list_all is_digit digits ≡ true → parts_of separator rest ≡ part ∷ parts →
     parts_of separator (digits ++ rest) ≡ (digits ++ part) ∷ parts
-unfolding parts_of in_front all_are
+unfolding parts_of in_front
 digit_parts separator s [] rest part parts d e = e
 digit_parts separator s (c ∷ digits) rest part parts d e =
-    let (first, others) = both (is_digit c) (all_are is_digit digits) d in
+    let (first, others) = both (is_digit c) (list_all is_digit digits) d in
     let other : eqb c separator ≡ false = ne_eqb c separator (λ same. differ (rw same at first) s) in
     rw (other, digit_parts separator s digits rest part parts others e)
 
@@ -39,11 +40,11 @@ line_fields block answer =
     let last : parts_of tab (decimal answer) ≡ decimal answer ∷ [] = rw (append-nil (decimal answer)) at (digit_parts tab refl (decimal answer) [] [] [] (decimal_digits answer) refl) in
     rw (append-nil (decimal block)) at (digit_parts tab refl (decimal block) (tab ∷ decimal answer) [] (decimal answer ∷ []) (decimal_digits block) (rw last))
 
-line_entry : (block answer : ℕ) → block ≤ 4294967295 → answer ≤ highest_answer → entry_on block (printed_line block answer) ≡ answering answer
+line_entry : (block answer : ℕ) → block ≤ 4294967295 → answer ≤ highest_answer → entry_on block (printed_line block answer) ≡ Ok answer
 unfolding entry_of entry_with
 line_entry block answer h good =
-    let b : number_of (decimal block) ≡ Value block = printed_scanned 9 4294967295 block (omega arith) h in
-    let a : number_of (decimal answer) ≡ Value answer = printed_scanned 9 4294967295 answer (omega arith) (omega (arith, good)) in
+    let b : number_of (decimal block) ≡ Some block = printed_scanned 9 4294967295 block (omega arith) h in
+    let a : number_of (decimal answer) ≡ Some answer = printed_scanned 9 4294967295 answer (omega arith) (omega (arith, good)) in
     rw (line_fields block answer, b, a, eq-eqb block block refl, le-ltb highest_answer answer good)
 
 -- the lines of a printed table

@@ -1,23 +1,23 @@
 -- What is claimed of loading a block table: its answers are those on the text's lines, and the text of a table loads as that table.
-use Rattle.std.specs.Prelude.{ℕ, suc, ◌<◌, ◌≡◌, List, [], ◌∷◌, length, get_or}
+use Rattle.std.specs.Prelude.{ℕ, suc, ◌<◌, ◌≡◌, Some, Err, List, [], ◌∷◌, length, get_or}
 use Rattle.board.specs.Board.{block_count, GoodTable}
-use Rattle.fields.specs.declared.numbers.Number.TheVariants.{Value}
 use Rattle.fields.specs.Number.{number_of}
 use Rattle.fields.specs.Fields.{tab, newline, fields_of, lines_of}
 use Rattle.rows.specs.Row.{column}
-use Rattle.block_table.specs.Load.{refused, entry_on, loaded, load_call}
+use Rattle.block_table.specs.declared.TableFault.TheVariants.{WrongLine}
+use Rattle.block_table.specs.Load.{entry_on, loaded, load_call}
 
 -- "tab-parted lines, block number and answer": a line of two fields that say these.
 pub record Says (line : List ℕ) (block answer : ℕ) : Type 0 where
   pub block_field : List ℕ
   pub answer_field : List ℕ
   pub fields : fields_of line ≡ block_field ∷ answer_field ∷ []
-  pub says_block : number_of block_field ≡ Value block
-  pub says_answer : number_of answer_field ≡ Value answer
+  pub says_block : number_of block_field ≡ Some block
+  pub says_answer : number_of answer_field ≡ Some answer
 
 -- "written as the program's", whose lines have "at most 80 bytes before the newline": two numbers and a tab are never longer.
 abbrev pub LongRefused : Type 0
-LongRefused = (block : ℕ) (line : List ℕ) → 80 < length line → entry_on block line ≡ refused 34
+LongRefused = (block : ℕ) (line : List ℕ) → 80 < length line → entry_on block line ≡ Err WrongLine
 
 -- "a loaded one gives each block exactly the answer on its line", and a good table of sixteen is loaded.
 pub record Gives (text table : List ℕ) : Type 0 where

@@ -1,21 +1,31 @@
 // The plant's own block table, loaded from text.
 #![tactic(auto)]
 
-ghost use Rattle.std.specs.Prelude.{◌≡◌, ◌+◌, ◌≤◌, drop, length};
-ghost use Rattle.board.specs.Board.{block_count};
-ghost use Rattle.fields.specs.Fields.{lines_of};
-ghost use Rattle.block_table.specs.Load.{entry_on, load_call, loaded, number_from, refused};
+ghost use Rattle.std.specs.Prelude.{◌≡◌, MatchResult};
+ghost use Rattle.block_table.specs.Load.{entry_on, fault_number, load_call, loaded, table_number, table_of};
 
 pub use board::BLOCKS;
 use bus::HIGHEST_ANSWER;
-use fields::{Leading, Number, end_of, leading_number, scan_number};
-use refusal::or_else;
+use fields::{leading_number, next_line, scan_number};
 
-// What a line has for its block: the answer where the number is 0, else the number that refuses the line.
+// Why a text is no table.
 #[derive(Clone, Copy)]
-struct Entry {
-    number: u32,
-    answer: u8,
+enum TableFault {
+    WrongLine,
+    WrongBlock,
+    LargeAnswer,
+}
+
+impl TableFault {
+    fn number(self) -> u32
+        ensures { result ≡ fault_number self }
+    {
+        match self {
+            TableFault::WrongLine => 34,
+            TableFault::WrongBlock => 35,
+            TableFault::LargeAnswer => 36,
+        }
+    }
 }
 
 // The table in force, and 0 or the number of the earliest bad line. The layout is C's: a host receives one.
@@ -26,75 +36,60 @@ pub struct LoadedTable {
     pub number: u32,
 }
 
-fn refused(number: u32) -> Entry
-    ensures { result ≡ refused number }
-{
-    Entry { number, answer: 0 }
-}
-
-fn entry_on(line: &[u8], block: usize) -> Entry
+// The answer that a line has for its block.
+#[tactic(auto, using(crate::proofs::Entries::entry_unled, crate::proofs::Entries::entry_led), unfolding(crate::specs::Load::entry_with))]
+fn entry_on(line: &[u8], block: usize) -> Result<u8, TableFault>
     ensures { result ≡ entry_on block line.now }
 {
-    let Leading::Field(named, next) = leading_number(line) else {
-        return refused(34);
+    let Some((named, next)) = leading_number(line) else {
+        return Err(TableFault::WrongLine);
     };
-    let Number::Value(answer) = scan_number(&line[next..]) else {
-        return refused(34);
+    let Some(answer) = scan_number(&line[next..]) else {
+        return Err(TableFault::WrongLine);
     };
     if named as usize != block {
-        return refused(35);
+        return Err(TableFault::WrongBlock);
     }
     if (HIGHEST_ANSWER as u64) < answer {
-        return refused(36);
+        return Err(TableFault::LargeAnswer);
     }
-    let answer = answer as u8;
-    Entry { number: 0, answer }
+    Ok(answer as u8)
 }
 
-// The place after a line that ends at a place: after its newline, where it has one.
-fn after_line(text: &[u8], end: usize) -> usize
-    requires { end ≤ length text.now }
-    ensures { (result ≤ length text.now) × (drop result text.now ≡ drop (end + 1) text.now) }
+// Puts the answers on the lines of a text into a table, up to the earliest bad line.
+#[tactic(auto, using(crate::proofs::Loading::load_begin, crate::proofs::Loading::load_missing, crate::proofs::Loading::load_refused, crate::proofs::Loading::load_next, crate::proofs::Loading::load_done, crate::proofs::Loading::load_seventeenth))]
+fn scan_table(table: &mut [u8; BLOCKS], text: &[u8]) -> Result<(), TableFault>
+    ensures { MatchResult result
+        (λ _. (table_number text.now ≡ 0) × (table.new ≡ table_of text.now))
+        (λ fault. table_number text.now ≡ fault_number fault) }
 {
-    if end < text.len() { end + 1 } else { end }
+    let mut rest = text;
+    for block in 0..BLOCKS {
+        let Some((line, after)) = next_line(rest) else {
+            return Err(TableFault::WrongLine);
+        };
+        table[block] = entry_on(line, block)?;
+        rest = after;
+    }
+    if rest.is_empty() {
+        Ok(())
+    } else {
+        Err(TableFault::WrongLine)
+    }
 }
 
-// 34 where a line follows the last block's, which ends before this place.
-fn seventeenth(text: &[u8], at: usize) -> u32
-    ensures { result ≡ number_from block_count 0 (lines_of (drop at text.now)) }
-{
-    if at < text.len() { 34 } else { 0 }
-}
-
-// The table on the lines of a text, or else the given one: no line is in force before the last is checked. A missing line is
-// scanned as an empty one, which is malformed.
+// The table on the lines of a text, or else the given one: no line is in force before the last is checked.
+#[tactic(auto, using(crate::proofs::Loading::call_loaded, crate::proofs::Loading::call_refused))]
 pub fn load(given: &[u8; BLOCKS], text: &[u8]) -> LoadedTable
     ensures { result ≡ load_call given.now text.now }
 {
     let mut table = [0u8; BLOCKS];
-    let mut number: u32 = 0;
-    let mut at: usize = 0;
-    let mut block: usize = 0;
-    while block < BLOCKS {
-        let rest = &text[at..];
-        let end = end_of(rest, b'\n');
-        let entry = entry_on(&rest[..end], block);
-        number = or_else(number, entry.number);
-        table[block] = entry.answer;
-        at = after_line(text, at + end);
-        block += 1;
-    }
-    let whole = or_else(number, seventeenth(text, at));
-    if whole != 0 {
-        let old = *given;
-        return LoadedTable {
-            table: old,
-            number: whole,
-        };
-    }
-    LoadedTable {
-        table,
-        number: whole,
+    match scan_table(&mut table, text) {
+        Ok(()) => LoadedTable { table, number: 0 },
+        Err(fault) => LoadedTable {
+            table: *given,
+            number: fault.number(),
+        },
     }
 }
 
@@ -102,8 +97,10 @@ pub fn load(given: &[u8; BLOCKS], text: &[u8]) -> LoadedTable
 pub fn load_in_place(table: &mut [u8; BLOCKS], text: &[u8]) -> u32
     ensures { loaded table.new result ≡ load_call table.old text.now }
 {
-    let done = load(table, text);
-    let in_force = done.table;
+    let LoadedTable {
+        table: in_force,
+        number,
+    } = load(table, text);
     *table = in_force;
-    done.number
+    number
 }

@@ -7,33 +7,32 @@ use native.Mathlib.Nat.{add-zero}
 use native.Mathlib.Numerals.{add-one}
 use native.Mathlib.Omega.{arith}
 use lib.Dec.{ltb}
-use lib.ListN.{set, replicate, replicate-append-replicate}
-use lib.Seq.{sets}
+use lib.ListN.{length, drop, get_or, replicate, length-replicate, replicate-append-replicate, length-drop}
+use lib.Seq.{sets, sets-eq, take_all, length-take-le}
+use borrow.Rule.Slice.PartMut.{put_mid, mid_of}
+use Rattle.std.proofs.lemmas.Slice.{put_mid-paste}
+use Rattle.std.proofs.lemmas.List.{same_lists, get_or-replicate}
 use Rattle.laws.proofs.Lists.{sets_append}
-use Rattle.laws.proofs.Tests.{by_test}
+use Rattle.laws.proofs.Tests.{by_test, same_or}
 use Rattle.bus.specs.Groups.{bad_width, group_count, group_size}
 use Rattle.board.specs.Board.{block_size, answer_at, group_address, groups_from, board_answers}
 
--- a group with an answer stored from its k-th place on
-unfoldable pub stored_from : ℕ → ℕ → ℕ → List ℕ → List ℕ
-stored_from first k answer l = sets l (first + k) (replicate (group_size - k) answer)
-
-pub stored_all : (first answer : ℕ) (l : List ℕ) → stored_from first 0 answer l ≡ sets l first (replicate group_size answer)
-unfolding stored_from
-stored_all first answer l = rw (add-zero first)
-
-pub stored_one : (first k answer : ℕ) (l : List ℕ) → k < group_size → stored_from first (k + 1) answer (set l (first + k) answer) ≡ stored_from first k answer l
-unfolding stored_from
-stored_one first k answer l h =
-    let e : group_size - k ≡ suc (group_size - (k + 1)) = omega arith in
-    let f : first + (k + 1) ≡ suc (first + k) = omega arith in
-    rw (e, f)
-
-pub stored_none : (first k answer : ℕ) (l : List ℕ) → group_size ≤ k → stored_from first k answer l ≡ l
-unfolding stored_from
-stored_none first k answer l h =
-    let e : group_size - k ≡ 0 = omega arith in
-    rw e
+-- a part filled with an answer is so many of it put in
+pub part_filled : (l ys : List ℕ) (first size n answer : ℕ) → first + n ≤ length l → size ≡ n
+    → length ys ≡ length (mid_of first size l)
+    → ((k d : ℕ) → 0 ≤ k → k < length (mid_of first size l) - 1 → get_or ys k d ≡ answer)
+    → (0 < length (mid_of first size l) → (d : ℕ) → get_or ys (length (mid_of first size l) - 1) d ≡ answer)
+    → put_mid first size l ys ≡ sets l first (replicate n answer)
+part_filled l ys first size n answer fits e long before last =
+    let part : length (mid_of first size l) ≡ n = length-take-le size (drop first l) (omega (arith, length-drop first l)) ∙ e in
+    let count = length-replicate {A = ℕ} n answer in
+    let each : (k d : ℕ) → k < length ys → get_or ys k d ≡ get_or (replicate n answer) k d =
+    λ k d h. same_or _ k (length (mid_of first size l) - 1)
+    (λ at. rw (at, last (omega (arith, h, long)) d) (sym (get_or-replicate n (length (mid_of first size l) - 1) answer d (omega (arith, h, at, long, part)))))
+    (λ other. rw (before k d (omega arith) (omega (arith, h, other, long))) (sym (get_or-replicate n k answer d (omega (arith, h, long, part))))) in
+    let filled : ys ≡ replicate n answer = same_lists ys (replicate n answer) (long ∙ part ∙ sym count) each in
+    put_mid-paste first size l ys (replicate n answer) n filled (sym e) (sym count)
+    ∙ rw (take_all n (replicate n answer) (omega (arith, count))) (sym (rw count at (sets-eq (replicate n answer) l first (omega (arith, count, fits)))))
 
 -- the lowest doubleword is always there
 either : (b : Bool) (x y z : ℕ) → x ≡ z → y ≡ z → cond b x y ≡ z

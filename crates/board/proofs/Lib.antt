@@ -1,3 +1,3 @@
 -- Laws that the proof of the loop cites, and laws of all answers.
-mod Answers
+pub mod Answers
 pub mod Within

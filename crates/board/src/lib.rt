@@ -21,6 +21,7 @@ pub fn block_answers() -> [u8; BLOCKS]
     [1, 1, 1, 1, 1, 1, 1, 1, 5, 5, 5, 5, 4, 4, 2, 3]
 }
 
+#[tactic(auto, unfolding(crate::specs::Board::answer_at))]
 fn answer_at(table: &[u8; BLOCKS], address: usize) -> u8
     ensures { result ≡ answer_at table.now address }
 {
@@ -28,18 +29,14 @@ fn answer_at(table: &[u8; BLOCKS], address: usize) -> u8
 }
 
 // The address of a group's doubleword, or of the access itself where there is none: an access of a refused width has only the lowest.
+#[tactic(auto, unfolding(crate::specs::Board::group_address))]
 fn group_address(address: u32, width: u32, group: usize) -> usize
     requires { group < group_count }
     ensures { result ≡ group_address address width group }
 {
     let start = address as usize;
-    if bad_width(width) {
-        return start;
-    }
-    if 4 * group < start % 4 + width as usize {
-        return start + 4 * group;
-    }
-    start
+    let touched = !bad_width(width) && 4 * group < start % 4 + width as usize;
+    if touched { start + 4 * group } else { start }
 }
 
 // Puts an answer at every place of a group.
@@ -48,15 +45,12 @@ fn fill_group(answers: &mut [u8; ANSWERS], group: usize, answer: u8)
     ensures { answers.new ≡ sets answers.old (group_size * group) (replicate group_size answer) }
 {
     let first = GROUP_SIZE * group;
-    let mut k: usize = 0;
-    while k < GROUP_SIZE {
-        answers[first + k] = answer;
-        k += 1;
-    }
+    answers[first..first + GROUP_SIZE].fill(answer);
 }
 
 // The answers for an access, a group for each doubleword that one can touch. Far enough from the end of a block, which is nearly
 // everywhere, all have one answer.
+#[tactic(auto, using(crate::proofs::Answers::board_same, crate::proofs::Answers::filled_lowest, crate::proofs::Answers::filled_one, crate::proofs::Answers::filled_none))]
 pub fn board_answers(table: &[u8; BLOCKS], address: u32, width: u32) -> [u8; ANSWERS]
     ensures { result ≡ board_answers table.now address width }
 {
@@ -65,11 +59,9 @@ pub fn board_answers(table: &[u8; BLOCKS], address: u32, width: u32) -> [u8; ANS
         return [lowest; ANSWERS];
     }
     let mut answers = [lowest; ANSWERS];
-    let mut group: usize = 1;
-    while group < GROUPS {
+    for group in 1..GROUPS {
         let answer = answer_at(table, group_address(address, width, group));
         fill_group(&mut answers, group, answer);
-        group += 1;
     }
     answers
 }

@@ -8,11 +8,11 @@ ghost use Rattle.buffers.specs.Counts.{IsPrefixLen};
 use std::io;
 use std::io::Read;
 
-// 65,536 zeros. The contract gives only the length: proofs would write all bytes out.
-pub fn large_buffer() -> [u8; 65536]
-    ensures { 65536 ≡ length result }
+// An array of one element over and over. The contract gives only the length: proofs would write all elements out.
+pub fn array_of<T: Copy, const N: usize>(element: T) -> [T; N]
+    ensures { N ≡ length result }
 {
-    [0u8; 65536]
+    [element; N]
 }
 
 // Reads until the input ends or fills the buffer. Answers how many bytes it put at the start, or the error of a read that failed.
@@ -35,9 +35,5 @@ pub fn read_full(reader: &mut impl Read, buffer: &mut [u8]) -> io::Result<usize>
 pub fn within(whole: usize, buffer: &[u8]) -> usize
     ensures { IsPrefixLen result buffer.now }
 {
-    if whole < buffer.len() {
-        whole
-    } else {
-        buffer.len()
-    }
+    whole.min(buffer.len())
 }

@@ -5,7 +5,7 @@ use mathlib.Core.Bool.{cond}
 use mathlib.Core.List.{List, [], ◌∷◌, map}
 use native.Mathlib.Omega.{arith}
 use lib.Dec.{eqb}
-use lib.ListN.{get_or, drop}
+use lib.ListN.{length, get_or, drop}
 use Rattle.laws.proofs.Below.{four}
 use Rattle.laws.proofs.Tests.{by_test}
 use Rattle.bus.specs.Bus.{Run, run, none, burst_order, exclusive_ors, burst}
@@ -30,6 +30,10 @@ order_cases P p0 p4 p8 p12 start =
 pub burst_cases : (P : List Run → Type 0) → P (burst 0) → P (burst 1) → P (burst 2) → P (burst 3) → (doubleword : ℕ) → P (burst doubleword)
 unfolding burst
 burst_cases P p0 p1 p2 p3 doubleword = order_cases (λ order. P (map (λ from. run from 4) order)) p0 p1 p2 p3 (doubleword * 4)
+
+pub burst_length : (start : ℕ) → length (burst_order start) ≡ 4
+unfolding burst_order
+burst_length = order_cases (λ order. length order ≡ 4) refl refl refl refl
 
 -- the offset of a doubleword of a line
 pub record Whole (from : ℕ) : Type 0 where

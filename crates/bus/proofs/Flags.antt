@@ -1,6 +1,8 @@
 -- The flags of moved bytes, and a record's words in the log.
 use Prim.Native.Nat.{ℕ, zero, suc, ◌+◌, ◌*◌, ◌^◌, ◌≤◌}
 use mathlib.Core.Path.{◌≡◌, refl}
+use mathlib.Core.Bool.{Bool, true, false, cond}
+use mir.Val.{bool_byte}
 use mathlib.Core.List.{List, [], ◌∷◌, ◌++◌}
 use native.Mathlib.Omega.{arith}
 use native.Mathlib.Nat.{pow-suc, add-zero, zero-add, add_comm}
@@ -32,6 +34,11 @@ lanes_below lane n h =
 pub lanes_mask_lem : (lane n : ℕ) → lanes_of lane n ≡ lanes_mask lane n
 unfolding lanes_mask
 lanes_mask_lem lane n = rw (add_comm n lane) (omega (arith, lanes_power n lane))
+
+-- A flag where its test holds.
+pub flag_when : (flag : ℕ) (test : Bool) → flag * bool_byte test ≡ cond test flag 0
+flag_when flag true = omega arith
+flag_when flag false = omega arith
 
 -- Three words put one after another.
 pub three_words : (l : List ℕ) (i a b c : ℕ) → set (set (set l i a) (i + 1) b) (i + 2) c ≡ sets l i (a ∷ b ∷ c ∷ [])

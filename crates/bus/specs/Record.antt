@@ -3,6 +3,8 @@ use Rattle.std.specs.Prelude.{ℕ, zero, suc, ◌+◌, ◌*◌, ◌/◌, ◌%◌
 use Rattle.std.proofs.lemmas.List.Edits.{sets}
 use Rattle.words.specs.Bytes.{bytes_at, word_in}
 use Rattle.memory.specs.Parity.{Memory, wrong_in}
+use Rattle.bus.specs.declared.record.Kind.{Kind}
+use Rattle.bus.specs.declared.record.Kind.TheVariants.{Plain, Write, Fill}
 use Rattle.bus.specs.Bus.{Cycle}
 
 -- "doubleword address; flags; data, unmoved lanes 0": `word` is the third, data.
@@ -25,6 +27,11 @@ write_kind = 16
 
 abbrev pub fill_kind : ℕ
 fill_kind = 32
+
+abbrev pub kind_flag : Kind → ℕ
+kind_flag Plain = plain_kind
+kind_flag Write = write_kind
+kind_flag Fill = fill_kind
 
 -- "64 the last cycle made for this doubleword of the access, in a fill only its very last; 128 read with wrong parity in a moved byte."
 unfoldable pub flags_of : ℕ → ℕ → ℕ → Bool → Bool → ℕ

@@ -4,6 +4,7 @@ ghost use Rattle.bus.specs.Bus.{burst_order};
 
 // The offsets of a line's doublewords in the order of a burst, by the one that it starts at. As the data sheet prints them (002, table
 // 3-9): First, Second, Third and Fourth Address.
+#[tactic(auto, unfolding(crate::specs::Bus::burst_order))]
 pub fn burst_order(start: usize) -> [usize; 4]
     ensures { result ≡ burst_order start }
 {

@@ -9,5 +9,5 @@ mod sizes;
 
 pub use burst::burst_order;
 pub use cycle::moved_lanes;
-pub use record::{flags_of, put_record};
+pub use record::{Kind, flags_of, put_record};
 pub use sizes::{ANSWERS, GROUP_SIZE, GROUPS, HIGHEST_ANSWER, LOG_WORDS, bad_width};

@@ -1,14 +1,10 @@
 -- Laws of bytes in lists: bytes read, and bytes put in from a place on.
-use Prim.Native.Nat.{ℕ, zero, suc, ◌+◌, ◌≤◌}
-use mathlib.Core.Path.{◌≡◌, refl, ◌∙◌, ap}
-use mathlib.Core.List.{List, [], ◌∷◌}
+use Prim.Native.Nat.{ℕ, ◌≤◌}
+use mathlib.Core.Path.{◌≡◌, ◌∙◌, ap}
 use native.Mathlib.Omega.{arith}
 use native.Mathlib.Nat.{div-one}
-use lib.ListN.{length, get_or, set, length-set}
-use lib.Seq.{sets, get_or-set_same}
 use Rattle.words.specs.Bytes.{bytes_at, bytes_of}
 use Rattle.words.proofs.Numbers.{bytes_of_part}
-use Rattle.words.proofs.Places.{sets_below}
 use Rattle.bus.specs.Groups.{widest}
 use Rattle.access.specs.Access.{operand_of}
 

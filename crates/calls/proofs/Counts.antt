@@ -1,4 +1,5 @@
 -- An access makes at most as many cycles as it has answers, so that the log of an accepted one has room for each of its records.
+use Rattle.std.specs.Prelude.{Option, Some, None}
 use Prim.Native.Nat.{ℕ, zero, suc, ◌+◌, ◌*◌, ◌-◌, ◌/◌, ◌%◌, ◌≤◌, ◌<◌, min}
 use mathlib.Core.Path.{◌≡◌, refl}
 use mathlib.Core.Bool.{Bool, true, false, cond, ◌&&◌}
@@ -7,8 +8,6 @@ use native.Mathlib.Omega.{arith}
 use lib.ListN.{length, get_or, take, drop, length-append, length-take, length-map}
 use lib.Seq.{length-sets}
 use Rattle.laws.proofs.Tests.{by_test}
-use Rattle.ways.specs.declared.ways.Found.{Found}
-use Rattle.ways.specs.declared.ways.Found.TheVariants.{At, Nothing}
 use Rattle.ways.specs.Address.{byte_of}
 use Rattle.words.proofs.Places.{sets_in}
 use Rattle.ranges.specs.Ranges.{Range}
@@ -37,11 +36,11 @@ records_most : (make : Cycle → Record) (xs : List ℕ) (ws : List Run) → len
 records_most make xs ws = rw (length-map (cycles_of xs ws) make) (cycles_most xs ws)
 
 -- of a doubleword
-done_most : (f : Found) (victim : ℕ) (mayFill : Bool) (rom : List Range) (m : Memory) (ws : List Carried) (first : ℕ) (array : List ℕ) (w : Doubleword) →
+done_most : (f : Option ℕ) (victim : ℕ) (mayFill : Bool) (rom : List Range) (m : Memory) (ws : List Carried) (first : ℕ) (array : List ℕ) (w : Doubleword) →
     length (read_done f victim mayFill rom m ws first array w).records ≤ length w.answers
 unfolding read_done read_hit settled read_miss fill_miss plain_miss
-done_most (At way) victim mayFill rom m ws first array w = omega arith
-done_most Nothing victim mayFill rom m ws first array w =
+done_most (Some way) victim mayFill rom m ws first array w = omega arith
+done_most None victim mayFill rom m ws first array w =
     by_test (λ b. length (cond b (fill_miss rom m ws first w) (plain_miss rom m ws first w)).records ≤ length w.answers) (mayFill && ken (get_or w.answers 0 0))
     (λ _. rw (records_length _ (memory_at rom m ws) w.line first _) (cycles_most w.answers _))
     (λ _. rw (records_length _ (memory_at rom m ws) w.line first _) (cycles_most w.answers _))
@@ -50,11 +49,11 @@ read_most : (pcd : Bool) (rom : List Range) (u : UnderWay) (w : Doubleword) → 
 unfolding read_one
 read_most pcd rom u w = done_most _ _ _ rom u.unit.memory u.writes u.cycle u.unit.array w
 
-sent_most : (f : Found) (stays : Bool) (rom : List Range) (m : Memory) (array operand : List ℕ) (w : Doubleword) → length (write_done f stays rom m array operand w).records ≤ length w.answers
+sent_most : (f : Option ℕ) (stays : Bool) (rom : List Range) (m : Memory) (array operand : List ℕ) (w : Doubleword) → length (write_done f stays rom m array operand w).records ≤ length w.answers
 unfolding write_done write_through
-sent_most (At way) true rom m array operand w = omega arith
-sent_most (At way) false rom m array operand w = records_most _ w.answers _
-sent_most Nothing stays rom m array operand w = records_most _ w.answers _
+sent_most (Some way) true rom m array operand w = omega arith
+sent_most (Some way) false rom m array operand w = records_most _ w.answers _
+sent_most None stays rom m array operand w = records_most _ w.answers _
 
 write_most : (rom : List Range) (operand : List ℕ) (s : State) (w : Doubleword) → length (write_one rom operand s w).records ≤ length w.answers
 unfolding write_one

@@ -1,4 +1,5 @@
 -- What every list of calls keeps, whatever it does to CD and NW and whatever tags stand in a set: lengths, limits, ranges, parity that agrees.
+use Rattle.std.specs.Prelude.{Option, Some, None}
 use Prim.Native.Nat.{ℕ, ◌+◌, ◌≤◌}
 use mathlib.Core.Path.{◌≡◌, refl, sym, ◌∙◌, ap}
 use mathlib.Core.Bool.{Bool, true, ◌&&◌}
@@ -8,8 +9,6 @@ use lib.ListN.{length}
 use lib.Seq.{length-sets}
 use Rattle.laws.proofs.Tests.{by_test, same_or}
 use Rattle.directory.specs.declared.steps.Directory.{Directory}
-use Rattle.ways.specs.declared.ways.Found.{Found}
-use Rattle.ways.specs.declared.ways.Found.TheVariants.{At, Nothing}
 use Rattle.ways.specs.Address.{set_of, tag_of, line_offset, data_offset}
 use Rattle.directory.specs.Steps.{ranges_kept, lookup_of, victim_of, state_number_of, after_use, with_ranges, after_reset, after_control, after_snoop, control_refused}
 use Rattle.directory.specs.WellFormed.{WithinLimits}
@@ -112,7 +111,7 @@ module _ (size : ℕ) (s : State) (k : KeptIn size s) (w : Doubleword) (ok : Pro
       (array : List ℕ) → length array ≡ length s.array → KeptIn size (state d' s.memory array)
   changed_kept d' g c q array e = record { kept = kept_with s k.kept d' g c q array e; ram_length = k.ram_length }
 
-  used_kept : (way : ℕ) → lookup_of d w.line ≡ At way →
+  used_kept : (way : ℕ) → lookup_of d w.line ≡ Some way →
       (array : List ℕ) → length array ≡ length s.array → KeptIn size (state (after_use d (set_of w.line) way) s.memory array)
   used_kept way e =
       let r = set_of w.line in
@@ -135,7 +134,7 @@ module _ (size : ℕ) (s : State) (k : KeptIn size s) (w : Doubleword) (ok : Pro
       (λ _. k)
 
   module _ (rom : List Range) (operand : List ℕ) where
-    hit_kept : (way : ℕ) → lookup_of d w.line ≡ At way → KeptIn size (state (after_use d (set_of w.line) way) s.memory (hit_array way s.array operand w))
+    hit_kept : (way : ℕ) → lookup_of d w.line ≡ Some way → KeptIn size (state (after_use d (set_of w.line) way) s.memory (hit_array way s.array operand w))
     unfolding hit_array
     hit_kept way e =
         used_kept way e _ (length-sets s.array (data_offset w.line way + w.wanted.from) (given_of operand w))
@@ -150,13 +149,13 @@ module _ (size : ℕ) (s : State) (k : KeptIn size s) (w : Doubleword) (ok : Pro
           ram_length = (written_lengths rom t.memory a x).0 ∙ kt.ram_length;
         }
 
-    write_found : (f : Found) → lookup_of d w.line ≡ f → KeptIn size (next s w (write_done f (d.cd && d.nw) rom s.memory s.array operand w))
+    write_found : (f : Option ℕ) → lookup_of d w.line ≡ f → KeptIn size (next s w (write_done f (d.cd && d.nw) rom s.memory s.array operand w))
     unfolding write_done write_through changed
-    write_found (At way) e =
-        by_test (λ b. KeptIn size (next s w (write_done (At way) b rom s.memory s.array operand w))) (d.cd && d.nw)
+    write_found (Some way) e =
+        by_test (λ b. KeptIn size (next s w (write_done (Some way) b rom s.memory s.array operand w))) (d.cd && d.nw)
         (λ _. hit_kept way e)
         (λ _. rw (given_written operand size w ok rom s.memory) (through_kept _ (hit_kept way e)))
-    write_found Nothing e = rw (given_written operand size w ok rom s.memory) (through_kept s k)
+    write_found None e = rw (given_written operand size w ok rom s.memory) (through_kept s k)
 
     pub write_one_kept : KeptIn size (next s w (write_one rom operand s w))
     unfolding write_one
@@ -191,12 +190,12 @@ module _ (rom : List Range) (size : ℕ) (u : UnderWay) (k : UnderKept size u) w
   during_kept n = landing_kept rom size n (due (u.cycle + n) u.writes) u.unit k.unit (due_good size (u.cycle + n) u.writes k.good)
 
   module _ (w : Doubleword) (ok : Proper size w) where
-    read_found : (mayFill : Bool) (f : Found) → lookup_of u.unit.directory w.line ≡ f →
+    read_found : (mayFill : Bool) (f : Option ℕ) → lookup_of u.unit.directory w.line ≡ f →
         let n = length (read_miss mayFill rom u.unit.memory u.writes u.cycle w).records in
         KeptIn size (read_next u w (read_done f (victim_of (directory_after u n) (set_of w.line)) mayFill rom u.unit.memory u.writes u.cycle u.unit.array w)).unit
     unfolding read_done read_hit settled changed landed_after
-    read_found mayFill (At way) e = rw (none_snooped u k.quiet) (used_kept size u.unit k.unit w ok way e u.unit.array refl)
-    read_found mayFill Nothing e =
+    read_found mayFill (Some way) e = rw (none_snooped u k.quiet) (used_kept size u.unit k.unit w ok way e u.unit.array refl)
+    read_found mayFill None e =
         let missed = read_miss mayFill rom u.unit.memory u.writes u.cycle w in
         let n = length missed.records in
         settled_kept size (landed_during n) (during_kept n) w ok missed.kept missed.buffer

@@ -1,4 +1,5 @@
 -- What lands during a read: as many external writes, each of which keeps the invariant. Those that lie in other lines leave the bytes of a line.
+use Rattle.std.specs.Prelude.{None}
 use Prim.Native.Nat.{ℕ, suc, ◌+◌, ◌*◌, ◌/◌, ◌%◌, ◌≤◌, ◌<◌}
 use mathlib.Core.Path.{◌≡◌, refl, sym, ◌∙◌, ap}
 use mathlib.Core.Bool.{false}
@@ -9,7 +10,6 @@ use lib.ListN.{length, get_or}
 use lib.Seq.{sets}
 use borrow.Author.Tests.{eqb-false}
 use Rattle.laws.proofs.Tests.{neither}
-use Rattle.ways.specs.declared.ways.Found.TheVariants.{Nothing}
 use Rattle.ways.specs.Address.{set_of, tag_of}
 use Rattle.directory.specs.declared.steps.Directory.{Directory}
 use Rattle.ranges.specs.Ranges.{Range}
@@ -65,7 +65,7 @@ module _ (r v t : ℕ) (vl : v < 4) where
   snooped_held (w ∷ ws) d g h =
       snoop_held d g.sized w.address r v t vl (snooped_held ws (after_snoop d w.address) (snoop_limits d g w.address) h)
 
-pub snooped_missing : (ws : List Carried) (d : Directory) → WithinLimits d → (a : ℕ) → lookup_of d a ≡ Nothing → lookup_of (snooped_by ws d) a ≡ Nothing
+pub snooped_missing : (ws : List Carried) (d : Directory) → WithinLimits d → (a : ℕ) → lookup_of d a ≡ None → lookup_of (snooped_by ws d) a ≡ None
 snooped_missing ws d g a e =
     none_lookup (snooped_by ws d) a (λ v vl h. lookup_nothing d a e v vl (snooped_held (set_of a) v (tag_of a) vl ws d g h))
 

@@ -1,4 +1,5 @@
 -- Reads keep the invariant beside the plain memory with the writes that they carry, and give its bytes.
+use Rattle.std.specs.Prelude.{Option, Some, None}
 use Prim.Native.Nat.{ℕ, suc, ◌+◌, ◌*◌, ◌/◌, ◌≤◌, ◌<◌}
 use mathlib.Core.Path.{◌≡◌, refl, sym, ◌∙◌, ap}
 use mathlib.Core.Bool.{Bool, true, false, cond, not, ◌&&◌}
@@ -11,8 +12,6 @@ use lib.Seq.{sets}
 use borrow.Author.Tests.{not-true}
 use Rattle.laws.proofs.Tests.{both, refuted, differ, by_test}
 use Rattle.directory.specs.declared.steps.Directory.{Directory}
-use Rattle.ways.specs.declared.ways.Found.{Found}
-use Rattle.ways.specs.declared.ways.Found.TheVariants.{At, Nothing}
 use Rattle.ways.specs.Address.{set_of, tag_of, data_offset}
 use Rattle.ranges.specs.Ranges.{Range, ranges_of, read_only}
 use Rattle.directory.specs.Steps.{lookup_of, victim_of, after_use, after_fill}
@@ -49,7 +48,7 @@ use_beside rom s m b r w =
 
 -- THE END OF A MISS
 
-module _ (rom : List Range) (s : State) (m : List ℕ) (c : Coherent rom s m) (w : Doubleword) (ok : Proper (length m) w) (e : lookup_of s.directory w.line ≡ Nothing) (buffer : List ℕ) where
+module _ (rom : List Range) (s : State) (m : List ℕ) (c : Coherent rom s m) (w : Doubleword) (ok : Proper (length m) w) (e : lookup_of s.directory w.line ≡ None) (buffer : List ℕ) where
   abbrev d : Directory
   d = s.directory
 
@@ -159,7 +158,7 @@ module _ (rom : List Range) (m : List ℕ) (ws : List Carried) (good : EachGood 
       abbrev address : ℕ
       address = w.line + w.wanted.from
 
-      read_hit_lem : (way : ℕ) → lookup_of looked w.line ≡ At way → ReadMatches rom m ws u w (read_hit way u.unit.memory u.unit.array w)
+      read_hit_lem : (way : ℕ) → lookup_of looked w.line ≡ Some way → ReadMatches rom m ws u w (read_hit way u.unit.memory u.unit.array w)
       unfolding read_hit changed
       read_hit_lem way e =
           let h = lookup_at looked w.line way e in
@@ -176,7 +175,7 @@ module _ (rom : List Range) (m : List ℕ) (ws : List Carried) (good : EachGood 
           }
 
       -- a miss by its cycles
-      module _ (e : lookup_of looked w.line ≡ Nothing) (kind : ℕ) (q : ReadKind kind) (cs : List Cycle) (each : EachCycle cs) (f : ℕ) (begins : Begins f cs) (own : f / 4 ≡ w.wanted.from / 4) where
+      module _ (e : lookup_of looked w.line ≡ None) (kind : ℕ) (q : ReadKind kind) (cs : List Cycle) (each : EachCycle cs) (f : ℕ) (begins : Begins f cs) (own : f / 4 ≡ w.wanted.from / 4) where
         abbrev records : List Record
         records = records_of kind at w.line u.cycle cs
 
@@ -234,7 +233,7 @@ module _ (rom : List Range) (m : List ℕ) (ws : List Carried) (good : EachGood 
       Leaves missed =
           ReadMatches rom m ws u w (settled (victim_of (directory_after u (length missed.records)) (set_of w.line)) rom u.unit.memory u.writes u.cycle u.unit.array w missed)
 
-      read_plain : lookup_of looked w.line ≡ Nothing → Leaves (plain_miss rom u.unit.memory u.writes u.cycle w)
+      read_plain : lookup_of looked w.line ≡ None → Leaves (plain_miss rom u.unit.memory u.writes u.cycle w)
       unfolding plain_miss
       read_plain e =
           let r = w.wanted in
@@ -243,7 +242,7 @@ module _ (rom : List Range) (m : List ℕ) (ws : List Carried) (good : EachGood 
           (cycles_begin w.answers r [] (g, tt) (let a = ok.enough in let b = g.line in omega arith)) refl false (λ h. absurd (differ h refl))
           (λ o l. wanted_once r g w.answers ok.enough (r.from + o) (omega arith) (omega arith))
 
-      read_fill : lookup_of looked w.line ≡ Nothing → looked.cd ≡ false → read_only rom w.line ≡ false → Leaves (fill_miss rom u.unit.memory u.writes u.cycle w)
+      read_fill : lookup_of looked w.line ≡ None → looked.cd ≡ false → read_only rom w.line ≡ false → Leaves (fill_miss rom u.unit.memory u.writes u.cycle w)
       unfolding fill_miss spoiled landed_after
       read_fill e enabled writable =
           let quarter = w.wanted.from / 4 in
@@ -272,12 +271,12 @@ module _ (rom : List Range) (m : List ℕ) (ws : List Carried) (good : EachGood 
       quiet_writable : Quiet → ken (get_or w.answers 0 0) ≡ true → read_only rom w.line ≡ false
       quiet_writable quiet h = refuted (read_only rom w.line) (λ e. differ h (quiet e))
 
-      read_found : Quiet → (mayFill : Bool) → (mayFill ≡ true → looked.cd ≡ false) → (f : Found) → lookup_of looked w.line ≡ f →
+      read_found : Quiet → (mayFill : Bool) → (mayFill ≡ true → looked.cd ≡ false) → (f : Option ℕ) → lookup_of looked w.line ≡ f →
           let n = length (read_miss mayFill rom u.unit.memory u.writes u.cycle w).records in
           ReadMatches rom m ws u w (read_done f (victim_of (directory_after u n) (set_of w.line)) mayFill rom u.unit.memory u.writes u.cycle u.unit.array w)
       unfolding read_done read_miss
-      read_found quiet mayFill enabled (At way) e = read_hit_lem way e
-      read_found quiet mayFill enabled Nothing e =
+      read_found quiet mayFill enabled (Some way) e = read_hit_lem way e
+      read_found quiet mayFill enabled None e =
           by_test (λ fills. (mayFill && ken (get_or w.answers 0 0)) ≡ fills → Leaves (cond fills (fill_miss rom u.unit.memory u.writes u.cycle w) (plain_miss rom u.unit.memory u.writes u.cycle w)))
           (mayFill && ken (get_or w.answers 0 0))
           (λ _ h. read_fill e (enabled (both mayFill _ h).0) (quiet_writable quiet (both mayFill _ h).1))

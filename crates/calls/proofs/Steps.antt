@@ -1,5 +1,6 @@
 -- Each call keeps the invariant and matches the plain memory.
-use Prim.Native.Nat.{ℕ, ◌*◌, ◌-◌, ◌/◌, ◌%◌, ◌≤◌}
+use Rattle.std.specs.Prelude.{Option, Some, None}
+use Prim.Native.Nat.{ℕ, ◌*◌, ◌/◌, ◌%◌}
 use mathlib.Core.Path.{◌≡◌, refl, sym, ◌∙◌, ap}
 use mathlib.Core.Bool.{Bool, true, false, true≢false}
 use mathlib.Core.List.{List, []}
@@ -8,8 +9,6 @@ use lib.ListN.{length}
 use borrow.Author.Tests.{eq-eqb, ne_eqb}
 use Rattle.laws.proofs.Tests.{differ, cond_true, cond_false, by_test, same_or}
 use Rattle.directory.specs.declared.steps.Directory.{Directory}
-use Rattle.ways.specs.declared.ways.Found.{Found}
-use Rattle.ways.specs.declared.ways.Found.TheVariants.{At, Nothing}
 use Rattle.ways.specs.Address.{set_of, tag_of, data_offset}
 use Rattle.directory.specs.Steps.{ranges_kept, lookup_of, with_ranges, after_reset, after_flush, after_control, after_snoop, control_refused}
 use Rattle.directory.specs.WellFormed.{Apart}
@@ -250,13 +249,13 @@ module _ (s : State) (m : PlainMemory) (c : Coherent m.rom s m.bytes) where
 
   -- VIEWS
 
-  shown_is : (a : ℕ) (f : Found) → lookup_of s.directory a ≡ f → shown f s.memory.ram s.array a ≡ bytes_at bytes (a / 16 * 16) 16
+  shown_is : (a : ℕ) (f : Option ℕ) → lookup_of s.directory a ≡ f → shown f s.memory.ram s.array a ≡ bytes_at bytes (a / 16 * 16) 16
   unfolding shown
-  shown_is a (At w) e =
+  shown_is a (Some w) e =
       let k = lookup_at s.directory a w e in
       bytes_same s.array bytes (data_offset a w) (a / 16 * 16) 16 λ o b.
       rw (line_around a) at (c.beside.lines.same (set_of a) w (tag_of a) (omega arith) k.0 k.1 o b)
-  shown_is a Nothing e = ap (λ (l : List ℕ). bytes_at l (a / 16 * 16) 16) c.beside.rams
+  shown_is a None e = ap (λ (l : List ℕ). bytes_at l (a / 16 * 16) 16) c.beside.rams
 
   view_matches : (a : ℕ) → StepMatches (step s (view a)) (plain_told s m (view a))
   unfolding step_by plain_done

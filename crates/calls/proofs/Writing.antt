@@ -1,4 +1,5 @@
 -- Writes keep the invariant beside the plain memory with their bytes put in.
+use Rattle.std.specs.Prelude.{Option, Some, None}
 use Prim.Native.Nat.{ℕ, ◌+◌, ◌/◌, ◌%◌, ◌≤◌}
 use mathlib.Core.Path.{◌≡◌, refl, ◌∙◌}
 use mathlib.Core.Bool.{false, cond, ◌&&◌}
@@ -8,8 +9,6 @@ use lib.ListN.{length}
 use lib.Seq.{sets}
 use Rattle.laws.proofs.Tests.{both, by_test}
 use Rattle.directory.specs.declared.steps.Directory.{Directory}
-use Rattle.ways.specs.declared.ways.Found.{Found}
-use Rattle.ways.specs.declared.ways.Found.TheVariants.{At, Nothing}
 use Rattle.ways.specs.Address.{set_of, tag_of, data_offset}
 use Rattle.ranges.specs.Ranges.{Range, read_only}
 use Rattle.ranges.proofs.Laws.{same_line}
@@ -50,7 +49,7 @@ module _ (rom : List Range) (operand : List ℕ) (s : State) (m : List ℕ) (c :
   in_own_line = let e : (w.line + w.wanted.from) % 16 ≤ w.wanted.from = omega (arith, ok.aligned) in omega (arith, in_line_lem)
 
   -- a held line lies in no range
-  hit_writable : (way : ℕ) → lookup_of d w.line ≡ At way → read_only rom (w.line + w.wanted.from) ≡ false
+  hit_writable : (way : ℕ) → lookup_of d w.line ≡ Some way → read_only rom (w.line + w.wanted.from) ≡ false
   hit_writable way e =
       let h = lookup_at d w.line way e in
       let own : (w.line + w.wanted.from) / 16 ≡ w.line / 16 = omega (arith, ok.aligned, ok.within.line, ok.within.some) in
@@ -60,7 +59,7 @@ module _ (rom : List Range) (operand : List ℕ) (s : State) (m : List ℕ) (c :
   own_no_error : NoParityErrors (map (write_record (write_buffer operand w) w.line) (plain_cycles w))
   own_no_error = no_error_writes (write_buffer operand w) w.line (plain_cycles w) (cycles_within w.answers (w.wanted ∷ []) (ok.within, tt))
 
-  write_miss : lookup_of d w.line ≡ Nothing → WriteMatches rom s (memory_written rom operand m w) w (write_through Unchanged rom s.memory s.array operand w)
+  write_miss : lookup_of d w.line ≡ None → WriteMatches rom s (memory_written rom operand m w) w (write_through Unchanged rom s.memory s.array operand w)
   unfolding write_through changed
   write_miss e =
       let none = lookup_nothing d w.line e in
@@ -71,7 +70,7 @@ module _ (rom : List Range) (operand : List ℕ) (s : State) (m : List ℕ) (c :
         no_error = own_no_error;
       }
 
-  write_hit : (way : ℕ) → lookup_of d w.line ≡ At way → WriteMatches rom s (memory_written rom operand m w) w (write_through (Use way) rom s.memory (hit_array way s.array operand w) operand w)
+  write_hit : (way : ℕ) → lookup_of d w.line ≡ Some way → WriteMatches rom s (memory_written rom operand m w) w (write_through (Use way) rom s.memory (hit_array way s.array operand w) operand w)
   unfolding write_through hit_array changed
   write_hit way e =
       let h = lookup_at d w.line way e in
@@ -86,16 +85,16 @@ module _ (rom : List Range) (operand : List ℕ) (s : State) (m : List ℕ) (c :
         no_error = own_no_error;
       }
 
-  write_found : (f : Found) → lookup_of d w.line ≡ f → WriteMatches rom s (memory_written rom operand m w) w (write_done f (d.cd && d.nw) rom s.memory s.array operand w)
+  write_found : (f : Option ℕ) → lookup_of d w.line ≡ f → WriteMatches rom s (memory_written rom operand m w) w (write_done f (d.cd && d.nw) rom s.memory s.array operand w)
   unfolding write_done
-  write_found (At way) e =
+  write_found (Some way) e =
       let k = lookup_at d w.line way e in
       by_test (λ stays. (d.cd && d.nw) ≡ stays → WriteMatches rom s (memory_written rom operand m w) w (cond stays (record { change = Use way; memory = s.memory; array = hit_array way s.array operand w; bytes = []; records = [] }) (write_through (Use way) rom s.memory (hit_array way s.array operand w) operand w)))
       (d.cd && d.nw)
       (λ _ h. absurd (b.nw (both d.cd d.nw h).1 (set_of w.line) way _ (omega arith) k.0 k.1))
       (λ _ _. write_hit way e)
       refl
-  write_found Nothing e = write_miss e
+  write_found None e = write_miss e
 
   write_one_lem : WriteMatches rom s (memory_written rom operand m w) w (write_one rom operand s w)
   unfolding write_one

@@ -89,23 +89,16 @@ module _ (rs : List Range) where
 
 -- THE STRUCT
 
--- one of four
-four : (P : ℕ → Type 0) → P 0 → P 1 → P 2 → P 3 → (k : ℕ) → k < 4 → P k
-four P p q r s zero h = p
-four P p q r s (suc zero) h = q
-four P p q r s (suc (suc zero)) h = r
-four P p q r s (suc (suc (suc zero))) h = s
-four P p q r s (suc (suc (suc (suc k)))) h = absurd (omega arith)
+-- how many bytes RAM takes of a write of a struct
+abbrev pub length_taken : List Range → CarriedWrites → ℕ → ℕ
+length_taken rs c k = cond (read_only rs (get_or c.addresses k 0)) 0 (get_or c.lengths k 0)
 
 -- of a struct with the lengths that RAM takes
 module _ (rs : List Range) (c : CarriedWrites) (lengths : List ℕ) where
   abbrev taken_by : CarriedWrites
   taken_by = record { count = c.count; cycles = c.cycles; addresses = c.addresses; lengths = lengths; bytes = c.bytes }
 
-  abbrev LengthTaken : ℕ → Type 0
-  LengthTaken k = get_or lengths k 0 ≡ cond (read_only rs (get_or c.addresses k 0)) 0 (get_or c.lengths k 0)
-
-  module _ (few : c.count ≤ 4) (each : (k : ℕ) → k < 4 → LengthTaken k) where
+  module _ (few : c.count ≤ 4) (each : (k : ℕ) → k < 4 → get_or lengths k 0 ≡ length_taken rs c k) where
     taken_at : (k : ℕ) → k < 4 → write_in taken_by k ≡ taken_of rs (write_in c k)
     unfolding bytes_at
     taken_at k h =
@@ -121,7 +114,7 @@ module _ (rs : List Range) (c : CarriedWrites) (lengths : List ℕ) where
     taken_from k zero h = refl
     taken_from k (suc n) h = rw (taken_at k (omega arith), taken_from (suc k) n (omega arith))
 
-    taken_carried : carried_of taken_by ≡ taken rs (carried_of c)
+    pub taken_carried : carried_of taken_by ≡ taken rs (carried_of c)
     taken_carried = taken_from 0 c.count (omega arith)
 
     shorter : (k : ℕ) → k < c.count → get_or lengths k 0 ≤ get_or c.lengths k 0
@@ -129,7 +122,7 @@ module _ (rs : List Range) (c : CarriedWrites) (lengths : List ℕ) where
         rw (each k (omega arith))
         (by_test (λ t. cond t 0 (get_or c.lengths k 0) ≤ get_or c.lengths k 0) (read_only rs (get_or c.addresses k 0)) (λ _. omega arith) (λ _. omega arith))
 
-    taken_needs : (ram parity : ℕ) → CarriedNeeds c ram parity → CarriedNeeds taken_by ram parity
+    pub taken_needs : (ram parity : ℕ) → CarriedNeeds c ram parity → CarriedNeeds taken_by ram parity
     taken_needs ram parity z =
         record {
           few = few;
@@ -137,17 +130,3 @@ module _ (rs : List Range) (c : CarriedWrites) (lengths : List ℕ) where
           inside = λ k h. omega (arith, shorter k h, z.inside k h);
           bits = z.bits;
         }
-
--- from the four lengths
-module _ (rs : List Range) (c : CarriedWrites) (first second third fourth : ℕ) where
-  abbrev four_lengths : List ℕ
-  four_lengths = first ∷ second ∷ third ∷ fourth ∷ []
-
-  abbrev LengthIs : ℕ → ℕ → Type 0
-  LengthIs n k = n ≡ cond (read_only rs (get_or c.addresses k 0)) 0 (get_or c.lengths k 0)
-
-  pub four_taken : c.count ≤ 4 → LengthIs first 0 → LengthIs second 1 → LengthIs third 2 → LengthIs fourth 3 →
-      (carried_of (taken_by rs c four_lengths) ≡ taken rs (carried_of c)) × ((ram parity : ℕ) → CarriedNeeds c ram parity → CarriedNeeds (taken_by rs c four_lengths) ram parity)
-  four_taken few p q r s =
-      let each = four (LengthTaken rs c four_lengths) p q r s in
-      (taken_carried rs c four_lengths few each, taken_needs rs c four_lengths few each)

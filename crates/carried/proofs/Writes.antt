@@ -5,13 +5,13 @@ use mathlib.Core.Bool.{Bool, true, false, ◌||◌}
 use mathlib.Core.List.{List, [], ◌∷◌, ◌++◌, append-nil, append_assoc}
 use native.Mathlib.Omega.{arith}
 use lib.Dec.{eqb}
-use lib.ListN.{length, get_or}
+use lib.ListN.{get_or}
 use borrow.Author.Tests.{lt-ltb, le-ltb}
 use Rattle.words.specs.Bytes.{bytes_at}
-use Rattle.memory.specs.Parity.{Memory, memory, stored}
+use Rattle.memory.specs.Parity.{Memory, stored}
 use Rattle.memory.proofs.Written.{written_everywhere}
 use Rattle.carried.specs.Carried.{Carried, due, later, landed, in_line}
-use Rattle.carried.specs.CarriedCode.{write_in, writes_from, carried_of, left_from, CarriedNeeds}
+use Rattle.carried.specs.CarriedCode.{write_in, writes_from, carried_of, left_from}
 use Rattle.carried.specs.declared.CarriedWrites.{CarriedWrites}
 use Rattle.carried.proofs.Due.{due_first, due_stop, later_first, later_stop, landed_append, in_line_append}
 
@@ -52,108 +52,65 @@ module _ (c : CarriedWrites) where
       let f : k + 1 ≡ suc k = omega arith in
       rw (e, f)
 
-  -- the loop that counts those due
+  -- the loop that counts those due: those before a place with those due from there on, and those that are left
   pub record DueTo (from made to : ℕ) : Type 0 where
     pub those : writes_from c from (to - from) ++ due made (left_from c to) ≡ due made (left_from c from)
     pub lefts : later made (left_from c to) ≡ later made (left_from c from)
-    pub above : from ≤ to
-    pub within : to ≤ c.count
 
   module _ (from made : ℕ) where
-    pub due_begin : from ≤ c.count → DueTo from made from
-    due_begin h = record { those = rw (writes_none from); lefts = refl; above = omega arith; within = h }
+    pub due_begin : DueTo from made from
+    due_begin = record { those = rw (writes_none from); lefts = refl }
 
     module _ (to : ℕ) (g : DueTo from made to) where
-      module _ (h : to < c.count) where
-        pub due_next : (made ≤ get_or c.cycles to 0 → ⊥) → DueTo from made (to + 1)
-        due_next n =
-            let t = lt-ltb (get_or c.cycles to 0) made (omega arith) in
-            let e = left_next to h in
-            record {
-              those =
-                  ap (λ (l : List Carried). l ++ due made (left_from c (to + 1))) (writes_next from to g.above)
-                  ∙ append_assoc (writes_from c from (to - from)) (write_in c to ∷ []) (due made (left_from c (to + 1)))
-                  ∙ ap (λ (l : List Carried). writes_from c from (to - from) ++ l) (sym (ap (due made) e ∙ due_first made (write_in c to) (left_from c (to + 1)) t))
-                  ∙ g.those;
-              lefts = sym (ap (later made) e ∙ later_first made (write_in c to) (left_from c (to + 1)) t) ∙ g.lefts;
-              above = omega (arith, g.above);
-              within = omega arith;
-            }
+      pub due_next : from ≤ to → to < c.count → get_or c.cycles to 0 < made → DueTo from made (to + 1)
+      due_next k h n =
+          let t = lt-ltb (get_or c.cycles to 0) made n in
+          let e = left_next to h in
+          record {
+            those =
+                ap (λ (l : List Carried). l ++ due made (left_from c (to + 1))) (writes_next from to k)
+                ∙ append_assoc (writes_from c from (to - from)) (write_in c to ∷ []) (due made (left_from c (to + 1)))
+                ∙ ap (λ (l : List Carried). writes_from c from (to - from) ++ l) (sym (ap (due made) e ∙ due_first made (write_in c to) (left_from c (to + 1)) t))
+                ∙ g.those;
+            lefts = sym (ap (later made) e ∙ later_first made (write_in c to) (left_from c (to + 1)) t) ∙ g.lefts;
+          }
 
       -- where none is due any more
-      pub record DueEnd : Type 0 where
-        pub those : writes_from c from (to - from) ≡ due made (left_from c from)
-        pub lefts : left_from c to ≡ later made (left_from c from)
+      abbrev pub DueEnd : Type 0
+      DueEnd = (writes_from c from (to - from) ≡ due made (left_from c from)) × (left_from c to ≡ later made (left_from c from))
 
       none_due : due made (left_from c to) ≡ [] → later made (left_from c to) ≡ left_from c to → DueEnd
       none_due d l =
-          record {
-            those = sym (append-nil (writes_from c from (to - from))) ∙ ap (λ (x : List Carried). writes_from c from (to - from) ++ x) (sym d) ∙ g.those;
-            lefts = sym l ∙ g.lefts;
-          }
+          (sym (append-nil (writes_from c from (to - from))) ∙ ap (λ (x : List Carried). writes_from c from (to - from) ++ x) (sym d) ∙ g.those, sym l ∙ g.lefts)
 
       pub due_stopped : to < c.count → made ≤ get_or c.cycles to 0 → DueEnd
       due_stopped h n =
-          let t = le-ltb (get_or c.cycles to 0) made (omega arith) in
+          let t = le-ltb (get_or c.cycles to 0) made n in
           let e = left_next to h in
           none_due (ap (due made) e ∙ due_stop made (write_in c to) (left_from c (to + 1)) t)
           (ap (later made) e ∙ later_stop made (write_in c to) (left_from c (to + 1)) t ∙ sym e)
 
-      pub due_all : (to < c.count → ⊥) → DueEnd
+      pub due_all : to ≡ c.count → DueEnd
       unfolding writes_from due later
       due_all n = let e : c.count - to ≡ 0 = omega arith in none_due (rw e) (rw e)
 
   -- the loop that lands them
-  pub landed_next : (from k : ℕ) (m : Memory) → from ≤ k → landed [] (writes_from c from (k + 1 - from)) m ≡ landed [] (write_in c k ∷ []) (landed [] (writes_from c from (k - from)) m)
-  landed_next from k m h = ap (λ (l : List Carried). landed [] l m) (writes_next from k h) ∙ landed_append [] (writes_from c from (k - from)) (write_in c k ∷ []) m
+  pub land_next : (from k : ℕ) (m m' : Memory) → from ≤ k → m' ≡ stored (landed [] (writes_from c from (k - from)) m) (get_or c.addresses k 0) (bytes_at c.bytes (16 * k) (get_or c.lengths k 0)) →
+      m' ≡ landed [] (writes_from c from (k + 1 - from)) m
+  unfolding landed
+  land_next from k m m' h e =
+      let before = landed [] (writes_from c from (k - from)) m in
+      e
+      ∙ sym (written_everywhere before (get_or c.addresses k 0) (bytes_at c.bytes (16 * k) (get_or c.lengths k 0)))
+      ∙ sym (ap (λ (l : List Carried). landed [] l m) (writes_next from k h) ∙ landed_append [] (writes_from c from (k - from)) (write_in c k ∷ []) m)
 
   -- the loop that looks for a line
-  pub in_line_next : (from k line : ℕ) → from ≤ k → in_line line (writes_from c from (k + 1 - from)) ≡ (in_line line (writes_from c from (k - from)) || in_line line (write_in c k ∷ []))
-  in_line_next from k line h = ap (in_line line) (writes_next from k h) ∙ in_line_append line (writes_from c from (k - from)) (write_in c k ∷ [])
-
-  pub record LandLoop (from to : ℕ) (ram₀ parity₀ ram parity : List ℕ) (k : ℕ) : Type 0 where
-    pub memories : memory ram parity ≡ landed [] (writes_from c from (k - from)) (memory ram₀ parity₀)
-    pub rams : length ram ≡ length ram₀
-    pub parities : length parity ≡ length parity₀
-    pub above : from ≤ k
-    pub within : k ≤ to
-
-  module _ (from to : ℕ) (ram₀ parity₀ : List ℕ) where
-    pub land_begin : from ≤ to → LandLoop from to ram₀ parity₀ ram₀ parity₀ from
-    unfolding landed
-    land_begin h = record { memories = rw (writes_none from); rams = refl; parities = refl; above = omega arith; within = h }
-
-    pub land_next : (ram parity : List ℕ) (k : ℕ) → LandLoop from to ram₀ parity₀ ram parity k → k < to → (ram' parity' : List ℕ) →
-        memory ram' parity' ≡ stored (memory ram parity) (get_or c.addresses k 0) (bytes_at c.bytes (16 * k) (get_or c.lengths k 0)) →
-        length ram' ≡ length ram → length parity' ≡ length parity → LandLoop from to ram₀ parity₀ ram' parity' (k + 1)
-    unfolding landed
-    land_next ram parity k g h ram' parity' e er ep =
-        record {
-          memories = e ∙ sym (written_everywhere (memory ram parity) (get_or c.addresses k 0) (bytes_at c.bytes (16 * k) (get_or c.lengths k 0))) ∙ ap (λ (m : Memory). landed [] (write_in c k ∷ []) m) g.memories ∙ sym (landed_next from k (memory ram₀ parity₀) g.above);
-          rams = er ∙ g.rams;
-          parities = ep ∙ g.parities;
-          above = omega (arith, g.above);
-          within = omega arith;
-        }
-
-  pub in_line_more : (from k line : ℕ) (found : Bool) (at : ℕ) → from ≤ k → found ≡ in_line line (writes_from c from (k - from)) → at ≡ get_or c.addresses k 0 / 16 * 16 →
-      (found || eqb at line) ≡ in_line line (writes_from c from (k + 1 - from))
+  pub in_line_more : (from k line : ℕ) (found : Bool) → from ≤ k → found ≡ in_line line (writes_from c from (k - from)) →
+      (found || eqb (get_or c.addresses k 0 / 16 * 16) line) ≡ in_line line (writes_from c from (k + 1 - from))
   unfolding in_line
-  in_line_more from k line found at h e f =
-      rw (in_line_next from k line h, ← e, ← f) (ap (λ (b : Bool). found || b) (sym (or_false (eqb at line))))
+  in_line_more from k line found h e =
+      rw (writes_next from k h, in_line_append line (writes_from c from (k - from)) (write_in c k ∷ []), ← e) (ap (λ (b : Bool). found || b) (sym (or_false _)))
     where
       or_false : (b : Bool) → (b || false) ≡ b
       or_false true = refl
       or_false false = refl
-
-  -- where a loop over the places has come to the end
-  pub whole_list : {A : Type 0} (from k to : ℕ) {x : A} (f : List Carried → A) → x ≡ f (writes_from c from (k - from)) → k ≡ to → x ≡ f (writes_from c from (to - from))
-  whole_list from k to f e h = rw (← h) e
-
-  -- the next write fits
-  pub land_fits : (from to : ℕ) (ram₀ parity₀ ram parity : List ℕ) (k : ℕ) → LandLoop from to ram₀ parity₀ ram parity k → CarriedNeeds c (length ram₀) (length parity₀) → k < to → to ≤ c.count →
-      let n = get_or c.lengths k 0 in (16 * k + n ≤ 64) × (get_or c.addresses k 0 + n ≤ length ram) × (get_or c.addresses k 0 + n ≤ 4 * length parity)
-  land_fits from to ram₀ parity₀ ram parity k g z h l =
-      let short = z.short k (omega arith) in
-      let inside = z.inside k (omega arith) in
-      (omega (arith, z.few), omega (arith, g.rams), omega (arith, g.parities, z.bits))

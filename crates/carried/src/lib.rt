@@ -2,14 +2,13 @@
 #![tactic(auto)]
 
 ghost use Rattle.std.specs.Prelude.{◌≡◌, cond, [], ℕ, ◌+◌, ◌*◌, ◌-◌, ◌/◌, ◌≤◌, length};
-ghost use Rattle.ranges.specs.Ranges.{lent_ranges, ranges_of, read_only};
-ghost use Rattle.words.specs.Bytes.{bytes_at};
-ghost use Rattle.memory.specs.Parity.{lent_memory, stored};
+ghost use Rattle.ranges.specs.Ranges.{kept_ranges, ranges_of, read_only};
+ghost use Rattle.memory.specs.Parity.{memory};
 ghost use Rattle.carried.specs.Carried.{due, in_line, landed, later, taken};
 ghost use Rattle.carried.specs.CarriedCode.{CarriedNeeds, carried_of, left_from, writes_from};
 
-use memory::put_byte;
-use ranges::{BOUNDS, read_only};
+use memory::store_bytes;
+use ranges::Kept;
 
 // The most writes that a read carries.
 pub const CARRIED_MOST: u32 = 4;
@@ -34,56 +33,24 @@ pub fn due_end(carried: CarriedWrites, from: usize, made: usize) -> usize
         × (writes_from carried from (result - from) ≡ due made (left_from carried from))
         × (left_from carried result ≡ later made (left_from carried from)) }
 {
-    let count = carried.count as usize;
-    let mut to = from;
-    while to < count {
+    for to in from..carried.count as usize {
         if made <= carried.cycles[to] as usize {
             return to;
         }
-        to += 1;
     }
-    to
-}
-
-// One write lands, byte by byte: most have few.
-fn land_one(
-    bytes: &[u8; 64],
-    from: usize,
-    count: usize,
-    ram: &mut [u8],
-    parity: &mut [u8],
-    address: u32,
-)
-    requires { (from + count ≤ 64) × (address + count ≤ length ram.old) × (address + count ≤ 4 * length parity.old) }
-    ensures { lent_memory ram.new parity.new ≡ stored (lent_memory ram.old parity.old) address (bytes_at bytes.now from count) }
-{
-    let start = address as usize;
-    let mut k: usize = 0;
-    while k < count {
-        put_byte(ram, parity, start + k, bytes[from + k]);
-        k += 1;
-    }
+    carried.count as usize
 }
 
 // The writes of some places land: their bytes go into RAM, with their parity.
 pub fn land(carried: CarriedWrites, from: usize, to: usize, ram: &mut [u8], parity: &mut [u8])
     requires { (from ≤ to) × (to ≤ carried.count) × CarriedNeeds carried (length ram.old) (length parity.old) }
-    ensures { lent_memory ram.new parity.new ≡ landed [] (writes_from carried from (to - from)) (lent_memory ram.old parity.old) }
+    ensures { memory ram.new parity.new ≡ landed [] (writes_from carried from (to - from)) (memory ram.old parity.old) }
 {
-    let bytes = carried.bytes;
-    let mut k = from;
-    while k < to {
+    for k in from..to {
+        let address = carried.addresses[k] as usize;
         let count = carried.lengths[k] as usize;
-        land_one(&bytes, 16 * k, count, ram, parity, carried.addresses[k]);
-        k += 1;
+        store_bytes(&carried.bytes, 16 * k, ram, parity, address, count);
     }
-}
-
-// The address of the line around an address.
-fn line_of(address: u32) -> u32
-    ensures { result ≡ address / 16 * 16 }
-{
-    address / 16 * 16
 }
 
 // Whether a write of some places lies in a line.
@@ -92,53 +59,33 @@ pub fn any_in_line(carried: CarriedWrites, from: usize, to: usize, line: u32) ->
     ensures { result ≡ in_line line (writes_from carried from (to - from)) }
 {
     let mut found = false;
-    let mut k = from;
-    while k < to {
-        found = found | (line_of(carried.addresses[k]) == line);
-        k += 1;
+    for k in from..to {
+        found |= carried.addresses[k] / 16 * 16 == line;
     }
     found
 }
 
 // How many bytes RAM takes of a write: none into a read-only line.
-fn taken_length<'a>(range_count: u32, bounds: &'a [u32; BOUNDS], address: u32, length: u32) -> u32
-    ensures { result ≡ cond (read_only (ranges_of (lent_ranges range_count bounds.now)) address) 0 length }
+fn taken_length<'a>(ranges: Kept<'a>, address: u32, length: u32) -> u32
+    ensures { result ≡ cond (read_only (ranges_of (kept_ranges ranges.entry)) address) 0 length }
 {
-    if read_only(range_count, bounds, address) {
-        0
-    } else {
-        length
-    }
+    if ranges.read_only(address) { 0 } else { length }
 }
 
 // The writes with the bytes that RAM takes of them. A write into a read-only line stays, without bytes: snoops and dropped fills ask its
 // address alone. Most directories keep no range.
-pub fn taken_writes<'a>(
-    carried: CarriedWrites,
-    range_count: u32,
-    bounds: &'a [u32; BOUNDS],
-) -> CarriedWrites
+pub fn taken_writes<'a>(carried: CarriedWrites, ranges: Kept<'a>) -> CarriedWrites
     requires { carried.count ≤ 4 }
     ensures { (result.count ≡ carried.count)
-        × (carried_of result ≡ taken (ranges_of (lent_ranges range_count bounds.now)) (carried_of carried))
+        × (carried_of result ≡ taken (ranges_of (kept_ranges ranges.entry)) (carried_of carried))
         × ((ram parity : ℕ) → CarriedNeeds carried ram parity → CarriedNeeds result ram parity) }
 {
-    if range_count == 0 {
+    if ranges.count == 0 {
         return carried;
     }
-    let cycles = carried.cycles;
-    let addresses = carried.addresses;
-    let bytes = carried.bytes;
-    let first = taken_length(range_count, bounds, addresses[0], carried.lengths[0]);
-    let second = taken_length(range_count, bounds, addresses[1], carried.lengths[1]);
-    let third = taken_length(range_count, bounds, addresses[2], carried.lengths[2]);
-    let fourth = taken_length(range_count, bounds, addresses[3], carried.lengths[3]);
-    let lengths = [first, second, third, fourth];
-    CarriedWrites {
-        count: carried.count,
-        cycles,
-        addresses,
-        lengths,
-        bytes,
+    let mut lengths = [0; 4];
+    for k in 0..4 {
+        lengths[k] = taken_length(ranges, carried.addresses[k], carried.lengths[k]);
     }
+    CarriedWrites { lengths, ..carried }
 }

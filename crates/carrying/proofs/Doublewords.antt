@@ -1,4 +1,5 @@
 -- One doubleword of a read that carries writes, from what its parts leave.
+use Rattle.std.specs.Prelude.{Option, Some, None}
 use Prim.Native.Nat.{ℕ, suc, ◌+◌, ◌-◌, ◌/◌, ◌%◌, ◌^◌, ◌≤◌, ◌<◌}
 use mathlib.Core.Path.{◌≡◌, refl, sym, ◌∙◌, ap}
 use mathlib.Core.Bool.{Bool, true, false, not, ◌&&◌, and-false}
@@ -7,8 +8,6 @@ use native.Mathlib.Omega.{arith}
 use lib.ListN.{length, get_or, replicate}
 use Rattle.laws.proofs.Tests.{cond_true, cond_false}
 use Rattle.ways.specs.Address.{data_offset}
-use Rattle.ways.specs.declared.ways.Found.{Found}
-use Rattle.ways.specs.declared.ways.Found.TheVariants.{At, Nothing}
 use Rattle.words.specs.Bytes.{bytes_at, value_of}
 use Rattle.memory.specs.Parity.{Memory}
 use Rattle.carried.specs.declared.CarriedWrites.{CarriedWrites}
@@ -47,7 +46,7 @@ miss_needs w first ram parity answers log z carried landed k h d =
       due = d;
     }
 
-module _ (cursor : AccessCursor) (xs : List ℕ) (carried : CarriedWrites) (landed : ℕ) (m : Memory) (array log₀ : List ℕ) (mayFill : Bool) (f : Found) (w : Wanted) (ew : w ≡ wanted_of cursor) where
+module _ (cursor : AccessCursor) (xs : List ℕ) (carried : CarriedWrites) (landed : ℕ) (m : Memory) (array log₀ : List ℕ) (mayFill : Bool) (f : Option ℕ) (w : Wanted) (ew : w ≡ wanted_of cursor) where
   abbrev ws : List Carried
   ws = left_from carried landed
 
@@ -58,9 +57,9 @@ module _ (cursor : AccessCursor) (xs : List ℕ) (carried : CarriedWrites) (land
   Leaves group r m' log = CarriedNext f (begun_by f mayFill m ws first array (doubleword_of (wanted_of cursor) group)) carried landed m cursor log₀ r m' log
 
   -- a hit
-  pub hit_next : (group : List ℕ) (way : ℕ) (r : CarriedRead) → f ≡ At way → due first ws ≡ [] → landed ≤ carried.count →
+  pub hit_next : (group : List ℕ) (way : ℕ) (r : CarriedRead) → f ≡ Some way → due first ws ≡ [] → landed ≤ carried.count →
       r.value ≡ value_of (bytes_at array (data_offset w.line way + w.from) w.count) → r.value < 256 ^ w.count →
-      r ≡ carried_read w.line (At way) (none_brought landed) false (replicate 16 0) w.count r.value → Leaves group r m log₀
+      r ≡ carried_read w.line (Some way) (none_brought landed) false (replicate 16 0) w.count r.value → Leaves group r m log₀
   unfolding begun_by words_of
   hit_next group way r e d h ev fits er =
       let n : first + 0 ≡ first = omega arith in
@@ -80,8 +79,8 @@ module _ (cursor : AccessCursor) (xs : List ℕ) (carried : CarriedWrites) (land
       })
 
   -- a miss
-  module _ (e : f ≡ Nothing) (group : List ℕ) (b : Brought) (m' : Memory) (buffer log : List ℕ) (last : Bool) (r : CarriedRead)
-      (ev : r.value ≡ value_of (bytes_at buffer w.from w.count)) (fits : r.value < 256 ^ w.count) (er : r ≡ carried_read w.line Nothing b last buffer w.count r.value) (most : b.used ≤ 16) where
+  module _ (e : f ≡ None) (group : List ℕ) (b : Brought) (m' : Memory) (buffer log : List ℕ) (last : Bool) (r : CarriedRead)
+      (ev : r.value ≡ value_of (bytes_at buffer w.from w.count)) (fits : r.value < 256 ^ w.count) (er : r ≡ carried_read w.line None b last buffer w.count r.value) (most : b.used ≤ 16) where
     abbrev here : Doubleword
     here = doubleword_of (wanted_of cursor) group
 

@@ -1,5 +1,4 @@
 -- Laws that several proofs cite.
-pub mod Sizes
 pub mod Settled
 pub mod Cycles
 pub mod Moved

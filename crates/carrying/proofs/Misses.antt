@@ -4,24 +4,25 @@ use mathlib.Core.Path.{◌≡◌, refl, sym, ◌∙◌, ap}
 use mathlib.Core.Bool.{cond}
 use mathlib.Core.List.{List, [], ◌∷◌, ◌++◌}
 use native.Mathlib.Omega.{arith}
+use native.Mathlib.Numerals.{add-one}
 use lib.Dec.{eqb, ltb}
-use lib.ListN.{length, get_or, drop, length-drop}
-use lib.Seq.{drop-drop}
-use Rattle.laws.proofs.Below.{four}
-use Rattle.laws.proofs.Tests.{by_test}
+use lib.ListN.{length, get_or, drop, length-drop, length-map, get_or-map, drop_of_length-le}
+use lib.Seq.{drop-cons, drop-drop}
+use borrow.Author.Tests.{eq-eqb, ne_eqb}
+use Rattle.laws.proofs.Tests.{by_test, same_or}
 use Rattle.memory.specs.Parity.{Memory, memory}
 use Rattle.carried.specs.declared.CarriedWrites.{CarriedWrites}
 use Rattle.carried.specs.Carried.{Carried, due, later, landed}
 use Rattle.carried.specs.CarriedCode.{left_from, CarriedNeeds}
 use Rattle.carried.proofs.Writes.{writes_none}
-use Rattle.bus.specs.Bus.{Run, run, Cycle, cycles_of, burst_order, burst}
+use Rattle.bus.specs.Bus.{run, none, Cycle, cycles_of, burst_order}
 use Rattle.bus.specs.Record.{words_of}
 use Rattle.bus.specs.Runs.{run_cycles}
 use Rattle.bus.proofs.Runs.{cycles_none, cycles_run, run_some}
-use Rattle.bus.proofs.BurstOrder.{burst_turn, burst_done}
+use Rattle.bus.proofs.BurstOrder.{burst_turn, burst_length}
 use Rattle.reading.specs.Reading.{buffer_of, records_of}
 use Rattle.carrying.specs.declared.cycle.Brought.{Brought}
-use Rattle.carrying.specs.CarryingCode.{LandedTo, CyclesBrought, RunNeeds, none_brought, MissNeeds, TurnNeeds, TurnsOf}
+use Rattle.carrying.specs.CarryingCode.{LandedTo, CyclesBrought, RunNeeds, none_brought, MissNeeds, TurnNeeds, turns}
 use Rattle.carrying.proofs.Cycles.{brought_append}
 
 -- where none is due all are left
@@ -45,6 +46,22 @@ landed_begin carried from m n e h =
       above = omega arith;
       within = h;
     }
+
+-- the turns from one on
+module _ (order : List ℕ) (count turn : ℕ) where
+  pub turn_first : turn < length order → drop turn (turns order count) ≡ run (get_or order turn 0) count ∷ drop (turn + 1) (turns order count)
+  turn_first l =
+      drop-cons (turns order count) turn (run 0 count) (rw length-map l)
+      ∙ rw (get_or-map (λ from. run from count) order turn 0, add-one turn)
+
+  pub turn_last : turn < length order → none (drop (turn + 1) (turns order count)) ≡ eqb (turn + 1) (length order)
+  turn_last l =
+      same_or _ (turn + 1) (length order)
+      (λ e. rw (eq-eqb (turn + 1) (length order) e, drop_of_length-le (turns order count) {i = turn + 1} (rw length-map (omega arith))))
+      (λ n. rw (ne_eqb (turn + 1) (length order) n, drop-cons (turns order count) (turn + 1) (run 0 count) (rw length-map (omega arith))))
+
+  pub turn_none : length order ≤ turn → drop turn (turns order count) ≡ []
+  turn_none l = drop_of_length-le (turns order count) (rw length-map l)
 
 module _ (ram₀ parity₀ xs log₀ : List ℕ) (carried : CarriedWrites) (line first landed₀ : ℕ) (z : MissNeeds carried line first landed₀ (length ram₀) (length parity₀) (length xs) (length log₀)) where
   abbrev m₀ : Memory
@@ -73,15 +90,15 @@ module _ (ram₀ parity₀ xs log₀ : List ℕ) (carried : CarriedWrites) (line
 
   -- TURNS
 
-  module _ (buffer₀ order : List ℕ) (turns count kind : ℕ) (y : TurnNeeds order turns count) where
+  module _ (buffer₀ order : List ℕ) (count kind : ℕ) (y : TurnNeeds order count) where
     abbrev Brings : List Cycle → Brought → Brought → Memory → List ℕ → List ℕ → List ℕ → List ℕ → Type 0
     Brings = CyclesBrought kind line first carried landed₀ m₀
 
     pub record TurnLoop (ram parity buffer log : List ℕ) (now : Brought) (turn : ℕ) : Type 0 where
       pub lands : LandedTo carried landed₀ m₀ (first + now.used) (memory ram parity) now.landed
-      pub rest : (runs : List Run) → TurnsOf runs order turns count → (r : Brought) (m' : Memory) (buffer' log' : List ℕ) →
-          Brings (cycles_of (drop now.used xs) (drop turn runs)) now r m' buffer buffer' log log' → Brings (cycles_of xs runs) (none_brought landed₀) r m' buffer₀ buffer' log₀ log'
-      pub within : turn ≤ turns
+      pub rest : (r : Brought) (m' : Memory) (buffer' log' : List ℕ) →
+          Brings (cycles_of (drop now.used xs) (drop turn (turns order count))) now r m' buffer buffer' log log' → Brings (cycles_of xs (turns order count)) (none_brought landed₀) r m' buffer₀ buffer' log₀ log'
+      pub within : turn ≤ length order
       pub some : turn ≤ now.used
       pub most : now.used ≤ 4 * turn
       pub places : now.landed ≤ carried.count
@@ -95,7 +112,7 @@ module _ (ram₀ parity₀ xs log₀ : List ℕ) (carried : CarriedWrites) (line
         rw e
         (record {
           lands = miss_begin;
-          rest = λ runs t r m' buffer' log' k. k;
+          rest = λ r m' buffer' log' k. k;
           within = omega arith;
           some = omega arith;
           most = omega arith;
@@ -106,38 +123,37 @@ module _ (ram₀ parity₀ xs log₀ : List ℕ) (carried : CarriedWrites) (line
           buffers = refl;
         })
 
-    module _ {ram parity buffer log : List ℕ} {now : Brought} {turn : ℕ} (g : TurnLoop ram parity buffer log now turn) (tl : turn < turns) where
+    module _ {ram parity buffer log : List ℕ} {now : Brought} {turn : ℕ} (g : TurnLoop ram parity buffer log now turn) (tl : turn < length order) where
       abbrev o : ℕ
       o = get_or order turn 0
 
-      pub turn_needs : kind ≤ 32 → length buffer₀ ≡ 16 →
-          RunNeeds line o count first now.used (length ram) (length parity) (length xs) (length log) × CarriedNeeds carried (length ram) (length parity) × (now.landed ≤ carried.count) × (kind ≤ 32) × (length buffer ≡ 16)
-      turn_needs k sixteen = (
+      pub turn_needs : length buffer₀ ≡ 16 →
+          RunNeeds line o count first now.used (length ram) (length parity) (length xs) (length log) × CarriedNeeds carried (length ram) (length parity) × (now.landed ≤ carried.count) × (length buffer ≡ 16)
+      turn_needs sixteen = (
         run_needs ram parity log g.rams g.parities g.logs o count now.used y.some (y.lanes turn tl) (y.short turn tl) (omega (arith, g.most, y.most, y.few)),
         rw (g.rams, g.parities) z.writes,
         g.places,
-        k,
         g.buffers ∙ sixteen,
       )
 
       module _ {r : Brought} {ram' parity' buffer' log' : List ℕ}
-          (f : (place : ℕ) (m₁ : Memory) → LandedTo carried place m₁ (first + now.used) (memory ram parity) now.landed → CyclesBrought kind line first carried place m₁ (run_cycles (eqb (turn + 1) turns) (drop now.used xs) (run o count)) now r (memory ram' parity') buffer buffer' log log')
+          (f : (place : ℕ) (m₁ : Memory) → LandedTo carried place m₁ (first + now.used) (memory ram parity) now.landed → CyclesBrought kind line first carried place m₁ (run_cycles (eqb (turn + 1) (length order)) (drop now.used xs) (run o count)) now r (memory ram' parity') buffer buffer' log log')
           (most : r.used ≤ now.used + count) (er : length ram' ≡ length ram) (ep : length parity' ≡ length parity) (el : length log' ≡ length log) (eb : length buffer' ≡ length buffer) where
         pub turn_next : TurnLoop ram' parity' buffer' log' r (turn + 1)
         turn_next =
             let b = f landed₀ m₀ g.lands in
-            let cs = run_cycles (eqb (turn + 1) turns) (drop now.used xs) (run o count) in
+            let cs = run_cycles (eqb (turn + 1) (length order)) (drop now.used xs) (run o count) in
             let ys = drop now.used xs in
             let there : 0 < length ys = rw (length-drop now.used xs) (omega (arith, g.most, y.few, z.served)) in
-            let made : 0 < length cs = run_some (eqb (turn + 1) turns) ys (run o count) there in
+            let made : 0 < length cs = run_some (eqb (turn + 1) (length order)) ys (run o count) there in
             let left : drop (length cs) ys ≡ drop r.used xs = drop-drop (length cs) now.used xs ∙ ap (λ (i : ℕ). drop i xs) (sym b.made) in
             record {
               lands = b.lands;
-              rest = λ runs t r' m' buffer'' log'' k.
-                  let next = drop (turn + 1) runs in
-                  let all : cycles_of ys (drop turn runs) ≡ cs ++ cycles_of (drop r.used xs) next =
-                  ap (cycles_of ys) (t.each turn tl) ∙ cycles_run ys (run o count) next ∙ rw (t.last turn tl, left) in
-                  g.rest runs t r' m' buffer'' log'' (rw all (brought_append kind line first carried landed₀ m₀ cs (cycles_of (drop r.used xs) next) now r r' (memory ram' parity') m' buffer buffer' buffer'' log log' log'' b k));
+              rest = λ r' m' buffer'' log'' k.
+                  let next = drop (turn + 1) (turns order count) in
+                  let all : cycles_of ys (drop turn (turns order count)) ≡ cs ++ cycles_of (drop r.used xs) next =
+                  ap (cycles_of ys) (turn_first order count turn tl) ∙ cycles_run ys (run o count) next ∙ rw (turn_last order count turn tl, left) in
+                  g.rest r' m' buffer'' log'' (rw all (brought_append kind line first carried landed₀ m₀ cs (cycles_of (drop r.used xs) next) now r r' (memory ram' parity') m' buffer buffer' buffer'' log log' log'' b k));
               within = omega arith;
               some = omega (arith, g.some, b.made);
               most = omega (arith, g.most, y.most);
@@ -149,60 +165,26 @@ module _ (ram₀ parity₀ xs log₀ : List ℕ) (carried : CarriedWrites) (line
             }
 
     -- after the last turn
-    pub turn_end : {ram parity buffer log : List ℕ} {now : Brought} {turn : ℕ} → TurnLoop ram parity buffer log now turn → (turn < turns → ⊥) →
-        ((runs : List Run) → TurnsOf runs order turns count → Brings (cycles_of xs runs) (none_brought landed₀) now (memory ram parity) buffer₀ buffer log₀ log) × (turns ≤ now.used) × (now.used ≤ 16)
+    pub turn_end : {ram parity buffer log : List ℕ} {now : Brought} {turn : ℕ} → TurnLoop ram parity buffer log now turn → (turn < length order → ⊥) →
+        Brings (cycles_of xs (turns order count)) (none_brought landed₀) now (memory ram parity) buffer₀ buffer log₀ log × (length order ≤ now.used) × (now.used ≤ 16)
     unfolding records_of buffer_of words_of
     turn_end {ram} {parity} {buffer} {log} {now} {turn} g n =
-        let e : turn ≡ turns = omega (arith, g.within) in (
-          λ runs t.
-              let d : cycles_of (drop now.used xs) (drop turn runs) ≡ [] = ap (λ (i : ℕ). cycles_of (drop now.used xs) (drop i runs)) e ∙ ap (cycles_of (drop now.used xs)) t.done ∙ cycles_none (drop now.used xs) in
-              g.rest runs t now (memory ram parity) buffer log (rw d (record { made = omega arith; logs = refl; buffers = refl; lands = g.lands; spoils = λ h. h })),
+        let d : cycles_of (drop now.used xs) (drop turn (turns order count)) ≡ [] =
+        ap (cycles_of (drop now.used xs)) (turn_none order count turn (omega arith)) ∙ cycles_none (drop now.used xs) in (
+          g.rest now (memory ram parity) buffer log (rw d (record { made = omega arith; logs = refl; buffers = refl; lands = g.lands; spoils = λ h. h })),
           omega (arith, g.some),
           omega (arith, g.most, g.within, y.few),
         )
 
--- THE WANTED BYTES, AND A FILL
+-- A FILL
 
-module _ (start count : ℕ) (some : 0 < count) (lanes : start % 4 + count ≤ 4) (short : start < 16) where
-  abbrev alone : List ℕ
-  alone = start ∷ 0 ∷ 0 ∷ 0 ∷ []
-
-  pub one_turn_needs : TurnNeeds alone 1 count
-  one_turn_needs =
-      record {
-        few = omega arith;
-        some = some;
-        most = omega arith;
-        lanes = λ turn h. at_zero turn h lanes;
-        short = λ turn h. let e : turn ≡ 0 = omega arith in rw e short;
-      }
-    where
-      at_zero : (turn : ℕ) → turn < 1 → start % 4 + count ≤ 4 → get_or alone turn 0 % 4 + count ≤ 4
-      at_zero turn h l = let e : turn ≡ 0 = omega arith in rw e l
-
-  pub one_turn : TurnsOf (run start count ∷ []) alone 1 count
-  one_turn =
-      record {
-        each = λ turn h. let e : turn ≡ 0 = omega arith in rw e;
-        last = λ turn h. let e : turn ≡ 0 = omega arith in rw e;
-        done = refl;
-      }
-
-module _ (start : ℕ) (order : List ℕ) (eo : order ≡ burst_order (start * 4)) where
-  pub four_turns_needs : TurnNeeds order 4 4
-  four_turns_needs =
-      record {
-        few = omega arith;
-        some = omega arith;
-        most = omega arith;
-        lanes = λ turn h. let t = burst_turn start turn h in rw eo (omega (arith, t.whole.aligned));
-        short = λ turn h. rw eo (burst_turn start turn h).whole.inside;
-      }
-
-  pub four_turns : TurnsOf (burst start) order 4 4
-  four_turns =
-      record {
-        each = λ turn h. rw eo (burst_turn start turn h).next;
-        last = λ turn h. (burst_turn start turn h).last ∙ four (λ t. eqb t 3 ≡ eqb (t + 1) 4) refl refl refl refl turn h;
-        done = burst_done start 4 refl;
-      }
+pub four_turns_needs : (start : ℕ) → TurnNeeds (burst_order (start * 4)) 4
+four_turns_needs start =
+    let n = burst_length (start * 4) in
+    record {
+      few = omega arith;
+      some = omega arith;
+      most = omega arith;
+      lanes = λ turn h. let t = burst_turn start turn (omega arith) in omega (arith, t.whole.aligned);
+      short = λ turn h. (burst_turn start turn (omega arith)).whole.inside;
+    }

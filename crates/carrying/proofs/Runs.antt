@@ -1,5 +1,5 @@
 -- The loop over the cycles of some bytes of a doubleword: what is left from here completes the whole.
-use Prim.Native.Nat.{ℕ, suc, ◌+◌, ◌*◌, ◌-◌, ◌%◌, ◌≤◌, ◌<◌}
+use Prim.Native.Nat.{ℕ, suc, ◌+◌, ◌-◌, ◌%◌, ◌≤◌, ◌<◌}
 use mathlib.Core.Path.{◌≡◌, refl, sym, ◌∙◌, ap}
 use mathlib.Core.Bool.{Bool, true, false, ◌&&◌}
 use mathlib.Core.List.{List, [], ◌∷◌, ◌++◌}
@@ -10,7 +10,6 @@ use lib.Seq.{drop-cons}
 use borrow.Author.Tests.{eqb-true, eqb-false}
 use Rattle.memory.specs.Parity.{Memory, memory}
 use Rattle.carried.specs.declared.CarriedWrites.{CarriedWrites}
-use Rattle.carried.specs.CarriedCode.{CarriedNeeds}
 use Rattle.bus.specs.Bus.{run, size_of, Cycle}
 use Rattle.bus.specs.Runs.{run_cycles}
 use Rattle.bus.proofs.Runs.{step_one, step_then}
@@ -45,50 +44,12 @@ module _ (ram₀ parity₀ xs buffer₀ log₀ : List ℕ) (carried : CarriedWri
     pub buffers : length buffer ≡ length buffer₀
 
   module _ (z : RunNeeds line from count first at.used (length ram₀) (length parity₀) (length xs) (length log₀)) where
-    pub run_begin : at.landed ≤ carried.count → RunLoop ram₀ parity₀ buffer₀ log₀ at from count
-    run_begin h =
-        record {
-          completes = λ place m₀ g. record { lands = g; rest = λ r m' buffer' log' c. c };
-          some = z.some;
-          lanes = z.lanes;
-          short = z.short;
-          above = omega arith;
-          most = omega arith;
-          within = h;
-          rams = refl;
-          parities = refl;
-          logs = refl;
-          buffers = refl;
-        }
-
     module _ {ram parity buffer log : List ℕ} {now : Brought} {next left : ℕ} (g : RunLoop ram parity buffer log now next left) where
-      pub land_needs : CarriedNeeds carried (length ram₀) (length parity₀) → (now.landed ≤ carried.count) × (first + now.used ≤ 64) × CarriedNeeds carried (length ram) (length parity)
-      land_needs k = (g.within, omega (arith, g.most, g.some, z.few, z.lanes), rw (g.rams, g.parities) k)
-
       module _ {b : Brought} {ram' parity' : List ℕ} (l : LandsDue carried line (first + now.used) now b (memory ram parity) (memory ram' parity')) (er : length ram' ≡ length ram) (ep : length parity' ≡ length parity) where
         pub answer_there : b.used < length xs
         answer_there = omega (arith, l.same, g.most, g.some, z.served)
 
-        pub place_small : first + b.used ≤ 64
-        place_small = omega (arith, l.same, g.most, g.some, z.few, z.lanes)
-
         module _ (size : ℕ) (es : size ≡ size_of (get_or xs b.used 0) (run next left)) (positive : 0 < size) (fits : size ≤ left) where
-          pub move_needs : kind ≤ 32 → length buffer₀ ≡ 16 →
-              (line % 16 ≡ 0) × (line + 16 ≤ length ram') × (length ram' ≤ 16777216) × (length ram' ≤ 4 * length parity') × (0 < size) × (next % 4 + size ≤ 4) × (next < 16) × (kind ≤ 32) × (3 * (first + b.used) + 3 ≤ length log) × (b.used < 64) × (length buffer ≡ 16)
-          move_needs k sixteen = (
-            z.aligned,
-            omega (arith, g.rams, z.inside),
-            omega (arith, g.rams, z.small),
-            omega (arith, g.rams, g.parities, z.bits),
-            positive,
-            omega (arith, g.lanes),
-            g.short,
-            k,
-            omega (arith, l.same, g.most, g.some, g.logs, z.records),
-            omega (arith, l.same, g.most, g.some, z.few, z.lanes),
-            g.buffers ∙ sixteen,
-          )
-
           module _ {r : Brought} {buffer' log' : List ℕ} (v : MovesBytes kind (memory ram' parity') line next size (eqb size left && last) (first + b.used) b r buffer buffer' log log') (el : length log' ≡ length log) (eb : length buffer' ≡ length buffer) where
             -- the answers left
             answers_left : drop now.used xs ≡ get_or xs b.used 0 ∷ drop r.used xs

@@ -1,14 +1,12 @@
 -- What the parts of the code of a read that carries writes leave. The writes have the bytes that RAM takes of them, so that no range is asked here.
-use Rattle.std.specs.Prelude.{ℕ, suc, ◌+◌, ◌*◌, ◌-◌, ◌%◌, ◌^◌, ◌≤◌, ◌<◌, ◌≡◌, Bool, false, cond, not, ◌&&◌, ◌||◌, List, [], ◌∷◌, eqb, ltb, length, get_or, drop, replicate}
+use Rattle.std.specs.Prelude.{ℕ, suc, ◌+◌, ◌*◌, ◌-◌, ◌%◌, ◌^◌, ◌≤◌, ◌<◌, ◌≡◌, Bool, false, cond, not, ◌&&◌, ◌||◌, List, [], ◌∷◌, ltb, length, get_or, map, replicate, Option, Some, None}
 use Rattle.ways.specs.Address.{data_offset}
-use Rattle.ways.specs.declared.ways.Found.{Found}
-use Rattle.ways.specs.declared.ways.Found.TheVariants.{At, Nothing}
 use Rattle.words.specs.Bytes.{bytes_at, value_of}
 use Rattle.memory.specs.Parity.{Memory}
 use Rattle.carried.specs.declared.CarriedWrites.{CarriedWrites}
 use Rattle.carried.specs.Carried.{Carried, due, later, landed, memory_at, in_line}
 use Rattle.carried.specs.CarriedCode.{writes_from, left_from, CarriedNeeds}
-use Rattle.bus.specs.Bus.{Run, run, Cycle, none, buffer_after}
+use Rattle.bus.specs.Bus.{Run, run, Cycle, buffer_after}
 use Rattle.bus.specs.Groups.{group_size}
 use Rattle.bus.specs.Record.{Record, read_record, logged}
 use Rattle.parts.specs.Parts.{moving}
@@ -95,19 +93,16 @@ pub record MissNeeds (carried : CarriedWrites) (line first from ram parity answe
   pub within : from ≤ carried.count
   pub due : due first (left_from carried from) ≡ []
 
--- So many turns, each of so many bytes of a doubleword, from the offset that an order names for it.
-pub record TurnNeeds (order : List ℕ) (turns count : ℕ) : Type 0 where
-  pub few : turns ≤ 4
+-- Turns, each of so many bytes of a doubleword, from the offset that an order names for it.
+abbrev pub turns : List ℕ → ℕ → List Run
+turns order count = map (λ from. run from count) order
+
+pub record TurnNeeds (order : List ℕ) (count : ℕ) : Type 0 where
+  pub few : length order ≤ 4
   pub some : 0 < count
   pub most : count ≤ 4
-  pub lanes : (turn : ℕ) → turn < turns → get_or order turn 0 % 4 + count ≤ 4
-  pub short : (turn : ℕ) → turn < turns → get_or order turn 0 < 16
-
--- The turns are those of runs.
-pub record TurnsOf (runs : List Run) (order : List ℕ) (turns count : ℕ) : Type 0 where
-  pub each : (turn : ℕ) → turn < turns → drop turn runs ≡ run (get_or order turn 0) count ∷ drop (turn + 1) runs
-  pub last : (turn : ℕ) → turn < turns → none (drop (turn + 1) runs) ≡ eqb (turn + 1) turns
-  pub done : drop turns runs ≡ []
+  pub lanes : (turn : ℕ) → turn < length order → get_or order turn 0 % 4 + count ≤ 4
+  pub short : (turn : ℕ) → turn < length order → get_or order turn 0 < 16
 
 -- What the lookup and the cycles of a doubleword brought, by what the lookup found.
 pub record Begun : Type 0 where
@@ -116,15 +111,15 @@ pub record Begun : Type 0 where
   pub bytes : List ℕ
   pub records : List Record
 
-unfoldable pub begun_by : Found → Bool → Memory → List Carried → ℕ → List ℕ → Doubleword → Begun
-begun_by (At way) mayFill m ws first array w =
+unfoldable pub begun_by : Option ℕ → Bool → Memory → List Carried → ℕ → List ℕ → Doubleword → Begun
+begun_by (Some way) mayFill m ws first array w =
     record {
       kept = false;
       buffer = replicate 16 0;
       bytes = bytes_at array (data_offset w.line way + w.wanted.from) w.wanted.count;
       records = [];
     }
-begun_by Nothing mayFill m ws first array w =
+begun_by None mayFill m ws first array w =
     let missed = read_miss mayFill [] m ws first w in
     record {
       kept = missed.kept;
@@ -134,7 +129,7 @@ begun_by Nothing mayFill m ws first array w =
     }
 
 -- What the code hands back, from what was found and brought.
-abbrev pub carried_read : ℕ → Found → Brought → Bool → List ℕ → ℕ → ℕ → CarriedRead
+abbrev pub carried_read : ℕ → Option ℕ → Brought → Bool → List ℕ → ℕ → ℕ → CarriedRead
 carried_read line f b ken buffer count value =
     record {
       line = line;
@@ -153,7 +148,7 @@ abbrev pub keeps : CarriedRead → Bool
 keeps r = not r.spoiled && r.ken
 
 -- What the code hands back and leaves for that.
-pub record CarriedNext (f : Found) (b : Begun) (carried : CarriedWrites) (from : ℕ) (m₀ : Memory) (cursor : AccessCursor) (log₀ : List ℕ) (r : CarriedRead) (m : Memory) (log : List ℕ) : Type 0 where
+pub record CarriedNext (f : Option ℕ) (b : Begun) (carried : CarriedWrites) (from : ℕ) (m₀ : Memory) (cursor : AccessCursor) (log₀ : List ℕ) (r : CarriedRead) (m : Memory) (log : List ℕ) : Type 0 where
   pub line : r.line ≡ line_address cursor
   pub counts : r.count ≡ count_of cursor
   pub founds : r.found ≡ f
@@ -167,14 +162,14 @@ pub record CarriedNext (f : Found) (b : Begun) (carried : CarriedWrites) (from :
   pub lands : LandedTo carried from m₀ (cursor.cycles + r.cycles) m r.landed
 
 -- The directory's change at the end of a doubleword: a kept fill, or a use of the way that was found.
-abbrev pub use_of : Found → Change
-use_of (At way) = Use way
-use_of Nothing = Unchanged
+abbrev pub use_of : Option ℕ → Change
+use_of (Some way) = Use way
+use_of None = Unchanged
 
-abbrev pub settled_change : Bool → ℕ → Found → Change
+abbrev pub settled_change : Bool → ℕ → Option ℕ → Change
 settled_change kept victim f = cond kept (Fill victim) (use_of f)
 
 -- A way that was found is below 4.
-abbrev pub FoundBelow : Found → Type 0
-FoundBelow (At way) = way < 4
-FoundBelow Nothing = Unit {0}
+abbrev pub FoundBelow : Option ℕ → Type 0
+FoundBelow (Some way) = way < 4
+FoundBelow None = Unit {0}

@@ -1,28 +1,14 @@
 // The cycles of a miss, with the writes that land before each.
-ghost use Rattle.std.specs.Prelude.{◌≡◌, false, List, [], ◌∷◌, ◌+◌, ◌*◌, ◌%◌, ◌≤◌, ◌<◌, length, replicate};
-ghost use Rattle.memory.specs.Parity.{lent_memory};
-ghost use Rattle.carried.specs.Carried.{due};
-ghost use Rattle.carried.specs.CarriedCode.{CarriedNeeds, left_from};
-ghost use Rattle.bus.specs.Bus.{Run, burst, cycles_of, run};
+ghost use Rattle.std.specs.Prelude.{◌≡◌, [], ◌∷◌, ◌+◌, ◌*◌, ◌%◌, ◌≤◌, ◌<◌, length, replicate};
+ghost use Rattle.memory.specs.Parity.{memory};
+ghost use Rattle.bus.specs.Bus.{burst, cycles_of, run};
 ghost use Rattle.bus.specs.Groups.{group_size};
-ghost use Rattle.bus.specs.Record.{fill_kind, plain_kind};
-ghost use Rattle.carrying.specs.CarryingCode.{CyclesBrought, MissNeeds, TurnNeeds, TurnsOf, none_brought};
+ghost use Rattle.bus.specs.Record.{fill_kind, kind_flag, plain_kind};
+ghost use Rattle.carrying.specs.CarryingCode.{CyclesBrought, MissNeeds, TurnNeeds, none_brought, turns};
 
 use crate::cycle::Brought;
-use crate::run::run_cycles;
-use bus::burst_order;
+use bus::{Kind, burst_order};
 use carried::CarriedWrites;
-
-// Before the first cycle of a doubleword: nothing is brought.
-fn none_brought(landed: usize) -> Brought
-    ensures { result ≡ none_brought landed }
-{
-    Brought {
-        used: 0,
-        landed,
-        spoiled: false,
-    }
-}
 
 // The cycles of some turns, each of so many bytes from the offset that order names for it.
 fn turn_cycles(
@@ -33,22 +19,19 @@ fn turn_cycles(
     log: &mut [u32],
     carried: CarriedWrites,
     line: u32,
-    order: [usize; 4],
-    turns: usize,
+    order: &[usize],
     count: usize,
-    kind: u32,
+    kind: Kind,
     first: usize,
     landed: usize,
 ) -> Brought
-    requires { MissNeeds carried line first landed (length ram.old) (length parity.old) (length answers.now) (length log.old) × (buffer.old ≡ replicate 16 0) × TurnNeeds order turns count × (kind ≤ 32) }
-    ensures { ((runs : List Run) → TurnsOf runs order turns count
-        → CyclesBrought kind line first carried landed (lent_memory ram.old parity.old) (cycles_of answers.now runs) (none_brought landed) result (lent_memory ram.new parity.new) (replicate 16 0) buffer.new log.old log.new)
-        × (turns ≤ result.used) × (result.used ≤ group_size) }
+    requires { MissNeeds carried line first landed (length ram.old) (length parity.old) (length answers.now) (length log.old) × (buffer.old ≡ replicate 16 0) × TurnNeeds order.now count }
+    ensures { CyclesBrought (kind_flag kind) line first carried landed (memory ram.old parity.old) (cycles_of answers.now (turns order.now count)) (none_brought landed) result (memory ram.new parity.new) (replicate 16 0) buffer.new log.old log.new
+        × (length order.now ≤ result.used) × (result.used ≤ group_size) }
 {
-    let mut now = none_brought(landed);
-    let mut turn: usize = 0;
-    while turn < turns {
-        now = run_cycles(
+    let mut now = Brought::begin(landed);
+    for (turn, from) in order.iter().enumerate() {
+        now = now.run_cycles(
             ram,
             parity,
             &answers[..],
@@ -56,14 +39,12 @@ fn turn_cycles(
             log,
             carried,
             line,
-            order[turn],
+            *from,
             count,
             kind,
-            turn + 1 == turns,
+            turn + 1 == order.len(),
             first,
-            now,
         );
-        turn += 1;
     }
     now
 }
@@ -83,9 +64,9 @@ pub fn plain_miss(
     landed: usize,
 ) -> Brought
     requires { MissNeeds carried line first landed (length ram.old) (length parity.old) (length answers.now) (length log.old) × (buffer.old ≡ replicate 16 0) × (0 < count) × (from % 4 + count ≤ 4) × (from < 16) }
-    ensures { CyclesBrought plain_kind line first carried landed (lent_memory ram.old parity.old) (cycles_of answers.now (run from count ∷ [])) (none_brought landed) result (lent_memory ram.new parity.new) (replicate 16 0) buffer.new log.old log.new × (result.used ≤ group_size) }
+    ensures { CyclesBrought plain_kind line first carried landed (memory ram.old parity.old) (cycles_of answers.now (run from count ∷ [])) (none_brought landed) result (memory ram.new parity.new) (replicate 16 0) buffer.new log.old log.new × (result.used ≤ group_size) }
 {
-    let order = [from, 0, 0, 0];
+    let order = [from];
     turn_cycles(
         ram,
         parity,
@@ -94,10 +75,9 @@ pub fn plain_miss(
         log,
         carried,
         line,
-        order,
-        1,
+        &order[..],
         count,
-        0,
+        Kind::Plain,
         first,
         landed,
     )
@@ -117,7 +97,7 @@ pub fn fill_miss(
     landed: usize,
 ) -> Brought
     requires { MissNeeds carried line first landed (length ram.old) (length parity.old) (length answers.now) (length log.old) × (buffer.old ≡ replicate 16 0) × (start < 4) }
-    ensures { CyclesBrought fill_kind line first carried landed (lent_memory ram.old parity.old) (cycles_of answers.now (burst start)) (none_brought landed) result (lent_memory ram.new parity.new) (replicate 16 0) buffer.new log.old log.new × (0 < result.used) × (result.used ≤ group_size) }
+    ensures { CyclesBrought fill_kind line first carried landed (memory ram.old parity.old) (cycles_of answers.now (burst start)) (none_brought landed) result (memory ram.new parity.new) (replicate 16 0) buffer.new log.old log.new × (0 < result.used) × (result.used ≤ group_size) }
 {
     let order = burst_order(start * 4);
     turn_cycles(
@@ -128,10 +108,9 @@ pub fn fill_miss(
         log,
         carried,
         line,
-        order,
+        &order[..],
         4,
-        4,
-        32,
+        Kind::Fill,
         first,
         landed,
     )

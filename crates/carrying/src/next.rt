@@ -1,10 +1,9 @@
 // The next doubleword of a read that carries writes.
-ghost use Rattle.std.specs.Prelude.{◌≡◌, [], false, ◌+◌, ◌*◌, ◌/◌, ◌%◌, ◌^◌, ◌≤◌, ◌<◌, length, replicate};
+ghost use Rattle.std.specs.Prelude.{◌≡◌, [], false, ◌+◌, ◌*◌, ◌/◌, ◌%◌, ◌^◌, ◌≤◌, ◌<◌, length, replicate, Some, None};
 ghost use Rattle.ways.specs.Address.{data_offset, data_size, set_of};
-ghost use Rattle.ways.specs.declared.ways.Found.TheVariants.{At, Nothing};
 ghost use Rattle.ways.specs.Ways.{lookup_in, victim_in};
 ghost use Rattle.words.specs.Bytes.{bytes_at, value_of};
-ghost use Rattle.memory.specs.Parity.{lent_memory};
+ghost use Rattle.memory.specs.Parity.{memory};
 ghost use Rattle.carried.specs.Carried.{due};
 ghost use Rattle.carried.specs.CarriedCode.{CarriedNeeds, left_from};
 ghost use Rattle.doubleword.specs.DoublewordCode.{BelowFour};
@@ -16,7 +15,7 @@ use crate::cycle::Brought;
 use crate::miss::{fill_miss, plain_miss};
 use carried::CarriedWrites;
 use doubleword::{AccessCursor, Change, Wanted};
-use ways::{Found, LINES, SETS, data_offset};
+use ways::{LINES, SETS, data_offset};
 use words::{copy_line, value_at};
 
 // What the lookup and the cycles of a doubleword brought: its line, what was found, whether the line buffer is a fill whose last answer
@@ -25,7 +24,7 @@ use words::{copy_line, value_at};
 #[derive(Clone, Copy)]
 pub struct CarriedRead {
     pub line: u32,
-    pub found: Found,
+    pub found: Option<usize>,
     pub ken: bool,
     pub spoiled: bool,
     pub buffer: [u8; 16],
@@ -47,12 +46,12 @@ fn number_at(src: &[u8], at: usize, count: usize) -> u32
 fn hit_read(data: &[u8], w: Wanted, way: usize, landed: usize) -> CarriedRead
     requires { (way < 4) × (length «data».now ≡ data_size) × (0 < w.count) × (w.from % 4 + w.count ≤ 4) × (w.from < 16) }
     ensures { (result.value ≡ value_of (bytes_at «data».now (data_offset w.line way + w.from) w.count)) × (result.value < 256 ^ w.count)
-        × (result ≡ carried_read w.line (At way) (none_brought landed) false (replicate 16 0) w.count result.value) }
+        × (result ≡ carried_read w.line (Some way) (none_brought landed) false (replicate 16 0) w.count result.value) }
 {
     let value = number_at(data, data_offset(w.line, way) + w.from, w.count);
     CarriedRead {
         line: w.line,
-        found: Found::At(way),
+        found: Some(way),
         ken: false,
         spoiled: false,
         buffer: [0; 16],
@@ -67,12 +66,12 @@ fn hit_read(data: &[u8], w: Wanted, way: usize, landed: usize) -> CarriedRead
 fn miss_read(w: Wanted, brought: Brought, buffer: [u8; 16], ken: bool) -> CarriedRead
     requires { (0 < w.count) × (w.from % 4 + w.count ≤ 4) × (w.from < 16) }
     ensures { (result.value ≡ value_of (bytes_at buffer w.from w.count)) × (result.value < 256 ^ w.count)
-        × (result ≡ carried_read w.line Nothing brought ken buffer w.count result.value) }
+        × (result ≡ carried_read w.line None brought ken buffer w.count result.value) }
 {
     let value = number_at(&buffer[..], w.from, w.count);
     CarriedRead {
         line: w.line,
-        found: Found::Nothing,
+        found: None,
         ken,
         spoiled: brought.spoiled,
         buffer,
@@ -101,13 +100,13 @@ pub fn carried_next<'a>(
     requires { (0 < cursor.left) × AccessNeeds cursor (length ram.old) (length parity.old) (length «data».now) (length answers.now) (length log.old)
         × CarriedNeeds carried (length ram.old) (length parity.old) × (landed ≤ carried.count) × (due cursor.cycles (left_from carried landed) ≡ []) }
     ensures { CarriedNext (lookup_in tags.now valid.now (line_address cursor))
-        (begun_by (lookup_in tags.now valid.now (line_address cursor)) may_fill (lent_memory ram.old parity.old) (left_from carried landed) cursor.cycles «data».now (next_doubleword cursor answers.now))
-        carried landed (lent_memory ram.old parity.old) cursor log.old result (lent_memory ram.new parity.new) log.new }
+        (begun_by (lookup_in tags.now valid.now (line_address cursor)) may_fill (memory ram.old parity.old) (left_from carried landed) cursor.cycles «data».now (next_doubleword cursor answers.now))
+        carried landed (memory ram.old parity.old) cursor log.old result (memory ram.new parity.new) log.new }
 {
     let w = cursor.wanted();
     let group = cursor.group_of(answers);
     let line = w.line;
-    if let Found::At(way) = ways::lookup(tags, valid, line) {
+    if let Some(way) = ways::lookup(tags, valid, line) {
         return hit_read(data, w, way, landed);
     }
     let mut buffer = [0u8; 16];
@@ -145,12 +144,12 @@ pub fn carried_next<'a>(
 }
 
 // A use of the way that was found.
-fn use_of(found: Found) -> Change
+fn use_of(found: Option<usize>) -> Change
     ensures { result ≡ use_of found }
 {
     match found {
-        Found::At(way) => Change::Use(way),
-        Found::Nothing => Change::Unchanged,
+        Some(way) => Change::Use(way),
+        None => Change::Unchanged,
     }
 }
 

@@ -1,4 +1,5 @@
 -- Laws of the loops over the doublewords of a read that carries writes, by the bytes that RAM takes of each: no range is asked in them.
+use Rattle.std.specs.Prelude.{Option, Some, None}
 use Prim.Native.Nat.{ℕ, ◌+◌, ◌*◌, ◌^◌, ◌≤◌, ◌<◌}
 use mathlib.Core.Path.{◌≡◌, refl, sym, ◌∙◌, ap}
 use mathlib.Core.Bool.{Bool, not, ◌&&◌}
@@ -6,8 +7,6 @@ use mathlib.Core.List.{List, []}
 use native.Mathlib.Omega.{arith}
 use lib.ListN.{length}
 use Rattle.ways.specs.Address.{set_of}
-use Rattle.ways.specs.declared.ways.Found.{Found}
-use Rattle.ways.specs.declared.ways.Found.TheVariants.{At, Nothing}
 use Rattle.ways.proofs.FourWays.{lookup_below}
 use Rattle.directory.specs.declared.steps.Directory.{Directory}
 use Rattle.directory.specs.Outcome.{outcome}
@@ -49,7 +48,7 @@ record Whole (done : Done) (b : Begun) (change : Change) (m' : Memory) (array' :
   records : b.records ≡ done.records
 
 -- `victim`: by the directory after so many cycles, which a hit does not ask
-in_stages : (f : Found) (victim : ℕ → ℕ) (mayFill : Bool) (m : Memory) (ws : List Carried) (first : ℕ) (array : List ℕ) (w : Doubleword) → due first ws ≡ [] →
+in_stages : (f : Option ℕ) (victim : ℕ → ℕ) (mayFill : Bool) (m : Memory) (ws : List Carried) (first : ℕ) (array : List ℕ) (w : Doubleword) → due first ws ≡ [] →
     let b = begun_by f mayFill m ws first array w in
     let n = length b.records in
     Whole (read_done f (victim (length (read_miss mayFill [] m ws first w).records)) mayFill [] m ws first array w) b
@@ -57,15 +56,15 @@ in_stages : (f : Found) (victim : ℕ → ℕ) (mayFill : Bool) (m : Memory) (ws
     (landed [] (due (first + n) ws) m)
     (kept_array b.kept (victim n) w.line b.buffer array)
 unfolding begun_by read_done read_hit settled landed
-in_stages (At way) victim mayFill m ws first array w none =
+in_stages (Some way) victim mayFill m ws first array w none =
     let e : first + 0 ≡ first = omega arith in
     record { changes = refl; memories = rw (e, none); arrays = refl; bytes = refl; records = refl }
-in_stages Nothing victim mayFill m ws first array w none = record { changes = refl; memories = refl; arrays = refl; bytes = refl; records = refl }
+in_stages None victim mayFill m ws first array w none = record { changes = refl; memories = refl; arrays = refl; bytes = refl; records = refl }
 
 -- a way that the lookup finds is below 4
-pub found_below : (d : Directory) (a : ℕ) (f : Found) → f ≡ lookup_of d a → FoundBelow f
-found_below d a (At way) e = lookup_below d.tags d.valid a way (sym e)
-found_below d a Nothing e = tt
+pub found_below : (d : Directory) (a : ℕ) (f : Option ℕ) → f ≡ lookup_of d a → FoundBelow f
+found_below d a (Some way) e = lookup_below d.tags d.valid a way (sym e)
+found_below d a None e = tt
 
 module _ (pcd : Bool) (xs : List ℕ) (carried : CarriedWrites) (cursor : AccessCursor) (d : Directory) (m : Memory) (array log : List ℕ) (from : ℕ) where
   abbrev u : UnderWay
@@ -74,7 +73,7 @@ module _ (pcd : Bool) (xs : List ℕ) (carried : CarriedWrites) (cursor : Access
   abbrev w : Doubleword
   w = next_doubleword cursor xs
 
-  abbrev found : Found
+  abbrev found : Option ℕ
   found = lookup_of d (line_address cursor)
 
   abbrev begun : Begun

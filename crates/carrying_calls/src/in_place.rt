@@ -1,8 +1,8 @@
 // The read call that carries writes on a directory whose arrays are lent: nothing of the directory is copied.
 ghost use Rattle.std.specs.Prelude.{◌≡◌, Bool, List, ℕ, ◌≤◌, length};
 ghost use Rattle.ranges.specs.declared.Ranges.{Ranges};
-ghost use Rattle.ranges.specs.Ranges.{lent_ranges};
-ghost use Rattle.directory.specs.Steps.{directory_of, lent_directory};
+ghost use Rattle.ranges.specs.Ranges.{kept_ranges};
+ghost use Rattle.directory.specs.Steps.{directory_of};
 ghost use Rattle.carried.specs.CarriedCode.{carried_of};
 ghost use Rattle.refusal.specs.Refusal.{argument_number, carried_number, carried_states_number_in, kept_number, lent_number, or_else, states_number_in};
 ghost use Rattle.refusal.specs.Call.{lent_state};
@@ -12,12 +12,12 @@ ghost use Rattle.carrying_calls.specs.CarryingCalls.{EndNeeds, Ended, snooped_to
 use access::{CallResult, number_only};
 use carried::{CarriedWrites, land, taken_writes};
 use carrying::{CarriedRead, carried_next, settle};
+use directory::invalidate_in_place;
 use doubleword::{AccessCursor, change_in_place};
-use ranges::BOUNDS;
+use ranges::Kept;
 use reading::with_part;
 use refusal::read_carrying_number;
-use steps_in_place::invalidate_in_place;
-use ways::{LINES, SETS};
+use ways::{Arrays, LINES, SETS};
 
 // The snoops of the writes of some places, in list order.
 fn snoop_in_place<'a>(
@@ -32,10 +32,8 @@ fn snoop_in_place<'a>(
     ensures { (lru : List ℕ) (cd : Bool) (ranges : Ranges) → directory_of tags.now valid.new lru cd nw ranges
         ≡ snooped_to carried from to (directory_of tags.now valid.old lru cd nw ranges) }
 {
-    let mut k = from;
-    while k < to {
+    for k in from..to {
         invalidate_in_place(tags, valid, nw, carried.addresses[k]);
-        k += 1;
     }
 }
 
@@ -52,8 +50,8 @@ fn end_in_place<'a>(
     read: CarriedRead,
 )
     requires { EndNeeds carried from read (length «data».old) }
-    ensures { (cd : Bool) (ranges : Ranges) → Ended carried from read (lent_directory tags.old valid.old lru.old cd nw ranges) «data».old
-        (lent_directory tags.new valid.new lru.new cd nw ranges) «data».new }
+    ensures { (cd : Bool) (ranges : Ranges) → Ended carried from read (directory_of tags.old valid.old lru.old cd nw ranges) «data».old
+        (directory_of tags.new valid.new lru.new cd nw ranges) «data».new }
 {
     snoop_in_place(tags, valid, nw, carried, from, read.landed);
     let kept = !read.spoiled & read.ken;
@@ -62,14 +60,13 @@ fn end_in_place<'a>(
 }
 
 // The doublewords of a read whose number is 0, and the writes left after them, by the bytes that RAM takes of each.
-fn read_accepted<'a>(
+fn read_accepted<'a, 'b>(
     tags: &'a mut [u32; LINES],
     valid: &'a mut [bool; LINES],
     lru: &'a mut [u8; SETS],
     cd: bool,
     nw: bool,
-    range_count: u32,
-    bounds: &'a [u32; BOUNDS],
+    ranges: Kept<'b>,
     ram: &mut [u8],
     parity: &mut [u8],
     data: &mut [u8],
@@ -83,12 +80,12 @@ fn read_accepted<'a>(
     requires { or_else (lent_number (length ram.old) (length parity.old) (length «data».old))
         (or_else (argument_number (length ram.old) address width answers.now (length log.old))
         (or_else (carried_number (length ram.old) (carried_of carried))
-        (or_else (kept_number (length ram.old) (lent_ranges range_count bounds.now))
+        (or_else (kept_number (length ram.old) (kept_ranges ranges))
         (or_else (states_number_in tags.old valid.old lru.old address width) (carried_states_number_in tags.old valid.old lru.old (carried_of carried)))))) ≡ 0 }
-    ensures { leaves result (lent_state tags.new valid.new lru.new cd nw (lent_ranges range_count bounds.now) ram.new parity.new «data».new) log.new
-        ≡ read_call (lent_state tags.old valid.old lru.old cd nw (lent_ranges range_count bounds.now) ram.old parity.old «data».old) address width pcd answers.now log.old (carried_of carried) }
+    ensures { leaves result (lent_state tags.new valid.new lru.new cd nw (kept_ranges ranges.entry) ram.new parity.new «data».new) log.new
+        ≡ read_call (lent_state tags.old valid.old lru.old cd nw (kept_ranges ranges.entry) ram.old parity.old «data».old) address width pcd answers.now log.old (carried_of carried) }
 {
-    let taken = taken_writes(carried, range_count, bounds);
+    let taken = taken_writes(carried, ranges);
     let mut value: u64 = 0;
     let mut landed: usize = 0;
     let mut cursor = AccessCursor::begin(address, width);
@@ -121,14 +118,13 @@ fn read_accepted<'a>(
     }
 }
 
-pub fn read_carrying_in_place<'a>(
+pub fn read_carrying_in_place<'a, 'b>(
     tags: &'a mut [u32; LINES],
     valid: &'a mut [bool; LINES],
     lru: &'a mut [u8; SETS],
     cd: bool,
     nw: bool,
-    range_count: u32,
-    bounds: &'a [u32; BOUNDS],
+    ranges: Kept<'b>,
     ram: &mut [u8],
     parity: &mut [u8],
     data: &mut [u8],
@@ -139,15 +135,12 @@ pub fn read_carrying_in_place<'a>(
     log: &mut [u32],
     carried: CarriedWrites,
 ) -> CallResult
-    ensures { leaves result (lent_state tags.new valid.new lru.new cd nw (lent_ranges range_count bounds.now) ram.new parity.new «data».new) log.new
-        ≡ read_call (lent_state tags.old valid.old lru.old cd nw (lent_ranges range_count bounds.now) ram.old parity.old «data».old) address width pcd answers.now log.old (carried_of carried) }
+    ensures { leaves result (lent_state tags.new valid.new lru.new cd nw (kept_ranges ranges.entry) ram.new parity.new «data».new) log.new
+        ≡ read_call (lent_state tags.old valid.old lru.old cd nw (kept_ranges ranges.entry) ram.old parity.old «data».old) address width pcd answers.now log.old (carried_of carried) }
 {
     let number = read_carrying_number(
-        tags,
-        valid,
-        lru,
-        range_count,
-        bounds,
+        Arrays { tags, valid, lru },
+        ranges,
         ram,
         parity,
         data,
@@ -157,25 +150,24 @@ pub fn read_carrying_in_place<'a>(
         log,
         carried,
     );
-    if number != 0 {
-        return number_only(number);
+    match number {
+        Err(refusal) => number_only(refusal.number()),
+        Ok(()) => read_accepted(
+            tags,
+            valid,
+            lru,
+            cd,
+            nw,
+            ranges,
+            ram,
+            parity,
+            data,
+            address,
+            width,
+            pcd,
+            &answers[..],
+            log,
+            carried,
+        ),
     }
-    read_accepted(
-        tags,
-        valid,
-        lru,
-        cd,
-        nw,
-        range_count,
-        bounds,
-        ram,
-        parity,
-        data,
-        address,
-        width,
-        pcd,
-        &answers[..],
-        log,
-        carried,
-    )
 }

@@ -3,7 +3,6 @@ use Prim.Native.Nat.{ℕ, suc, ◌/◌, ◌%◌, ◌<◌, ◌≤◌}
 use mathlib.Core.Path.{◌≡◌, refl, ◌∙◌}
 use mathlib.Core.Bool.{Bool, true, false, true≢false}
 use mathlib.Core.List.{List, [], ◌∷◌}
-use mathlib.Core.Option.{Option, none, some}
 use native.Mathlib.Omega.{arith}
 use lib.ListN.{replicate, length-replicate}
 use Rattle.laws.proofs.Below.{four}
@@ -16,8 +15,10 @@ use Rattle.calls.specs.Plain.{PlainMemory, plain_memory}
 use Rattle.calls.specs.Matches.{Kind, test_writing, test_reading, emptying, reading, setting, other, kind_of, testing, plants, alters, sets_nw, SameResults}
 use Rattle.board.specs.Board.{block_answers, GoodTable}
 use Rattle.fields.specs.Fields.{lines_of}
+use Rattle.std.specs.Prelude.{Option, Some, None}
+use Rattle.std.specs.Option.{option_map}
 use Rattle.lines.specs.declared.Event.{Event}
-use Rattle.lines.specs.declared.Event.TheVariants.{Malformed, Read, Write, External, Snoop, Flush, Control, Reset}
+use Rattle.lines.specs.declared.Event.TheVariants.{Read, Write, External, Snoop, Flush, Control, Reset}
 use Rattle.lines.specs.Scan.{scanned}
 use Rattle.performing.specs.Perform.{call_of, line_call, call_done, line_done}
 use Rattle.events.specs.Output.{rows_of, start, output_of}
@@ -33,19 +34,19 @@ use Rattle.agreement.proofs.Demand.{start_coherent}
 
 -- no event of a line makes a test call
 abbrev line_tests : Option Call → Bool
-line_tests none = false
-line_tests (some c) = testing (kind_of c)
+line_tests None = false
+line_tests (Some c) = testing (kind_of c)
 
-no_test : (table line : List ℕ) (e : Event) → line_tests (call_of table line e) ≡ false
+no_test : (table line : List ℕ) (e : Option Event) → line_tests (option_map (call_of table line) e) ≡ false
 unfolding call_of
-no_test table line Malformed = refl
-no_test table line (Read address width pcd) = refl
-no_test table line (Write address width value) = refl
-no_test table line (External address from) = refl
-no_test table line (Snoop address) = refl
-no_test table line Flush = refl
-no_test table line (Control cd nw) = refl
-no_test table line Reset = refl
+no_test table line None = refl
+no_test table line (Some (Read address width pcd)) = refl
+no_test table line (Some (Write address width value)) = refl
+no_test table line (Some (External address from)) = refl
+no_test table line (Some (Snoop address)) = refl
+no_test table line (Some Flush) = refl
+no_test table line (Some (Control cd nw)) = refl
+no_test table line (Some Reset) = refl
 
 -- so none plants a line
 no_plant : (k : Kind) (number : ℕ) → testing k ≡ false → plants k number ≡ false
@@ -58,19 +59,19 @@ no_plant other number t = refl
 
 -- none sets a range
 abbrev line_sets : Option Call → Bool
-line_sets none = false
-line_sets (some c) = alters (kind_of c) 0
+line_sets None = false
+line_sets (Some c) = alters (kind_of c) 0
 
-no_range : (table line : List ℕ) (e : Event) → line_sets (call_of table line e) ≡ false
+no_range : (table line : List ℕ) (e : Option Event) → line_sets (option_map (call_of table line) e) ≡ false
 unfolding call_of
-no_range table line Malformed = refl
-no_range table line (Read address width pcd) = refl
-no_range table line (Write address width value) = refl
-no_range table line (External address from) = refl
-no_range table line (Snoop address) = refl
-no_range table line Flush = refl
-no_range table line (Control cd nw) = refl
-no_range table line Reset = refl
+no_range table line None = refl
+no_range table line (Some (Read address width pcd)) = refl
+no_range table line (Some (Write address width value)) = refl
+no_range table line (Some (External address from)) = refl
+no_range table line (Some (Snoop address)) = refl
+no_range table line (Some Flush) = refl
+no_range table line (Some (Control cd nw)) = refl
+no_range table line (Some Reset) = refl
 
 never_sets : (k : Kind) (number : ℕ) → alters k 0 ≡ false → alters k number ≡ false
 never_sets test_writing number h = refl
@@ -82,19 +83,19 @@ never_sets other number h = refl
 
 -- and none carries writes
 abbrev line_alone : Option Call → Bool
-line_alone none = true
-line_alone (some c) = carries_none c
+line_alone None = true
+line_alone (Some c) = carries_none c
 
-all_alone : (table line : List ℕ) (e : Event) → line_alone (call_of table line e) ≡ true
+all_alone : (table line : List ℕ) (e : Option Event) → line_alone (option_map (call_of table line) e) ≡ true
 unfolding call_of
-all_alone table line Malformed = refl
-all_alone table line (Read address width pcd) = refl
-all_alone table line (Write address width value) = refl
-all_alone table line (External address from) = refl
-all_alone table line (Snoop address) = refl
-all_alone table line Flush = refl
-all_alone table line (Control cd nw) = refl
-all_alone table line Reset = refl
+all_alone table line None = refl
+all_alone table line (Some (Read address width pcd)) = refl
+all_alone table line (Some (Write address width value)) = refl
+all_alone table line (Some (External address from)) = refl
+all_alone table line (Some (Snoop address)) = refl
+all_alone table line (Some Flush) = refl
+all_alone table line (Some (Control cd nw)) = refl
+all_alone table line (Some Reset) = refl
 
 -- a malformed line, and one that makes a call
 module _ (s : State) (m : PlainMemory) (none-rom : m.rom ≡ []) (c : Coherent m.rom s m.bytes) where
@@ -108,14 +109,14 @@ module _ (s : State) (m : PlainMemory) (none-rom : m.rom ≡ []) (c : Coherent m
 
   line_matches : (x : Option Call) → line_alone x ≡ true → line_tests x ≡ false → line_sets_nw x ≡ false → line_sets x ≡ false → SameResults (call_done s x) (plain_call m x)
   unfolding call_done plain_call
-  line_matches none a t q h = (refused_matches s m c 11 []).results
-  line_matches (some x) a t q h = rw (told_alone m x a (records_left (step s x))) at ((call_matches s m c x (allowed x q h)).matches.results t)
+  line_matches None a t q h = (refused_matches s m c 11 []).results
+  line_matches (Some x) a t q h = rw (told_alone m x a (records_left (step s x))) at ((call_matches s m c x (allowed x q h)).matches.results t)
 
   line_coherent : (x : Option Call) → line_alone x ≡ true → line_tests x ≡ false → line_sets_nw x ≡ false → line_sets x ≡ false →
       Coherent (plain_call m x).memory.rom (next_state (call_done s x)) (plain_call m x).memory.bytes
   unfolding call_done plain_call
-  line_coherent none a t q h = c
-  line_coherent (some x) a t q h =
+  line_coherent None a t q h = c
+  line_coherent (Some x) a t q h =
       record {
         kept = call_kept s c.kept x;
         beside = rw (told_alone m x a (records_left (step s x))) at ((call_matches s m c x (allowed x q h)).beside (no_plant (kind_of x) _ t));
@@ -123,8 +124,8 @@ module _ (s : State) (m : PlainMemory) (none-rom : m.rom ≡ []) (c : Coherent m
 
   line_rom : (x : Option Call) → line_sets x ≡ false → (plain_call m x).memory.rom ≡ []
   unfolding plain_call
-  line_rom none h = none-rom
-  line_rom (some x) h = rom_stays m x h [] ∙ none-rom
+  line_rom None h = none-rom
+  line_rom (Some x) h = rom_stays m x h [] ∙ none-rom
 
 module _ (table : List ℕ) (good : GoodTable table) where
   rows_agree : (lines : List (List ℕ)) (s : State) (m : PlainMemory) (event : ℕ) → m.rom ≡ [] → Coherent m.rom s m.bytes → NoLineSetsNw lines → rows_of table s event lines ≡ plain_rows m event lines (counts_of table s lines)

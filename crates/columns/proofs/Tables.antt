@@ -13,23 +13,25 @@ use Rattle.calls.specs.Calls.{read, write}
 use Rattle.calls.specs.Plain.{PlainMemory, some_above, plain_number, plain_done, plain}
 use Rattle.board.specs.Board.{block_answers, GoodTable, board_answers}
 use Rattle.board.proofs.Within.{board_length, board_within}
+use Rattle.std.specs.Prelude.{Option, Some, None}
+use Rattle.std.specs.Option.{option_map}
 use Rattle.lines.specs.declared.Event.{Event}
-use Rattle.lines.specs.declared.Event.TheVariants.{Malformed, Read, Write, External, Snoop, Flush, Control, Reset}
+use Rattle.lines.specs.declared.Event.TheVariants.{Read, Write, External, Snoop, Flush, Control, Reset}
 use Rattle.lines.specs.Scan.{scanned}
 use Rattle.performing.specs.Perform.{zero_log, call_of, line_call}
 use Rattle.columns.specs.Program.{plain_call, plain_line, line_sets_nw}
 
 -- no table changes whether a line sets NW
-event_sets_same : (table line : List ℕ) (e : Event) → line_sets_nw (call_of table line e) ≡ line_sets_nw (call_of block_answers line e)
+event_sets_same : (table line : List ℕ) (e : Option Event) → line_sets_nw (option_map (call_of table line) e) ≡ line_sets_nw (option_map (call_of block_answers line) e)
 unfolding call_of
-event_sets_same table line Malformed = refl
-event_sets_same table line (Read address width pcd) = refl
-event_sets_same table line (Write address width value) = refl
-event_sets_same table line (External address from) = refl
-event_sets_same table line (Snoop address) = refl
-event_sets_same table line Flush = refl
-event_sets_same table line (Control cd nw) = refl
-event_sets_same table line Reset = refl
+event_sets_same table line None = refl
+event_sets_same table line (Some (Read address width pcd)) = refl
+event_sets_same table line (Some (Write address width value)) = refl
+event_sets_same table line (Some (External address from)) = refl
+event_sets_same table line (Some (Snoop address)) = refl
+event_sets_same table line (Some Flush) = refl
+event_sets_same table line (Some (Control cd nw)) = refl
+event_sets_same table line (Some Reset) = refl
 
 pub sets_same : (table line : List ℕ) → line_sets_nw (line_call table line) ≡ line_sets_nw (line_call block_answers line)
 sets_same table line = event_sets_same table line (scanned line)
@@ -70,16 +72,16 @@ module _ (table : List ℕ) (good : GoodTable table) where
       none_above highest_answer _ (board_within table address width highest_answer good)
       ∙ sym (none_above highest_answer _ (board_within block_answers address width highest_answer ours_good))
 
-  event_plain_same : (m : PlainMemory) (line : List ℕ) (e : Event) → plain_call m (call_of table line e) ≡ plain_call m (call_of block_answers line e)
+  event_plain_same : (m : PlainMemory) (line : List ℕ) (e : Option Event) → plain_call m (option_map (call_of table line) e) ≡ plain_call m (option_map (call_of block_answers line) e)
   unfolding call_of plain_call
-  event_plain_same m line Malformed = refl
-  event_plain_same m line (Read address width pcd) = read_same m _ _ (length_same address width) (above_same address width) address width pcd
-  event_plain_same m line (Write address width value) = write_same m _ _ (length_same address width) (above_same address width) address width value
-  event_plain_same m line (External address from) = refl
-  event_plain_same m line (Snoop address) = refl
-  event_plain_same m line Flush = refl
-  event_plain_same m line (Control cd nw) = refl
-  event_plain_same m line Reset = refl
+  event_plain_same m line None = refl
+  event_plain_same m line (Some (Read address width pcd)) = read_same m _ _ (length_same address width) (above_same address width) address width pcd
+  event_plain_same m line (Some (Write address width value)) = write_same m _ _ (length_same address width) (above_same address width) address width value
+  event_plain_same m line (Some (External address from)) = refl
+  event_plain_same m line (Some (Snoop address)) = refl
+  event_plain_same m line (Some Flush) = refl
+  event_plain_same m line (Some (Control cd nw)) = refl
+  event_plain_same m line (Some Reset) = refl
 
   pub plain_same : (m : PlainMemory) (line : List ℕ) → plain_call m (line_call table line) ≡ plain_line m line
   plain_same m line = event_plain_same m line (scanned line)

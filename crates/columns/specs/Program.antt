@@ -1,6 +1,5 @@
 -- Demand 3 carried to the program: the answer and value columns of its rows, by the plain memory.
-use Rattle.std.specs.Prelude.{ℕ, suc, ◌≡◌, Bool, false, cond, List, [], ◌∷◌, ◌++◌, ltb, length, get_or, drop, replicate}
-use Rattle.std.proofs.Math.Option.{Option, none, some}
+use Rattle.std.specs.Prelude.{ℕ, suc, ◌≡◌, Bool, false, cond, Option, Some, None, List, [], ◌∷◌, ◌++◌, ltb, length, get_or, drop, replicate}
 use Rattle.refusal.specs.Call.{State, next_state}
 use Rattle.calls.specs.Calls.{Call}
 use Rattle.board.specs.Board.{block_answers, GoodTable}
@@ -15,8 +14,8 @@ use Rattle.calls.specs.Matches.{sets_nw}
 -- The plain memory's answer to a line: to the call that its event makes, and 11 to a malformed line, which "changes nothing". No event's read carries
 -- writes, so that it asks for no records.
 unfoldable pub plain_call : PlainMemory → Option Call → Plain
-plain_call m none = plain_refused 11 m
-plain_call m (some c) = plain m c []
+plain_call m None = plain_refused 11 m
+plain_call m (Some c) = plain m c []
 
 -- The plain memory has no table, and looks at a call's answers for number 6 alone: every table of answers up to 7 gives the same (`plain_same`). Ours is
 -- taken.
@@ -44,8 +43,8 @@ plain_output input counts =
 
 -- An accepted control line that sets NW to 1.
 abbrev pub line_sets_nw : Option Call → Bool
-line_sets_nw none = false
-line_sets_nw (some c) = sets_nw c
+line_sets_nw None = false
+line_sets_nw (Some c) = sets_nw c
 
 -- No line of an input is such a one. A control line asks for no answers, so that every table gives the same (`sets_same`).
 abbrev pub NoLineSetsNw : List (List ℕ) → Type 0

@@ -1,6 +1,6 @@
 -- What the loop over the doublewords of a fill keeps: what completes the rest completes the whole.
 use Prim.Native.Nat.{ℕ, ◌+◌, ◌*◌, ◌≤◌, ◌<◌}
-use mathlib.Core.Path.{◌≡◌, refl, ◌∙◌, ap}
+use mathlib.Core.Path.{◌≡◌, ◌∙◌, ap}
 use mathlib.Core.List.{List, map}
 use native.Mathlib.Omega.{arith}
 use lib.Dec.{eqb}
@@ -21,9 +21,6 @@ module _ (make : Cycle → Record) (xs : List ℕ) (start first : ℕ) (log₀ :
     pub some : turn ≤ used
     pub most : used ≤ 4 * turn
     pub lengths : length log ≡ length log₀
-
-  pub fill_begin : FillInvariant 0 0 log₀
-  fill_begin = record { rest = λ r log' g. g; turns = omega arith; some = omega arith; most = omega arith; lengths = refl }
 
   pub fill_next : (turn used from r : ℕ) (log log' : List ℕ) → turn < 4 → 16 ≤ length xs → FillInvariant turn used log → from ≡ get_or (burst_order (start * 4)) turn 0 →
       CyclesMade make (run_cycles (eqb turn 3) (drop used xs) (run from 4)) first used log r log' →

@@ -6,8 +6,8 @@ ghost use Rattle.bus.specs.Record.{write_record};
 ghost use Rattle.parts.specs.Made.{CyclesMade};
 ghost use Rattle.cycles.specs.Sent.{sent_line};
 
-use bus::{flags_of, put_record};
-use parts::sized_cycles;
+use bus::{Kind, flags_of, put_record};
+use parts::Transfer;
 use words::lanes_mask;
 
 // The cycles that send so many lanes of a doubleword, from an offset of a line on: no parity is checked. The other lanes are 0. first:
@@ -27,9 +27,9 @@ pub fn write_cycles(
     let base = (line + from / 4 * 4) as u32;
     let lane = from % 4;
     if answers[0] / 2 % 4 == 0 {
-        let flags = flags_of(lanes_mask(lane, count), 16, true, false);
+        let flags = flags_of(lanes_mask(lane, count), Kind::Write, true, false);
         put_record(log, first, base, flags, word);
         return 1;
     }
-    sized_cycles(&answers[..], log, base, word, 0, 0, lane, count, first, 16)
+    Transfer::unchecked(base, word, Kind::Write).sized_cycles(&answers[..], log, lane, count, first)
 }

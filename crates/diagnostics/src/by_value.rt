@@ -4,15 +4,14 @@ ghost use Rattle.memory.specs.Parity.{Memory};
 ghost use Rattle.refusal.specs.Call.{after, state};
 ghost use Rattle.diagnostics.specs.Diagnostics.{test_read_line, test_write_call};
 
-use crate::in_place::{TestLine, test_read_in_place};
-use crate::number::test_write_number;
+use crate::in_place::{TestLine, test_read_in_place, test_write_in_place};
 use directory::{Directory, Outcome};
-use ways::line_offset;
-use words::copy_line;
+use numbers::answer_of;
+use ways::Arrays;
 
 // A line planted: its tag, its valid mark and its sixteen bytes. The LRU number of its set stays.
 pub fn test_write(
-    given: Directory,
+    mut given: Directory,
     data: &mut [u8],
     set: u32,
     way: u32,
@@ -23,14 +22,19 @@ pub fn test_write(
     ensures { (m : Memory) → after result m «data».new []
         ≡ test_write_call (state given m «data».old) set way tag mark bytes }
 {
-    let number = test_write_number(data.len(), given.cd, set, way, tag);
-    if number != 0 {
-        return given.answered(number);
-    }
-    let s = set as usize;
-    let w = way as usize;
-    copy_line(&bytes, 0, data, line_offset(s, w));
-    given.with_line(s, w, tag, mark).answered(0)
+    let lent = &mut given;
+    let done = test_write_in_place(
+        &mut lent.tags,
+        &mut lent.valid,
+        lent.cd,
+        data,
+        set,
+        way,
+        tag,
+        mark,
+        &bytes,
+    );
+    given.answered(answer_of(done))
 }
 
 // What a test read by value answers: the directory as it was given, and the line.
@@ -44,15 +48,12 @@ pub struct TestRead {
 pub fn test_read(given: Directory, data: &[u8], set: u32, way: u32) -> TestRead
     ensures { result ≡ record { directory = given; line = test_read_line given «data».now set way } }
 {
-    let line = test_read_in_place(
-        &given.tags,
-        &given.valid,
-        &given.lru,
-        given.cd,
-        data,
-        set,
-        way,
-    );
+    let arrays = Arrays {
+        tags: &given.tags,
+        valid: &given.valid,
+        lru: &given.lru,
+    };
+    let line = test_read_in_place(arrays, given.cd, data, set, way);
     TestRead {
         directory: given,
         line,

@@ -1,17 +1,18 @@
 // Test calls on a directory whose arrays are lent. Neither looks at NW or the ranges, and a test write not at the LRU numbers: the
 // contracts hold whatever those are.
 ghost use Rattle.std.specs.Prelude.{◌≡◌, Bool, List, [], ℕ};
+ghost use Rattle.numbers.specs.Numbers.{answer_of};
 ghost use Rattle.ranges.specs.declared.Ranges.{Ranges};
 ghost use Rattle.directory.specs.Outcome.{outcome};
-ghost use Rattle.directory.specs.Steps.{directory_of, lent_directory};
+ghost use Rattle.directory.specs.Steps.{directory_of};
 ghost use Rattle.memory.specs.Parity.{Memory};
 ghost use Rattle.refusal.specs.Call.{after, state};
 ghost use Rattle.diagnostics.specs.Diagnostics.{test_read_line, test_write_call};
 
 use crate::number::{test_read_number, test_write_number};
-use directory::{LINES, SETS};
-use steps_in_place::line_in_place;
-use ways::{WAYS, line_offset};
+use directory::{LINES, line_in_place};
+use numbers::Refusal;
+use ways::{Arrays, WAYS, line_offset};
 use words::copy_line;
 
 pub fn test_write_in_place(
@@ -24,20 +25,17 @@ pub fn test_write_in_place(
     tag: u32,
     mark: bool,
     bytes: &[u8; 16],
-) -> u32
+) -> Result<(), Refusal>
     ensures { (lru : List ℕ) (nw : Bool) (ranges : Ranges) (m : Memory) →
-        after (outcome (directory_of tags.new valid.new lru cd nw ranges) result 0 0) m «data».new []
+        after (outcome (directory_of tags.new valid.new lru cd nw ranges) (answer_of result) 0 0) m «data».new []
         ≡ test_write_call (state (directory_of tags.old valid.old lru cd nw ranges) m «data».old) set way tag mark bytes.now }
 {
-    let number = test_write_number(data.len(), cd, set, way, tag);
-    if number != 0 {
-        return number;
-    }
+    test_write_number(data.len(), cd, set, way, tag)?;
     let s = set as usize;
     let w = way as usize;
     copy_line(bytes, 0, data, line_offset(s, w));
     line_in_place(tags, valid, s, w, tag, mark);
-    0
+    Ok(())
 }
 
 // What a test read answers: 0 where it was done or the number that refused it, then the line with the LRU number of its set. Refused:
@@ -53,21 +51,18 @@ pub struct TestLine {
 }
 
 pub fn test_read_in_place<'a>(
-    tags: &'a [u32; LINES],
-    valid: &'a [bool; LINES],
-    lru: &'a [u8; SETS],
+    arrays: Arrays<'a>,
     cd: bool,
     data: &'a [u8],
     set: u32,
     way: u32,
 ) -> TestLine
-    ensures { (nw : Bool) (ranges : Ranges) → result ≡ test_read_line (lent_directory tags.now valid.now lru.now cd nw ranges) «data».now set way }
+    ensures { (nw : Bool) (ranges : Ranges) → result ≡ test_read_line (directory_of arrays.entry.tags.now arrays.entry.valid.now arrays.entry.lru.now cd nw ranges) «data».now set way }
 {
-    let number = test_read_number(data.len(), cd, set, way);
     let mut bytes = [0u8; 16];
-    if number != 0 {
+    if let Err(refusal) = test_read_number(data.len(), cd, set, way) {
         return TestLine {
-            number,
+            number: refusal.number(),
             tag: 0,
             valid: false,
             lru: 0,
@@ -80,9 +75,9 @@ pub fn test_read_in_place<'a>(
     let line = s * WAYS + w;
     TestLine {
         number: 0,
-        tag: tags[line],
-        valid: valid[line],
-        lru: lru[s],
+        tag: arrays.tags[line],
+        valid: arrays.valid[line],
+        lru: arrays.lru[s],
         bytes,
     }
 }

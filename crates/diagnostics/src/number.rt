@@ -1,33 +1,42 @@
 // The numbers that refuse test calls.
 ghost use Rattle.std.specs.Prelude.{◌≡◌};
+ghost use Rattle.numbers.specs.Numbers.{answer_of};
 ghost use Rattle.diagnostics.specs.Diagnostics.{test_number, test_read_number, test_write_number};
 
-use ways::DATA_SIZE;
+use numbers::Refusal;
+use refusal::array_number;
+use ways::{SETS, WAYS};
+
+// A tag has 21 bits.
+const HIGHEST_TAG: u32 = 2_097_151;
 
 // 3 for the data array's length, 31 where CD = 0, 32 where the line is outside the sets or the tag too large.
-fn test_number(data: usize, cd: bool, outside: bool) -> u32
-    ensures { result ≡ test_number «data» cd outside }
+#[tactic(auto, using(refusal::proofs::Order::first_met, refusal::proofs::Order::next_met), unfolding(crate::specs::Diagnostics::test_number))]
+fn test_number(data: usize, cd: bool, outside: bool) -> Result<(), Refusal>
+    ensures { answer_of result ≡ test_number «data» cd outside }
 {
-    if data != DATA_SIZE {
-        return 3;
-    }
+    array_number(data)?;
     if !cd {
-        return 31;
+        return Err(Refusal::TestWithCdClear);
     }
     if outside {
-        return 32;
+        return Err(Refusal::WrongTestLine);
     }
-    0
+    Ok(())
 }
 
-pub fn test_write_number(data: usize, cd: bool, set: u32, way: u32, tag: u32) -> u32
-    ensures { result ≡ test_write_number «data» cd set way tag }
+pub fn test_write_number(data: usize, cd: bool, set: u32, way: u32, tag: u32) -> Result<(), Refusal>
+    ensures { answer_of result ≡ test_write_number «data» cd set way tag }
 {
-    test_number(data, cd, (set > 127) | (way > 3) | (tag > 2097151))
+    test_number(
+        data,
+        cd,
+        (SETS <= set as usize) | (WAYS <= way as usize) | (HIGHEST_TAG < tag),
+    )
 }
 
-pub fn test_read_number(data: usize, cd: bool, set: u32, way: u32) -> u32
-    ensures { result ≡ test_read_number «data» cd set way }
+pub fn test_read_number(data: usize, cd: bool, set: u32, way: u32) -> Result<(), Refusal>
+    ensures { answer_of result ≡ test_read_number «data» cd set way }
 {
-    test_number(data, cd, (set > 127) | (way > 3))
+    test_number(data, cd, (SETS <= set as usize) | (WAYS <= way as usize))
 }

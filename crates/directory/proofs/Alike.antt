@@ -1,4 +1,5 @@
 -- Laws of alike directories (document 02, C-14): whatever a call asks of them has the same answer, and each step keeps them alike.
+use Rattle.std.specs.Prelude.{Option, Some, None}
 use Prim.Native.Nat.{ℕ, ◌<◌}
 use mathlib.Core.Path.{◌≡◌, refl, sym, ◌∙◌, ap}
 use mathlib.Core.Bool.{Bool, true, false, cond}
@@ -8,8 +9,6 @@ use native.Mathlib.Omega.{arith}
 use lib.ListN.{replicate}
 use borrow.Author.Tests.{le-ltb}
 use Rattle.directory.specs.declared.steps.Directory.{Directory}
-use Rattle.ways.specs.declared.ways.Found.{Found}
-use Rattle.ways.specs.declared.ways.Found.TheVariants.{At, Nothing}
 use Rattle.ways.specs.Address.{line_count, set_of}
 use Rattle.ways.specs.LruBits.{SameBits}
 use Rattle.ways.specs.State.{first_number, state_number_in}
@@ -147,10 +146,10 @@ flush_alike d e a =
     (flush_none d)
 
 -- a snoop of other LRU numbers leaves them
-found_lru : (d : Directory) (lru : List ℕ) (s : ℕ) (f : Found) → invalidated (with_lru d lru) s f ≡ with_lru (invalidated d s f) lru
+found_lru : (d : Directory) (lru : List ℕ) (s : ℕ) (f : Option ℕ) → invalidated (with_lru d lru) s f ≡ with_lru (invalidated d s f) lru
 unfolding invalidated
-found_lru d lru s (At w) = refl
-found_lru d lru s Nothing = refl
+found_lru d lru s (Some w) = refl
+found_lru d lru s None = refl
 
 snooped_lru : (d : Directory) (lru : List ℕ) (address : ℕ) → after_snoop (with_lru d lru) address ≡ with_lru (after_snoop d address) lru
 unfolding after_snoop

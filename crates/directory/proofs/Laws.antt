@@ -1,4 +1,5 @@
 -- The laws that the layer above works from: what a lookup finds before and after each step, and what each step keeps.
+use Rattle.std.specs.Prelude.{Option, Some, None}
 use Prim.Native.Nat.{ℕ, ◌^◌, ◌≤◌, ◌<◌}
 use mathlib.Core.Path.{◌≡◌, refl, sym, ◌∙◌, ap}
 use mathlib.Core.Bool.{Bool, true, false, cond, not, ◌&&◌}
@@ -10,8 +11,6 @@ use lib.ListN.{length, length-set, get_or-replicate}
 use lib.Seq.{get_or-set_same, get_or-set_other}
 use borrow.Author.Tests.{eqb-true, eq-eqb, ne_eqb, not-true, not-false}
 use Rattle.directory.specs.declared.steps.Directory.{Directory}
-use Rattle.ways.specs.declared.ways.Found.{Found}
-use Rattle.ways.specs.declared.ways.Found.TheVariants.{At, Nothing}
 use Rattle.ways.specs.Address.{set_of, tag_of, line_index}
 use Rattle.ways.specs.Lru.{lru_after}
 use Rattle.ways.specs.Ways.{holds, lookup_in}
@@ -39,23 +38,23 @@ test_held d a w e =
 
 module _ (d : Directory) (a : ℕ) where
   -- what is found is held
-  pub lookup_at : (w : ℕ) → lookup_of d a ≡ At w → (w < 4) × Held d (set_of a) w (tag_of a)
+  pub lookup_at : (w : ℕ) → lookup_of d a ≡ Some w → (w < 4) × Held d (set_of a) w (tag_of a)
   unfolding lookup_in
   lookup_at w e = let p = lowest_at (tag_held d a) w e in (p.0, test_held d a w p.1)
 
   -- where nothing is found, no way holds the address
-  pub lookup_nothing : lookup_of d a ≡ Nothing → (w : ℕ) → w < 4 → Held d (set_of a) w (tag_of a) → ⊥
+  pub lookup_nothing : lookup_of d a ≡ None → (w : ℕ) → w < 4 → Held d (set_of a) w (tag_of a) → ⊥
   unfolding lookup_in
   lookup_nothing e w l h = differ (held_test d a w h) (lowest_nothing (tag_held d a) e w l)
 
   -- what is held in a set where no tag stands twice is found
-  pub held_lookup : SetApart d (set_of a) → (w : ℕ) → w < 4 → Held d (set_of a) w (tag_of a) → lookup_of d a ≡ At w
+  pub held_lookup : SetApart d (set_of a) → (w : ℕ) → w < 4 → Held d (set_of a) w (tag_of a) → lookup_of d a ≡ Some w
   unfolding lookup_in
   held_lookup g w l h =
       one_lowest (tag_held d a) w l (held_test d a w h) λ v m e. g v w (tag_of a) m l (test_held d a v e) h
 
   -- where no way holds the address, nothing is found
-  pub none_lookup : ((w : ℕ) → w < 4 → Held d (set_of a) w (tag_of a) → ⊥) → lookup_of d a ≡ Nothing
+  pub none_lookup : ((w : ℕ) → w < 4 → Held d (set_of a) w (tag_of a) → ⊥) → lookup_of d a ≡ None
   unfolding lookup_in
   none_lookup n = none_lowest (tag_held d a) λ w l. refuted (tag_held d a w) λ e. n w l (test_held d a w e)
 
@@ -66,7 +65,7 @@ module _ (ranges : Ranges) where
   unfolding reset_keeping
   reset_none s w tag sl wl h = differ h.0 (get_or-replicate 512 (line_index s w) false false (omega arith))
 
-  pub reset_lookup : (a : ℕ) → lookup_of (reset_keeping ranges) a ≡ Nothing
+  pub reset_lookup : (a : ℕ) → lookup_of (reset_keeping ranges) a ≡ None
   reset_lookup a = none_lookup (reset_keeping ranges) a λ w l. reset_none (set_of a) w (tag_of a) (omega arith) l
 
   pub reset_control : ((reset_keeping ranges).cd ≡ true) × ((reset_keeping ranges).nw ≡ true)
@@ -290,11 +289,11 @@ module _ (d : Directory) (a w : ℕ) (wl : w < 4) where
   fill_address_limits g al = fill_limits d g (set_of a) w (tag_of a) (omega arith) wl (omega arith)
 
   -- that was not found: it is found then in the way that was filled
-  module _ (z : Sized d) (g : Apart d) (e : lookup_of d a ≡ Nothing) where
+  module _ (z : Sized d) (g : Apart d) (e : lookup_of d a ≡ None) where
     pub fill_address_apart : Apart (after_fill d (set_of a) w (tag_of a))
     fill_address_apart = fill_apart d z g (set_of a) w (tag_of a) (omega arith) wl (lookup_nothing d a e)
 
-    pub fill_lookup : lookup_of (after_fill d (set_of a) w (tag_of a)) a ≡ At w
+    pub fill_lookup : lookup_of (after_fill d (set_of a) w (tag_of a)) a ≡ Some w
     fill_lookup =
         held_lookup (after_fill d (set_of a) w (tag_of a)) a (fill_address_apart.sets (set_of a) (omega arith)) w wl
         (fill_new d (set_of a) w (tag_of a) z (omega arith) wl)
@@ -363,7 +362,7 @@ module _ (d : Directory) where
   unfolding after_flush
   flush_none s w tag sl wl h = differ h.0 (get_or-replicate 512 (line_index s w) false false (omega arith))
 
-  pub flush_lookup : (a : ℕ) → lookup_of (after_flush d) a ≡ Nothing
+  pub flush_lookup : (a : ℕ) → lookup_of (after_flush d) a ≡ None
   flush_lookup a = none_lookup (after_flush d) a λ w l. flush_none (set_of a) w (tag_of a) (omega arith) l
 
   pub flush_control : ((after_flush d).cd ≡ d.cd) × ((after_flush d).nw ≡ d.nw)
@@ -400,10 +399,10 @@ pub snoop_on : (d : Directory) (a : ℕ) → d.nw ≡ false → after_snoop d a 
 unfolding after_snoop
 snoop_on d a e = cond_false d.nw _ _ e
 
-found_ranges : (d : Directory) (s : ℕ) (f : Found) → (invalidated d s f).ranges ≡ d.ranges
+found_ranges : (d : Directory) (s : ℕ) (f : Option ℕ) → (invalidated d s f).ranges ≡ d.ranges
 unfolding invalidated
-found_ranges d s (At w) = refl
-found_ranges d s Nothing = refl
+found_ranges d s (Some w) = refl
+found_ranges d s None = refl
 
 pub snoop_ranges : (d : Directory) (a : ℕ) → (after_snoop d a).ranges ≡ d.ranges
 unfolding after_snoop
@@ -413,48 +412,48 @@ snoop_ranges d a =
     (λ _. found_ranges d (set_of a) (lookup_of d a))
 
 module _ (d : Directory) (z : Sized d) (a : ℕ) where
-  abbrev dropped : Found → Directory
+  abbrev dropped : Option ℕ → Directory
   dropped f = invalidated d (set_of a) f
 
-  dropped_held : (f : Found) → lookup_of d a ≡ f → (r v t : ℕ) → v < 4 → Held (dropped f) r v t → Held d r v t
+  dropped_held : (f : Option ℕ) → lookup_of d a ≡ f → (r v t : ℕ) → v < 4 → Held (dropped f) r v t → Held d r v t
   unfolding invalidated
-  dropped_held (At w) e r v t vl h =
+  dropped_held (Some w) e r v t vl h =
       let wl = (lookup_at d a w e).0 in
       same_line (set_of a) w r v wl vl _
       (λ m. absurd (differ h.0 (rw (m.0, m.1) (stored_line d.valid false false (set_of a) w z.valid (omega arith) wl))))
       (λ n. (sym (stored_other (set_of a) w r v wl vl d.valid false false n) ∙ h.0, h.1))
-  dropped_held Nothing e r v t vl h = h
+  dropped_held None e r v t vl h = h
 
-  dropped_kept : (f : Found) → lookup_of d a ≡ f → (r v t : ℕ) → v < 4 → (Same r t (set_of a) (tag_of a) → ⊥) → Held d r v t → Held (dropped f) r v t
+  dropped_kept : (f : Option ℕ) → lookup_of d a ≡ f → (r v t : ℕ) → v < 4 → (Same r t (set_of a) (tag_of a) → ⊥) → Held d r v t → Held (dropped f) r v t
   unfolding invalidated
-  dropped_kept (At w) e r v t vl n h =
+  dropped_kept (Some w) e r v t vl n h =
       let k = lookup_at d a w e in
       let o : Same r v (set_of a) w → ⊥ = λ m. n (m.0, sym h.1 ∙ rw (m.0, m.1) k.1.1) in
       (stored_other (set_of a) w r v k.0 vl d.valid false false o ∙ h.0, h.1)
-  dropped_kept Nothing e r v t vl n h = h
+  dropped_kept None e r v t vl n h = h
 
-  dropped_none : SetApart d (set_of a) → (f : Found) → lookup_of d a ≡ f → (v : ℕ) → v < 4 → Held (dropped f) (set_of a) v (tag_of a) → ⊥
+  dropped_none : SetApart d (set_of a) → (f : Option ℕ) → lookup_of d a ≡ f → (v : ℕ) → v < 4 → Held (dropped f) (set_of a) v (tag_of a) → ⊥
   unfolding invalidated
-  dropped_none g (At w) e v vl h =
+  dropped_none g (Some w) e v vl h =
       let k = lookup_at d a w e in
-      let j : v ≡ w = g v w (tag_of a) vl k.0 (dropped_held (At w) e (set_of a) v (tag_of a) vl h) k.1 in
+      let j : v ≡ w = g v w (tag_of a) vl k.0 (dropped_held (Some w) e (set_of a) v (tag_of a) vl h) k.1 in
       differ h.0 (rw j (stored_line d.valid false false (set_of a) w z.valid (omega arith) k.0))
-  dropped_none g Nothing e v vl h = lookup_nothing d a e v vl h
+  dropped_none g None e v vl h = lookup_nothing d a e v vl h
 
-  dropped_control : (f : Found) → ((dropped f).cd ≡ d.cd) × ((dropped f).nw ≡ d.nw)
+  dropped_control : (f : Option ℕ) → ((dropped f).cd ≡ d.cd) × ((dropped f).nw ≡ d.nw)
   unfolding invalidated
-  dropped_control (At w) = (refl, refl)
-  dropped_control Nothing = (refl, refl)
+  dropped_control (Some w) = (refl, refl)
+  dropped_control None = (refl, refl)
 
-  dropped_sized : (f : Found) → Sized (dropped f)
+  dropped_sized : (f : Option ℕ) → Sized (dropped f)
   unfolding invalidated
-  dropped_sized (At w) = record { tags = z.tags; valid = rw length-set z.valid; lru = z.lru }
-  dropped_sized Nothing = z
+  dropped_sized (Some w) = record { tags = z.tags; valid = rw length-set z.valid; lru = z.lru }
+  dropped_sized None = z
 
-  dropped_lru : (f : Found) (r : ℕ) → lru_at (dropped f) r ≡ lru_at d r
+  dropped_lru : (f : Option ℕ) (r : ℕ) → lru_at (dropped f) r ≡ lru_at d r
   unfolding invalidated
-  dropped_lru (At w) r = refl
-  dropped_lru Nothing r = refl
+  dropped_lru (Some w) r = refl
+  dropped_lru None r = refl
 
   -- what holds of the directory, and of the directory without the line of the address, holds after a snoop
   by_nw : (P : Directory → Type 0) → (d.nw ≡ true → P d) → (d.nw ≡ false → P (dropped (lookup_of d a))) → P (after_snoop d a)
@@ -485,7 +484,7 @@ module _ (d : Directory) (z : Sized d) (a : ℕ) where
   pub snoop_none : SetApart d (set_of a) → d.nw ≡ false → (v : ℕ) → v < 4 → Held (after_snoop d a) (set_of a) v (tag_of a) → ⊥
   snoop_none g e v vl h = dropped_none g _ refl v vl (rw (snoop_on d a e) at h)
 
-  pub snoop_lookup : SetApart d (set_of a) → d.nw ≡ false → lookup_of (after_snoop d a) a ≡ Nothing
+  pub snoop_lookup : SetApart d (set_of a) → d.nw ≡ false → lookup_of (after_snoop d a) a ≡ None
   snoop_lookup g e = none_lookup (after_snoop d a) a (snoop_none g e)
 
 pub snoop_limits : (d : Directory) → WithinLimits d → (a : ℕ) → WithinLimits (after_snoop d a)

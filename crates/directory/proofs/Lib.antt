@@ -3,3 +3,4 @@ mod Lines
 pub mod SetState
 pub mod Laws
 pub mod Alike
+mod Lent

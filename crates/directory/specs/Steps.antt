@@ -1,10 +1,8 @@
 -- Document 01, 'The directory': the steps, each as the whole directory that it hands back.
-use Rattle.std.specs.Prelude.{ℕ, Bool, true, false, cond, not, ◌&&◌, List, eqb, get_or, set, replicate}
+use Rattle.std.specs.Prelude.{ℕ, Bool, true, false, cond, not, ◌&&◌, List, eqb, get_or, set, replicate, Option, Some, None}
 use Rattle.directory.specs.declared.steps.Directory.{Directory}
 use Rattle.directory.specs.declared.steps.Outcome.{Outcome}
 use Rattle.directory.specs.Outcome.{outcome}
-use Rattle.ways.specs.declared.ways.Found.{Found}
-use Rattle.ways.specs.declared.ways.Found.TheVariants.{At, Nothing}
 use Rattle.ways.specs.Address.{set_count, line_count, set_of, line_index}
 use Rattle.ways.specs.Lru.{lru_after}
 use Rattle.ways.specs.Ways.{valid_in, tag_in, lookup_in, victim_in}
@@ -18,10 +16,6 @@ abbrev pub directory_of : List ℕ → List Bool → List ℕ → Bool → Bool 
 directory_of tags valid lru cd nw ranges =
     record { tags = tags; valid = valid; lru = lru; cd = cd; nw = nw; ranges = ranges }
 
--- The directory that lent references hold.
-abbrev pub lent_directory : List ℕ → List Bool → List ℕ → Bool → Bool → Ranges → Directory
-lent_directory tags valid lru cd nw ranges = directory_of tags valid lru cd nw ranges
-
 -- What a directory has of a line and of a set, and the questions asked of it.
 abbrev pub valid_at : Directory → ℕ → ℕ → Bool
 valid_at d s w = valid_in d.valid s w
@@ -32,7 +26,7 @@ tag_at d s w = tag_in d.tags s w
 abbrev pub lru_at : Directory → ℕ → ℕ
 lru_at d s = get_or d.lru s 0
 
-abbrev pub lookup_of : Directory → ℕ → Found
+abbrev pub lookup_of : Directory → ℕ → Option ℕ
 lookup_of d address = lookup_in d.tags d.valid address
 
 abbrev pub victim_of : Directory → ℕ → ℕ
@@ -138,8 +132,8 @@ abbrev pub reset_call : Directory → Outcome
 reset_call d = outcome (after_reset d) 0 0 0
 
 -- The directory with the line that a lookup found invalid, and as it was where none was found.
-unfoldable pub invalidated : Directory → ℕ → Found → Directory
-invalidated d s (At w) =
+unfoldable pub invalidated : Directory → ℕ → Option ℕ → Directory
+invalidated d s (Some w) =
     record {
       tags = d.tags;
       valid = set d.valid (line_index s w) false;
@@ -148,7 +142,7 @@ invalidated d s (At w) =
       nw = d.nw;
       ranges = d.ranges;
     }
-invalidated d s Nothing = d
+invalidated d s None = d
 
 -- "A snoop invalidates the line holding its address. With NW = 1 it changes nothing." (001, 002)
 unfoldable pub after_snoop : Directory → ℕ → Directory

@@ -4,8 +4,13 @@ ghost use Rattle.directory.specs.Outcome.{outcome};
 ghost use Rattle.ways.specs.Address.{set_count, way_count};
 ghost use Rattle.directory.specs.Steps.{after_control, after_fill, after_flush, after_reset, after_snoop, after_use, control_call, first_reset, snoop_call, with_line, with_ranges};
 
+use crate::in_place::{
+    control_in_place, flush_in_place, invalidate_in_place, line_in_place, reset_in_place,
+    snoop_in_place, use_in_place,
+};
+use numbers::answer_of;
 use ranges::{BOUNDS, Ranges};
-use ways::{Found, LINES, SETS, WAYS, lookup, lru_after, set_of, state_number};
+use ways::{Arrays, LINES, SETS, WAYS, lookup, set_of};
 
 // The line of a set and a way is element set * WAYS + way of tags and valid. The layout is C's: a host holds one.
 #[repr(C)]
@@ -35,18 +40,16 @@ impl Directory {
     pub fn first() -> Self
         ensures { result ≡ first_reset }
     {
-        let tags = [0u32; LINES];
-        let valid = [false; LINES];
-        let lru = [0u8; SETS];
-        let bounds = [0u32; BOUNDS];
-        let ranges = Ranges { count: 0, bounds };
         Directory {
-            tags,
-            valid,
-            lru,
+            tags: [0; LINES],
+            valid: [false; LINES],
+            lru: [0; SETS],
             cd: true,
             nw: true,
-            ranges,
+            ranges: Ranges {
+                count: 0,
+                bounds: [0; BOUNDS],
+            },
         }
     }
 
@@ -54,8 +57,14 @@ impl Directory {
     pub fn reset(mut self) -> Self
         ensures { result ≡ after_reset self }
     {
-        self.tags = [0u32; LINES];
-        self.flushed().with_control(true, true)
+        reset_in_place(
+            &mut self.tags,
+            &mut self.valid,
+            &mut self.lru,
+            &mut self.cd,
+            &mut self.nw,
+        );
+        self
     }
 
     // The plain step of the setting call: any ranges.
@@ -71,8 +80,7 @@ impl Directory {
         requires { (set < set_count) × (way < way_count) }
         ensures { result ≡ after_use self set way }
     {
-        let old = self.lru[set];
-        self.lru[set] = lru_after(old, way);
+        use_in_place(&mut self.lru, set, way);
         self
     }
 
@@ -81,14 +89,12 @@ impl Directory {
         requires { (set < set_count) × (way < way_count) }
         ensures { result ≡ with_line self set way tag mark }
     {
-        let index = set * WAYS + way;
-        self.tags[index] = tag;
-        self.valid[index] = mark;
+        line_in_place(&mut self.tags, &mut self.valid, set, way, tag, mark);
         self
     }
 
     // A kept fill of a way, which is a use of it.
-    pub fn filled(mut self, set: usize, way: usize, tag: u32) -> Self
+    pub fn filled(self, set: usize, way: usize, tag: u32) -> Self
         requires { (set < set_count) × (way < way_count) }
         ensures { result ≡ after_fill self set way tag }
     {
@@ -107,8 +113,7 @@ impl Directory {
     pub fn flushed(mut self) -> Self
         ensures { result ≡ after_flush self }
     {
-        self.valid = [false; LINES];
-        self.lru = [0u8; SETS];
+        flush_in_place(&mut self.valid, &mut self.lru);
         self
     }
 
@@ -116,14 +121,8 @@ impl Directory {
     pub fn snooped(mut self, address: u32) -> Self
         ensures { result ≡ after_snoop self address }
     {
-        if self.nw {
-            return self;
-        }
-        let Found::At(way) = lookup(&self.tags, &self.valid, address) else {
-            return self;
-        };
-        let index = set_of(address) * WAYS + way;
-        self.valid[index] = false;
+        let lent = &mut self;
+        invalidate_in_place(&lent.tags, &mut lent.valid, lent.nw, address);
         self
     }
 
@@ -139,24 +138,27 @@ impl Directory {
         }
     }
 
-    // The control call: 9 for CD = 0 with NW = 1.
-    pub fn control(self, cd: bool, nw: bool) -> Outcome
+    // The control call, which refuses CD = 0 with NW = 1.
+    pub fn control(mut self, cd: bool, nw: bool) -> Outcome
         ensures { result ≡ control_call self cd nw }
     {
-        if !cd & nw {
-            return self.answered(9);
-        }
-        self.with_control(cd, nw).answered(0)
+        let done = control_in_place(&mut self.cd, &mut self.nw, cd, nw);
+        self.answered(answer_of(done))
     }
 
-    // The snoop call: the state of the address's set is checked first, whatever NW is. Done or refused, it ends at one place:
-    // at two, the directory would be copied for each.
+    // The snoop call: the state of the address's set is checked first, whatever NW is. It stores the mark itself, and ends at one
+    // place: lent to the call in place, or with two ends, the directory would be copied once more.
     pub fn snoop(mut self, address: u32) -> Outcome
         ensures { result ≡ snoop_call self address }
     {
-        let number = state_number(&self.tags, &self.valid, &self.lru, set_of(address));
+        let arrays = Arrays {
+            tags: &self.tags,
+            valid: &self.valid,
+            lru: &self.lru,
+        };
+        let number = answer_of(arrays.state_number(set_of(address)));
         if (number == 0) & !self.nw {
-            if let Found::At(way) = lookup(&self.tags, &self.valid, address) {
+            if let Some(way) = lookup(&self.tags, &self.valid, address) {
                 let line = set_of(address) * WAYS + way;
                 self.valid[line] = false;
             }

@@ -1,46 +1,26 @@
-// The directories that the rows begin with. Lines and LRU numbers are stored to the fields, so that no row depends on
+// The directories that the rows begin with, and what is asked of one. Lines and LRU numbers are stored, so that no row depends on
 // fills or uses, which other rows test.
 ghost use Rattle.std.specs.Prelude.{◌<◌};
-ghost use Rattle.ways.specs.Address.{set_count, way_count};
+ghost use Rattle.ways.specs.Address.{way_count};
 
 use directory::Directory;
-use ways::WAYS;
+use numbers::answer_of;
+use ways::{Arrays, WAYS};
 
 // The set that the rows ask about.
 pub const SET: usize = 5;
 
-pub fn with_mark(mut d: Directory, set: usize, way: usize, valid: bool) -> Directory
-    requires { (set < set_count) × (way < way_count) }
-{
-    let line = set * WAYS + way;
-    d.valid[line] = valid;
-    d
-}
-
-// One line made valid, which is no use of its way.
-pub fn with_line(mut d: Directory, set: usize, way: usize, tag: u32) -> Directory
-    requires { (set < set_count) × (way < way_count) }
-{
-    let line = set * WAYS + way;
-    d.tags[line] = tag;
-    with_mark(d, set, way, true)
-}
-
-pub fn with_lru(mut d: Directory, set: usize, lru: u8) -> Directory
-    requires { set < set_count }
-{
-    d.lru[set] = lru;
-    d
-}
+// Every pair of CD and NW.
+pub const MODES: [(bool, bool); 4] = [(false, false), (false, true), (true, false), (true, true)];
 
 // A reset directory but for SET, whose ways are valid with tags 10 to 13.
 pub fn full_set(lru: u8) -> Directory {
     let mut d = Directory::first();
-    d = with_line(d, SET, 0, 10);
-    d = with_line(d, SET, 1, 11);
-    d = with_line(d, SET, 2, 12);
-    d = with_line(d, SET, 3, 13);
-    with_lru(d, SET, lru)
+    for way in 0..WAYS {
+        d = d.with_line(SET, way, 10 + way as u32, true);
+    }
+    d.lru[SET] = lru;
+    d
 }
 
 // An address of SET.
@@ -48,4 +28,26 @@ pub fn address(tag: u32, byte: u32) -> u32
     requires { (tag < 2097152) × (byte < 16) }
 {
     tag * 2048 + SET as u32 * 16 + byte
+}
+
+// The way of SET that a fill replaces.
+#[tactic(auto, using(ways::proofs::FourWays::victim_below))]
+pub fn victim(d: &Directory) -> usize
+    ensures { result < way_count }
+{
+    ways::victim(&d.valid, &d.lru, SET)
+}
+
+pub fn is_held(d: &Directory, address: u32) -> bool {
+    ways::lookup(&d.tags, &d.valid, address).is_some()
+}
+
+// The number that refuses a call on SET.
+pub fn refusal(d: &Directory) -> u32 {
+    let arrays = Arrays {
+        tags: &d.tags,
+        valid: &d.valid,
+        lru: &d.lru,
+    };
+    answer_of(arrays.state_number(SET))
 }

@@ -6,7 +6,6 @@
 
 mod calls;
 mod given;
-mod print;
 mod replacement;
 mod state;
 mod sums;

@@ -1,81 +1,56 @@
 // Rows on the way that a fill replaces, for each LRU number.
 ghost use Rattle.std.specs.Prelude.{◌<◌};
-ghost use Rattle.ways.specs.Address.{way_count};
 
-use crate::given::{SET, address, full_set, with_mark};
-use crate::print::{end_row, label, number, wide};
+use crate::given::{SET, full_set, victim};
 use directory::Directory;
+use ways::WAYS;
 
 pub fn lru_rows(rt: &impl Print) {
-    for lru in 0u8..8 {
+    for lru in 0..8 {
         lru_row(rt, lru);
     }
 }
 
 // The LRU number after a use of each way, and the victim.
 fn lru_row(rt: &impl Print, lru: u8) {
-    label(rt, b"lru");
-    number(rt, wide(lru));
+    let _ = print!(rt; "lru\t{lru}");
     let d = full_set(lru);
-    print_lru_after(rt, d, 0);
-    print_lru_after(rt, d, 1);
-    print_lru_after(rt, d, 2);
-    print_lru_after(rt, d, 3);
-    number(rt, ways::victim(&d.valid, &d.lru, SET) as u64);
-    end_row(rt);
-}
-
-fn print_lru_after(rt: &impl Print, d: Directory, way: usize)
-    requires { way < way_count }
-{
-    let used = d.used(SET, way);
-    number(rt, wide(used.lru[SET]));
+    for way in 0..WAYS {
+        let _ = print!(rt; "\t{}", d.used(SET, way).lru[SET]);
+    }
+    let _ = println!(rt; "\t{}", victim(&d));
 }
 
 pub fn fills_rows(rt: &impl Print) {
-    for lru in 0u8..8 {
+    for lru in 0..8 {
         fills_row(rt, lru);
     }
 }
 
 // The way that each of four fills takes, and the LRU number after them.
 fn fills_row(rt: &impl Print, lru: u8) {
-    label(rt, b"fills");
-    number(rt, wide(lru));
+    let _ = print!(rt; "fills\t{lru}");
     let mut d = full_set(lru);
-    d = fill(rt, d, address(20, 0));
-    d = fill(rt, d, address(21, 0));
-    d = fill(rt, d, address(22, 0));
-    d = fill(rt, d, address(23, 0));
-    number(rt, wide(d.lru[SET]));
-    end_row(rt);
-}
-
-// Prints the way that the fill takes.
-fn fill(rt: &impl Print, d: Directory, address: u32) -> Directory {
-    let set = ways::set_of(address);
-    let way = ways::victim(&d.valid, &d.lru, set);
-    number(rt, way as u64);
-    d.filled(set, way, ways::tag_of(address))
+    for tag in 20..24 {
+        let way = victim(&d);
+        let _ = print!(rt; "\t{way}");
+        d = d.filled(SET, way, tag);
+    }
+    let _ = println!(rt; "\t{}", d.lru[SET]);
 }
 
 // Every pair of an LRU number and a mask of valid marks.
 pub fn victim_rows(rt: &impl Print) {
-    for pair in 0u8..128 {
+    for pair in 0..128 {
         victim_row(rt, pair / 16, pair % 16);
     }
 }
 
 // The victim where the bits of a mask are the valid marks.
 fn victim_row(rt: &impl Print, lru: u8, mask: u8) {
-    label(rt, b"victim");
-    number(rt, wide(lru));
-    number(rt, wide(mask));
     let mut d = full_set(lru);
-    d = with_mark(d, SET, 0, mask % 2 == 1);
-    d = with_mark(d, SET, 1, mask / 2 % 2 == 1);
-    d = with_mark(d, SET, 2, mask / 4 % 2 == 1);
-    d = with_mark(d, SET, 3, mask / 8 % 2 == 1);
-    number(rt, ways::victim(&d.valid, &d.lru, SET) as u64);
-    end_row(rt);
+    for way in 0..WAYS {
+        d.valid[SET * WAYS + way] = (mask >> way) & 1 == 1;
+    }
+    let _ = println!(rt; "victim\t{lru}\t{mask}\t{}", victim(&d));
 }

@@ -2,9 +2,9 @@
 ghost use Rattle.std.specs.Prelude.{◌<◌};
 ghost use Rattle.ways.specs.Address.{way_count};
 
-use crate::given::{SET, full_set, with_line, with_lru, with_mark};
-use crate::print::{end_row, label, label_part, number, wide};
+use crate::given::{SET, full_set, refusal};
 use directory::Directory;
+use std::fmt::Display;
 use ways::WAYS;
 
 // Another set, whose faults are not SET's.
@@ -14,99 +14,85 @@ const OTHER_SET: usize = 6;
 const TAG_LIMIT: u32 = 2097151;
 
 pub fn state_rows(rt: &impl Print) {
-    state_label(rt, b"good");
-    end_with_state(rt, good());
-    same_tag_rows(rt, b"tag", true);
-    same_tag_rows(rt, b"stale", false);
-    tag_limit_rows(rt, 0);
-    tag_limit_rows(rt, 1);
-    tag_limit_rows(rt, 2);
-    tag_limit_rows(rt, 3);
-    lru_limit_row(rt, 7);
-    lru_limit_row(rt, 8);
-    order_21_row(rt);
-    order_22_row(rt);
-    other_set_row(rt);
+    state_row(rt, "good", &good());
+    same_tag_rows(rt, "tag", true);
+    same_tag_rows(rt, "stale", false);
+    tag_limit_rows(rt);
+    lru_limit_rows(rt);
+    state_row(rt, "order_21", &order_21());
+    state_row(rt, "order_22", &order_22());
+    state_row(rt, "other_set", &other_set());
+}
+
+fn state_row(rt: &impl Print, label: impl Display + Drop, d: &Directory) {
+    let _ = println!(rt; "state\t{label}\t{}", refusal(d));
 }
 
 fn good() -> Directory {
     full_set(3)
 }
 
-fn state_label(rt: &impl Print, name: &[u8]) {
-    label(rt, b"state\t");
-    label(rt, name);
+// Two ways with one tag, for each two. An upper way that is not valid is no fault.
+fn same_tag_rows(rt: &impl Print, name: &str, valid: bool) {
+    for lower in 0..WAYS {
+        rows_with_tag_of(rt, name, lower, valid);
+    }
 }
 
-fn end_with_state(rt: &impl Print, d: Directory) {
-    let refusal = ways::state_number(&d.tags, &d.valid, &d.lru, SET);
-    number(rt, refusal as u64);
-    end_row(rt);
-}
-
-fn same_tag_rows(rt: &impl Print, name: &[u8], valid: bool) {
-    same_tag_row(rt, name, 0, 1, valid);
-    same_tag_row(rt, name, 0, 2, valid);
-    same_tag_row(rt, name, 0, 3, valid);
-    same_tag_row(rt, name, 1, 2, valid);
-    same_tag_row(rt, name, 1, 3, valid);
-    same_tag_row(rt, name, 2, 3, valid);
-}
-
-// Two ways with one tag. An upper way that is not valid is no fault.
-fn same_tag_row(rt: &impl Print, name: &[u8], lower: usize, upper: usize, valid: bool)
-    requires { (lower < way_count) × (upper < way_count) }
+fn rows_with_tag_of(rt: &impl Print, name: &str, lower: usize, valid: bool)
+    requires { lower < way_count }
 {
-    state_label(rt, name);
-    label_part(rt, lower as u64);
-    label_part(rt, upper as u64);
     let d = good();
-    let line = SET * WAYS + lower;
-    let tagged = with_line(d, SET, upper, d.tags[line]);
-    end_with_state(rt, with_mark(tagged, SET, upper, valid));
+    let tag = d.tags[SET * WAYS + lower];
+    for upper in lower + 1..WAYS {
+        state_row(
+            rt,
+            format_args!("{name}_{lower}_{upper}"),
+            &d.with_line(SET, upper, tag, valid),
+        );
+    }
 }
 
-fn tag_limit_rows(rt: &impl Print, way: usize)
+fn tag_limit_rows(rt: &impl Print) {
+    for way in 0..WAYS {
+        tag_row(rt, "limit", way, TAG_LIMIT, true);
+        tag_row(rt, "above", way, TAG_LIMIT + 1, true);
+        tag_row(rt, "above_invalid", way, TAG_LIMIT + 1, false);
+    }
+}
+
+fn tag_row(rt: &impl Print, name: &str, way: usize, tag: u32, valid: bool)
     requires { way < way_count }
 {
-    tag_row(rt, b"limit", way, TAG_LIMIT, true);
-    tag_row(rt, b"above", way, TAG_LIMIT + 1, true);
-    tag_row(rt, b"above_invalid", way, TAG_LIMIT + 1, false);
+    state_row(
+        rt,
+        format_args!("{name}_{way}"),
+        &good().with_line(SET, way, tag, valid),
+    );
 }
 
-fn tag_row(rt: &impl Print, name: &[u8], way: usize, tag: u32, valid: bool)
-    requires { way < way_count }
-{
-    state_label(rt, name);
-    label_part(rt, way as u64);
-    let tagged = with_line(good(), SET, way, tag);
-    end_with_state(rt, with_mark(tagged, SET, way, valid));
-}
-
-fn lru_limit_row(rt: &impl Print, lru: u8) {
-    state_label(rt, b"lru");
-    label_part(rt, wide(lru));
-    end_with_state(rt, with_lru(good(), SET, lru));
+fn lru_limit_rows(rt: &impl Print) {
+    for lru in [7, 8] {
+        state_row(rt, format_args!("lru_{lru}"), &full_set(lru));
+    }
 }
 
 // All three faults: the lowest number is given.
-fn order_21_row(rt: &impl Print) {
-    state_label(rt, b"order_21");
-    let mut d = with_line(good(), SET, 0, TAG_LIMIT + 1);
-    d = with_line(d, SET, 1, TAG_LIMIT + 1);
-    end_with_state(rt, with_lru(d, SET, 8));
+fn order_21() -> Directory {
+    full_set(8)
+        .with_line(SET, 0, TAG_LIMIT + 1, true)
+        .with_line(SET, 1, TAG_LIMIT + 1, true)
 }
 
 // The faults 22 and 23.
-fn order_22_row(rt: &impl Print) {
-    state_label(rt, b"order_22");
-    let d = with_line(good(), SET, 3, TAG_LIMIT + 1);
-    end_with_state(rt, with_lru(d, SET, 8));
+fn order_22() -> Directory {
+    full_set(8).with_line(SET, 3, TAG_LIMIT + 1, true)
 }
 
-fn other_set_row(rt: &impl Print) {
-    state_label(rt, b"other_set");
-    let mut d = with_line(good(), OTHER_SET, 0, TAG_LIMIT + 1);
-    d = with_line(d, OTHER_SET, 1, TAG_LIMIT + 1);
-    end_with_state(rt, with_lru(d, OTHER_SET, 8));
+fn other_set() -> Directory {
+    let mut d = good()
+        .with_line(OTHER_SET, 0, TAG_LIMIT + 1, true)
+        .with_line(OTHER_SET, 1, TAG_LIMIT + 1, true);
+    d.lru[OTHER_SET] = 8;
+    d
 }

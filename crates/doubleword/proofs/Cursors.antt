@@ -1,10 +1,8 @@
 -- Laws of the cursor over the doublewords of an access: what the next doubleword needs, and what is left after it.
 use Prim.Native.Nat.{ℕ, ◌+◌, ◌*◌, ◌-◌, ◌%◌, ◌≤◌, ◌<◌, min}
-use mathlib.Core.Path.{◌≡◌, refl, ◌∙◌, ap}
-use mathlib.Core.List.{List}
+use mathlib.Core.Path.{◌≡◌, refl}
 use native.Mathlib.Omega.{arith}
 use native.Mathlib.Decide.{dec_le}
-use lib.ListN.{length, take, drop, length-take, length-drop}
 use Rattle.bus.specs.Groups.{group_size, group_count}
 use Rattle.doubleword.specs.declared.change.Wanted.{Wanted}
 use Rattle.doubleword.specs.declared.cursor.AccessCursor.{AccessCursor}
@@ -84,15 +82,6 @@ module _ (cursor : AccessCursor) (ram parity array answers log : ℕ) (z : Acces
         made = omega (arith, z.made);
         operands = omega (arith, z.operands);
       }
-
--- the group of answers that the code takes is the rules'
-pub group_is : (xs : List ℕ) (from to : ℕ) → to ≡ from + group_size → take (to - from) (drop from xs) ≡ take group_size (drop from xs)
-group_is xs from to e = let k : to - from ≡ group_size = omega arith in ap (λ (n : ℕ). take n (drop from xs)) k
-
-pub group_length : (xs : List ℕ) (from to : ℕ) → to ≡ from + group_size → from + group_size ≤ length xs → length (take (to - from) (drop from xs)) ≡ group_size
-group_length xs from to e l =
-    let k : to - from ≡ group_size = omega arith in
-    length-take (to - from) (drop from xs) ∙ rw (length-drop from xs) (omega arith)
 
 -- the cursor after a doubleword
 module _ (cursor u : AccessCursor) (count n : ℕ) (some : 0 < cursor.left) (ec : count ≡ count_of cursor) where

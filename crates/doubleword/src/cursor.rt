@@ -36,11 +36,10 @@ impl AccessCursor {
         ensures { result ≡ wanted_of self }
     {
         let room = (4 - self.address % 4) as usize;
-        let count = if self.left <= room { self.left } else { room };
         Wanted {
             line: self.address / 16 * 16,
             from: (self.address % 16) as usize,
-            count,
+            count: self.left.min(room),
             place: self.place,
         }
     }
@@ -51,8 +50,7 @@ impl AccessCursor {
         ensures { (result.now ≡ group_at self answers.now) × (length result.now ≡ group_size) }
     {
         let from = self.group * GROUP_SIZE;
-        let to = from + GROUP_SIZE;
-        &answers[from..to]
+        &answers[from..from + GROUP_SIZE]
     }
 
     // What is left after a doubleword: so many bytes, and so many cycles.

@@ -10,7 +10,7 @@ ghost use Rattle.events.specs.Output.{longest_input, longest_output, output_of, 
 
 use board::{BLOCKS, block_answers};
 use directory::Directory;
-use fields::end_of;
+use fields::next_line;
 use performing::perform;
 use rows::{put_header, put_row};
 use ways::DATA_SIZE;
@@ -50,36 +50,25 @@ fn run_lines(table: &[u8; BLOCKS], input: &[u8], output: &mut [u8], from: usize)
     ensures value { (result ≡ from + length (rows_of table.now start 1 (lines_of input.now))) × (output.new ≡ sets output.old from (rows_of table.now start 1 (lines_of input.now))) }
     ensures upper_bound { result ≤ from + 54 * (longest_input + 1) }
 {
-    let directory = Directory::first();
-    let mut tags = directory.tags;
-    let mut valid = directory.valid;
-    let mut lru = directory.lru;
-    let mut cd = directory.cd;
-    let mut nw = directory.nw;
+    let mut directory = Directory::first();
     let mut ram = [0u8; RAM_SIZE];
     let mut parity = [0u8; RAM_SIZE / 4];
     let mut data = [0u8; DATA_SIZE];
     let mut event: u32 = 1;
-    let mut place: usize = 0;
     let mut at = from;
-    while place < input.len() {
-        let rest = &input[place..];
-        let end = end_of(rest, b'\n');
+    let mut rest = input;
+    while let Some((line, after)) = next_line(rest) {
         let done = perform(
             table,
-            &mut tags,
-            &mut valid,
-            &mut lru,
-            &mut cd,
-            &mut nw,
+            &mut directory,
             &mut ram,
             &mut parity,
             &mut data,
-            &rest[..end],
+            line,
         );
         at += put_row(output, at, event, done.number, done.value, done.cycles);
         event += 1;
-        place = place + end + 1;
+        rest = after;
     }
     at
 }

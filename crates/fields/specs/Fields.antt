@@ -1,10 +1,7 @@
 -- Document 01, 'Board table and program': lines and fields, and the bytes of an external write.
-use Rattle.std.specs.Prelude.{ℕ, suc, ◌+◌, ◌*◌, ◌-◌, ◌%◌, Bool, true, false, cond, ◌&&◌, ◌||◌, List, [], ◌∷◌, eqb, leb, ltb, length, take}
-use Rattle.fields.specs.declared.numbers.Number.{Number}
-use Rattle.fields.specs.declared.numbers.Number.TheVariants.{Value, NotANumber}
-use Rattle.fields.specs.declared.numbers.Leading.{Leading}
-use Rattle.fields.specs.declared.numbers.Leading.TheVariants.{Field, Nothing}
-use Rattle.fields.specs.Number.{is_digit, all_are, number_of}
+use Rattle.std.specs.Prelude.{ℕ, ◌+◌, ◌*◌, ◌-◌, ◌%◌, Bool, cond, ◌&&◌, ◌||◌, Option, Some, None, List, [], ◌∷◌, eqb, leb, ltb, length, take}
+use Rattle.std.specs.List.{list_all, position_or_len}
+use Rattle.fields.specs.Number.{is_digit, number_of}
 
 -- The bytes that part a text.
 abbrev pub tab : ℕ
@@ -14,13 +11,8 @@ abbrev pub newline : ℕ
 newline = 10
 
 -- The place of the first byte that is the separator, or the text's length where none is.
-unfoldable pub index_after : Bool → ℕ → ℕ
-index_after true rest = 0
-index_after false rest = suc rest
-
 unfoldable pub index_of : ℕ → List ℕ → ℕ
-index_of separator [] = 0
-index_of separator (c ∷ cs) = index_after (eqb c separator) (index_of separator cs)
+index_of separator text = position_or_len (λ c. eqb c separator) text
 
 -- A byte put in front of the first part.
 unfoldable pub in_front : ℕ → List (List ℕ) → List (List ℕ)
@@ -37,16 +29,16 @@ parts_of separator (c ∷ cs) =
 abbrev pub fields_of : List ℕ → List (List ℕ)
 fields_of line = parts_of tab line
 
--- The number before the first tab of a text and the place after that tab, `Nothing` where there is none.
-unfoldable pub leading_with : Number → ℕ → Leading
-leading_with (Value n) next = Field n next
-leading_with NotANumber next = Nothing
+-- The number before the first tab of a text and the place after that tab, where there are such.
+unfoldable pub leading_with : Option ℕ → ℕ → Option (ℕ × ℕ)
+leading_with (Some n) next = Some (n, next)
+leading_with None next = None
 
-unfoldable pub leading_of : List ℕ → Leading
+unfoldable pub leading_of : List ℕ → Option (ℕ × ℕ)
 leading_of text =
     cond (ltb (index_of tab text) (length text))
     (leading_with (number_of (take (index_of tab text) text)) (index_of tab text + 1))
-    Nothing
+    None
 
 -- "the last newline optional": what stands after the last newline is a line unless it is empty.
 unfoldable pub without_empty_end : List (List ℕ) → List (List ℕ)
@@ -72,7 +64,7 @@ hex_of c = cond (is_digit c) (c - 48) (cond (is_upper_hex c) (c - 55) 0)
 
 -- "uppercase hex pairs; an empty field is well formed"
 unfoldable pub is_pairs : List ℕ → Bool
-is_pairs field = eqb (length field % 2) 0 && all_are is_hex field
+is_pairs field = eqb (length field % 2) 0 && list_all is_hex field
 
 -- The bytes that the pairs say.
 unfoldable pub pair_bytes : List ℕ → List ℕ

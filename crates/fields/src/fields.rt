@@ -1,42 +1,51 @@
 // Fields of a line, and the bytes of an external write.
-ghost use Rattle.std.specs.Prelude.{◌≡◌, ◌≤◌, length};
+ghost use Rattle.std.specs.Prelude.{◌≡◌, ◌==◌, ◌<◌, ◌≤◌, [], ◌∷◌, length, position, IfSome, MatchOption};
 ghost use Rattle.std.proofs.lemmas.List.Edits.{sets};
-ghost use Rattle.fields.specs.Fields.{hex_of, index_of, is_hex, is_pairs, pair_bytes};
+ghost use Rattle.fields.specs.Fields.{hex_of, is_hex, is_pairs, lines_of, pair_bytes};
 
-// The place of the first separator, or the text's length.
-pub fn end_of(text: &[u8], separator: u8) -> usize
-    ensures { (result ≡ index_of separator text.now) × (result ≤ length text.now) }
+// The place of the first separator.
+pub fn place_of(text: &[u8], separator: u8) -> Option<usize>
+    ensures { result ≡ position (λ byte. byte == separator) text.now }
 {
-    text.iter()
-        .position(|byte| *byte == separator)
-        .unwrap_or(text.len())
+    text.iter().position(|byte| *byte == separator)
+}
+
+// The first line of a text and the text after it, if there is a line.
+#[tactic(auto, using(crate::proofs::Parts::line_last, crate::proofs::Parts::line_first, crate::proofs::Parts::no_lines))]
+pub fn next_line(text: &[u8]) -> Option<(&[u8], &[u8])>
+    ensures lines { MatchOption result (lines_of text.now ≡ []) (λ r. lines_of text.now ≡ r.0.now ∷ lines_of r.1.now) }
+    ensures shorter { IfSome result (λ r. length r.1.now < length text.now) }
+{
+    if text.is_empty() {
+        return None;
+    }
+    match place_of(text, b'\n') {
+        Some(end) => Some((&text[..end], &text[end + 1..])),
+        None => Some((text, &[])),
+    }
 }
 
 fn is_hex(c: u8) -> bool
     ensures { result ≡ is_hex c }
 {
-    ((48 <= c) & (c <= 57)) | ((65 <= c) & (c <= 70))
+    matches!(c, b'0'..=b'9' | b'A'..=b'F')
 }
 
 // An even number of uppercase hex digits.
+#[tactic(auto, unfolding(crate::specs::Fields::is_pairs))]
 pub fn is_pairs(field: &[u8]) -> bool
     ensures { result ≡ is_pairs field.now }
 {
-    let mut well_formed = field.len() % 2 == 0;
-    let mut k: usize = 0;
-    while k < field.len() {
-        well_formed = well_formed & is_hex(field[k]);
-        k += 1;
-    }
-    well_formed
+    field.len() % 2 == 0 && field.iter().all(|c| is_hex(*c))
 }
 
+#[tactic(auto, unfolding(crate::specs::Fields::hex_of))]
 fn hex_of(c: u8) -> u8
     ensures { (result ≡ hex_of c) × (result ≤ 15) }
 {
     match c {
-        48..=57 => c - 48,
-        65..=70 => c - 55,
+        b'0'..=b'9' => c - b'0',
+        b'A'..=b'F' => c - b'A' + 10,
         _ => 0,
     }
 }
@@ -47,12 +56,8 @@ pub fn pair_bytes(field: &[u8], bytes: &mut [u8]) -> usize
     ensures { (result ≡ length (pair_bytes field.now)) × (bytes.new ≡ sets bytes.old 0 (pair_bytes field.now)) }
 {
     let count = field.len() / 2;
-    let mut k: usize = 0;
-    while k < count {
-        let high = hex_of(field[2 * k]);
-        let low = hex_of(field[2 * k + 1]);
-        bytes[k] = high * 16 + low;
-        k += 1;
+    for k in 0..count {
+        bytes[k] = hex_of(field[2 * k]) * 16 + hex_of(field[2 * k + 1]);
     }
     count
 }

@@ -4,5 +4,5 @@
 mod fields;
 mod numbers;
 
-pub use fields::{end_of, is_pairs, pair_bytes};
-pub use numbers::{Leading, Number, leading_number, scan_bit, scan_number, scan_value};
+pub use fields::{is_pairs, next_line, pair_bytes, place_of};
+pub use numbers::{leading_number, scan_bit, scan_number, scan_value};

@@ -1,5 +1,6 @@
 -- Accesses of two units that differ in alike directories only: every doubleword does the same but for its change of the directory, and their directories
 -- are alike again.
+use Rattle.std.specs.Prelude.{Option, Some, None}
 use Prim.Native.Nat.{ℕ, ◌+◌, ◌-◌, ◌<◌}
 use mathlib.Core.Path.{◌≡◌, refl, sym, ap, subst}
 use mathlib.Core.Bool.{Bool, not, ◌&&◌}
@@ -7,8 +8,6 @@ use mathlib.Core.List.{List, [], ◌∷◌}
 use native.Mathlib.Omega.{arith}
 use lib.ListN.{length}
 use Rattle.laws.proofs.Tests.{by_test}
-use Rattle.ways.specs.declared.ways.Found.{Found}
-use Rattle.ways.specs.declared.ways.Found.TheVariants.{At, Nothing}
 use Rattle.ways.specs.Address.{set_of, tag_of}
 use Rattle.ways.proofs.FourWays.{victim_below}
 use Rattle.directory.specs.declared.steps.Directory.{Directory}
@@ -85,11 +84,11 @@ module _ (pcd : Bool) (rom : List Range) (u : UnderWay) (w : Doubleword) where
   here = read_one pcd rom u w
 
   -- its change names a way below 4
-  found_below : (mayFill : Bool) (victim : ℕ) → victim < 4 → (f : Found) → lookup_of d w.line ≡ f →
+  found_below : (mayFill : Bool) (victim : ℕ) → victim < 4 → (f : Option ℕ) → lookup_of d w.line ≡ f →
       BelowFour (read_done f victim mayFill rom u.unit.memory u.writes u.cycle u.unit.array w).change
   unfolding read_done read_hit settled
-  found_below mayFill victim l (At way) q = (lookup_at d w.line way q).0
-  found_below mayFill victim l Nothing q = kept_below (read_miss mayFill rom u.unit.memory u.writes u.cycle w).kept victim l
+  found_below mayFill victim l (Some way) q = (lookup_at d w.line way q).0
+  found_below mayFill victim l None q = kept_below (read_miss mayFill rom u.unit.memory u.writes u.cycle w).kept victim l
 
   read_below : BelowFour here.change
   unfolding read_one
@@ -126,12 +125,12 @@ module _ (rom : List Range) (operand : List ℕ) (s : State) (w : Doubleword) wh
   given = s.directory
 
   -- likewise
-  write_found_below : (stays : Bool) (f : Found) → lookup_of given w.line ≡ f → BelowFour (write_done f stays rom s.memory s.array operand w).change
+  write_found_below : (stays : Bool) (f : Option ℕ) → lookup_of given w.line ≡ f → BelowFour (write_done f stays rom s.memory s.array operand w).change
   unfolding write_done write_through
-  write_found_below stays (At way) q =
+  write_found_below stays (Some way) q =
       let l = (lookup_at given w.line way q).0 in
-      by_test (λ b. BelowFour (write_done (At way) b rom s.memory s.array operand w).change) stays (λ _. l) (λ _. l)
-  write_found_below stays Nothing q = tt
+      by_test (λ b. BelowFour (write_done (Some way) b rom s.memory s.array operand w).change) stays (λ _. l) (λ _. l)
+  write_found_below stays None q = tt
 
   write_below : BelowFour (write_one rom operand s w).change
   unfolding write_one

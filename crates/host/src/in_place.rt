@@ -3,8 +3,8 @@
 ghost use Rattle.std.specs.Prelude.{◌≡◌, Bool, List, [], ℕ};
 ghost use Rattle.ranges.specs.declared.Ranges.{Ranges};
 ghost use Rattle.ranges.specs.Ranges.{lent_ranges};
-ghost use Rattle.directory.specs.Steps.{after_flush, after_reset, control_call, directory_of, lent_directory, snoop_call};
-ghost use Rattle.memory.specs.Parity.{lent_memory};
+ghost use Rattle.directory.specs.Steps.{after_flush, after_reset, control_call, directory_of, snoop_call};
+ghost use Rattle.memory.specs.Parity.{memory};
 ghost use Rattle.carried.specs.CarriedCode.{carried_of};
 ghost use Rattle.directory.specs.Outcome.{outcome};
 ghost use Rattle.refusal.specs.Call.{after, lent_state, state};
@@ -14,7 +14,8 @@ ghost use Rattle.masters.specs.Masters.{external_call};
 use access::CallResult;
 use carried::CarriedWrites;
 use directory::{LINES, SETS};
-use ranges::BOUNDS;
+use numbers::answer_of;
+use ranges::{BOUNDS, Kept};
 
 #[unsafe(no_mangle)]
 pub extern "C" fn unit486_read_in_place<'a>(
@@ -41,8 +42,10 @@ pub extern "C" fn unit486_read_in_place<'a>(
         valid,
         lru,
         cd,
-        range_count,
-        bounds,
+        Kept {
+            count: range_count,
+            bounds,
+        },
         ram,
         parity,
         data,
@@ -82,8 +85,10 @@ pub extern "C" fn unit486_read_carrying_in_place<'a>(
         lru,
         cd,
         nw,
-        range_count,
-        bounds,
+        Kept {
+            count: range_count,
+            bounds,
+        },
         ram,
         parity,
         data,
@@ -123,8 +128,10 @@ pub extern "C" fn unit486_write_in_place<'a>(
         lru,
         cd,
         nw,
-        range_count,
-        bounds,
+        Kept {
+            count: range_count,
+            bounds,
+        },
         ram,
         parity,
         data,
@@ -150,21 +157,23 @@ pub extern "C" fn unit486_external_write_in_place<'a>(
     bytes: &[u8],
 ) -> u32
     ensures { (cd : Bool) (array : List ℕ) →
-        after (outcome (lent_directory tags.now valid.new lru.now cd nw (lent_ranges range_count bounds.now)) result 0 0) (lent_memory ram.new parity.new) array []
-        ≡ external_call (state (lent_directory tags.now valid.old lru.now cd nw (lent_ranges range_count bounds.now)) (lent_memory ram.old parity.old) array) address bytes.now }
+        after (outcome (directory_of tags.now valid.new lru.now cd nw (lent_ranges range_count bounds.now)) result 0 0) (memory ram.new parity.new) array []
+        ≡ external_call (state (directory_of tags.now valid.old lru.now cd nw (lent_ranges range_count bounds.now)) (memory ram.old parity.old) array) address bytes.now }
 {
-    masters::external_write_in_place(
+    answer_of(masters::external_write_in_place(
         tags,
         valid,
         lru,
         nw,
-        range_count,
-        bounds,
+        Kept {
+            count: range_count,
+            bounds,
+        },
         ram,
         parity,
         address,
         bytes,
-    )
+    ))
 }
 
 #[unsafe(no_mangle)]
@@ -175,10 +184,10 @@ pub extern "C" fn unit486_snoop_in_place<'a>(
     nw: bool,
     address: u32,
 ) -> u32
-    ensures { (cd : Bool) (ranges : Ranges) → outcome (lent_directory tags.now valid.new lru.now cd nw ranges) result 0 0
-        ≡ snoop_call (lent_directory tags.now valid.old lru.now cd nw ranges) address }
+    ensures { (cd : Bool) (ranges : Ranges) → outcome (directory_of tags.now valid.new lru.now cd nw ranges) result 0 0
+        ≡ snoop_call (directory_of tags.now valid.old lru.now cd nw ranges) address }
 {
-    steps_in_place::snoop_in_place(tags, valid, lru, nw, address)
+    answer_of(directory::snoop_in_place(tags, valid, lru, nw, address))
 }
 
 #[unsafe(no_mangle)]
@@ -186,7 +195,7 @@ pub extern "C" fn unit486_flush_in_place(valid: &mut [bool; LINES], lru: &mut [u
     ensures { (tags : List ℕ) (cd nw : Bool) (ranges : Ranges) → directory_of tags valid.new lru.new cd nw ranges
         ≡ after_flush (directory_of tags valid.old lru.old cd nw ranges) }
 {
-    steps_in_place::flush_in_place(valid, lru)
+    directory::flush_in_place(valid, lru)
 }
 
 #[unsafe(no_mangle)]
@@ -199,7 +208,7 @@ pub extern "C" fn unit486_control_in_place(
     ensures { (tags : List ℕ) (valid : List Bool) (lru : List ℕ) (ranges : Ranges) → outcome (directory_of tags valid lru cd.new nw.new ranges) result 0 0
         ≡ control_call (directory_of tags valid lru cd.old nw.old ranges) new_cd new_nw }
 {
-    steps_in_place::control_in_place(cd, nw, new_cd, new_nw)
+    answer_of(directory::control_in_place(cd, nw, new_cd, new_nw))
 }
 
 #[unsafe(no_mangle)]
@@ -210,8 +219,8 @@ pub extern "C" fn unit486_reset_in_place(
     cd: &mut bool,
     nw: &mut bool,
 )
-    ensures { (ranges : Ranges) → lent_directory tags.new valid.new lru.new cd.new nw.new ranges
-        ≡ after_reset (lent_directory tags.old valid.old lru.old cd.old nw.old ranges) }
+    ensures { (ranges : Ranges) → directory_of tags.new valid.new lru.new cd.new nw.new ranges
+        ≡ after_reset (directory_of tags.old valid.old lru.old cd.old nw.old ranges) }
 {
-    steps_in_place::reset_in_place(tags, valid, lru, cd, nw)
+    directory::reset_in_place(tags, valid, lru, cd, nw)
 }

@@ -8,6 +8,7 @@ ghost use Rattle.refusal.specs.Call.{after, state};
 ghost use Rattle.read_only_ranges.specs.SetRanges.{set_ranges_call};
 
 use directory::{Directory, Outcome};
+use numbers::answer_of;
 use ranges::BOUNDS;
 
 // The rest of the directory is not lent, so it stays.
@@ -22,7 +23,7 @@ pub extern "C" fn unit486_set_ranges_in_place(
         after (outcome (directory_of tags valid lru cd nw (lent_ranges range_count.new bounds.new)) result 0 0) (memory ram.now parity) array []
         ≡ set_ranges_call (state (directory_of tags valid lru cd nw (lent_ranges range_count.old bounds.old)) (memory ram.now parity) array) ranges.now }
 {
-    read_only_ranges::set_ranges_in_place(range_count, bounds, ram, ranges)
+    answer_of(read_only_ranges::set_ranges_in_place(range_count, bounds, ram, ranges))
 }
 
 #[unsafe(no_mangle)]

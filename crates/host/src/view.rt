@@ -5,7 +5,9 @@ ghost use Rattle.ranges.specs.Ranges.{lent_ranges};
 ghost use Rattle.views.specs.View.{view_in, view_number_in};
 
 use directory::{LINES, SETS};
-use ranges::BOUNDS;
+use numbers::answer_of;
+use ranges::{BOUNDS, Kept};
+use ways::Arrays;
 
 // The companion question of a view.
 #[unsafe(no_mangle)]
@@ -21,7 +23,12 @@ pub extern "C" fn unit486_view_number_in_place<'a>(
 ) -> u32
     ensures { result ≡ view_number_in tags.now valid.now lru.now (lent_ranges range_count bounds.now) (length ram.now) (length «data».now) address }
 {
-    views::view_number(tags, valid, lru, range_count, bounds, ram, data, address)
+    let arrays = Arrays { tags, valid, lru };
+    let ranges = Kept {
+        count: range_count,
+        bounds,
+    };
+    answer_of(views::view_number(arrays, ranges, ram, data, address))
 }
 
 // A line view copied out, since no exported function can return a part of what it is lent. Answers the view's number; where
@@ -41,11 +48,15 @@ pub extern "C" fn unit486_view_in_place<'a>(
     ensures { (result ≡ view_number_in tags.now valid.now lru.now (lent_ranges range_count bounds.now) (length ram.now) (length «data».now) address)
         × (shown.new ≡ sets shown.old 0 (view_in tags.now valid.now lru.now (lent_ranges range_count bounds.now) ram.now «data».now address)) }
 {
-    let number = views::view_number(tags, valid, lru, range_count, bounds, ram, data, address);
-    if number != 0 {
-        return number;
+    let arrays = Arrays { tags, valid, lru };
+    let ranges = Kept {
+        count: range_count,
+        bounds,
+    };
+    if let Err(refusal) = views::view_number(arrays, ranges, ram, data, address) {
+        return refusal.number();
     }
-    let part = views::accepted_view(tags, valid, ram, data, address);
+    let part = views::accepted_view(arrays, ram, data, address);
     words::copy_line(part, 0, shown, 0);
     0
 }

@@ -1,3 +1,3 @@
 -- Laws that the proofs of several functions cite.
-mod Forms
+pub mod Forms
 pub mod Within

@@ -1,13 +1,13 @@
 // The event of a line.
 #![tactic(auto)]
 
-ghost use Rattle.std.specs.Prelude.{◌≡◌, cond, []};
+ghost use Rattle.std.specs.Prelude.{◌≡◌, ℕ, List, [], Option};
+ghost use Rattle.std.specs.Option.{option_and_then};
 ghost use Rattle.fields.specs.Fields.{fields_of};
-ghost use Rattle.lines.specs.Scan.{control_of, external_of, form_of, of_one, of_three, of_two, read_of, read_with, scanned, snoop_of, write_of, write_with};
+ghost use Rattle.lines.specs.declared.Event.{Event};
+ghost use Rattle.lines.specs.Scan.{access_of, control_of, external_of, form_of, of_one, of_three, of_two, read_of, scanned, snoop_of, write_of};
 
-use fields::{
-    Leading, Number, end_of, is_pairs, leading_number, scan_bit, scan_number, scan_value,
-};
+use fields::{is_pairs, leading_number, place_of, scan_bit, scan_number, scan_value};
 
 // The bytes of the longest line that asks for anything.
 pub const LONGEST_LINE: usize = 80;
@@ -15,7 +15,6 @@ pub const LONGEST_LINE: usize = 80;
 // What a line asks for. An external write names the place in the line where its pairs begin.
 #[derive(Clone, Copy)]
 pub enum Event {
-    Malformed,
     Read(u32, u32, bool),
     Write(u32, u32, u64),
     External(u32, usize),
@@ -26,127 +25,97 @@ pub enum Event {
 }
 
 // The event of a line of at most LONGEST_LINE bytes; any other line is malformed.
-pub fn scan(line: &[u8]) -> Event
+#[tactic(auto, using(crate::proofs::Forms::scan_long, crate::proofs::Forms::scan_empty, crate::proofs::Forms::scan_alone, crate::proofs::Forms::scan_no_letter, crate::proofs::Forms::scan_fields))]
+pub fn scan(line: &[u8]) -> Option<Event>
     ensures { result ≡ scanned line.now }
 {
     if LONGEST_LINE < line.len() {
-        return Event::Malformed;
+        return None;
     }
-    if line.len() == 0 {
-        return Event::Malformed;
+    match line {
+        [letter] => alone(*letter),
+        [letter, b'\t', fields @ ..] => with_fields(*letter, fields),
+        _ => None,
     }
-    let letter = line[0];
-    if line.len() == 1 {
-        return alone(letter);
-    }
-    if line[1] != b'\t' {
-        return Event::Malformed;
-    }
-    with_fields(letter, &line[2..])
 }
 
 // A letter that is all of its line.
-fn alone(letter: u8) -> Event
+#[tactic(auto, using(crate::proofs::Forms::alone_other), unfolding(crate::specs::Scan::form_of, crate::specs::Scan::of_none))]
+fn alone(letter: u8) -> Option<Event>
     ensures { result ≡ form_of letter [] }
 {
     match letter {
-        b'F' => Event::Flush,
-        b'Z' => Event::Reset,
-        _ => Event::Malformed,
+        b'F' => Some(Event::Flush),
+        b'Z' => Some(Event::Reset),
+        _ => None,
     }
 }
 
 // A letter and what stands after its tab.
-fn with_fields(letter: u8, fields: &[u8]) -> Event
+#[tactic(auto, using(crate::proofs::Forms::fields_other), unfolding(crate::specs::Scan::form_of))]
+fn with_fields(letter: u8, fields: &[u8]) -> Option<Event>
     ensures { result ≡ form_of letter (fields_of fields.now) }
 {
     match letter {
-        b'R' => access_of(true, fields),
-        b'W' => access_of(false, fields),
+        b'R' => read_of(fields),
+        b'W' => write_of(fields),
         b'X' => external_of(fields),
         b'S' => snoop_of(fields),
         b'C' => control_of(fields),
-        _ => Event::Malformed,
+        _ => None,
     }
 }
 
-// A read, or else a write.
-fn access_of(is_read: bool, fields: &[u8]) -> Event
-    ensures { result ≡ of_three (cond is_read read_of write_of) (fields_of fields.now) }
+// The address and the width of a read or a write, and what stands after their tabs.
+#[tactic(auto, using(crate::proofs::Forms::access_unled, crate::proofs::Forms::access_half, crate::proofs::Forms::access_led))]
+fn access_of(fields: &[u8]) -> Option<(u32, u32, &[u8])>
+    ensures { (last : ℕ → ℕ → List ℕ → Option Event) → of_three (access_of last) (fields_of fields.now)
+        ≡ option_and_then (λ r. of_one (last r.0 r.1) (fields_of r.2.now)) result }
 {
-    let Leading::Field(address, next) = leading_number(fields) else {
-        return Event::Malformed;
-    };
+    let (address, next) = leading_number(fields)?;
     let rest = &fields[next..];
-    let Leading::Field(width, last) = leading_number(rest) else {
-        return Event::Malformed;
-    };
-    let third = &rest[last..];
-    if is_read {
-        read_event(address, width, scan_bit(third))
-    } else {
-        write_event(address, width, scan_value(third))
-    }
+    let (width, last) = leading_number(rest)?;
+    Some((address, width, &rest[last..]))
 }
 
-fn read_event(address: u32, width: u32, third: Number) -> Event
-    ensures { result ≡ read_with address width third }
+#[tactic(auto, using(crate::proofs::Forms::read_last), unfolding(crate::specs::Scan::read_of, crate::specs::Scan::with))]
+fn read_of(fields: &[u8]) -> Option<Event>
+    ensures { result ≡ of_three read_of (fields_of fields.now) }
 {
-    match third {
-        Number::Value(pcd) => Event::Read(address, width, pcd == 1),
-        Number::NotANumber => Event::Malformed,
-    }
+    let (address, width, pcd) = access_of(fields)?;
+    Some(Event::Read(address, width, scan_bit(pcd)?))
 }
 
-fn write_event(address: u32, width: u32, third: Number) -> Event
-    ensures { result ≡ write_with address width third }
+#[tactic(auto, using(crate::proofs::Forms::write_last), unfolding(crate::specs::Scan::write_of, crate::specs::Scan::with))]
+fn write_of(fields: &[u8]) -> Option<Event>
+    ensures { result ≡ of_three write_of (fields_of fields.now) }
 {
-    match third {
-        Number::Value(value) => Event::Write(address, width, value),
-        Number::NotANumber => Event::Malformed,
-    }
+    let (address, width, value) = access_of(fields)?;
+    Some(Event::Write(address, width, scan_value(value)?))
 }
 
-fn external_of(fields: &[u8]) -> Event
+#[tactic(auto, using(crate::proofs::Forms::external_unled, crate::proofs::Forms::external_led))]
+fn external_of(fields: &[u8]) -> Option<Event>
     ensures { result ≡ of_two external_of (fields_of fields.now) }
 {
-    let Leading::Field(address, next) = leading_number(fields) else {
-        return Event::Malformed;
-    };
-    let pairs = &fields[next..];
-    if is_pairs(pairs) {
-        Event::External(address, next + 2)
-    } else {
-        Event::Malformed
-    }
+    let (address, next) = leading_number(fields)?;
+    is_pairs(&fields[next..]).then_some(Event::External(address, next + 2))
 }
 
-fn snoop_of(fields: &[u8]) -> Event
+#[tactic(auto, using(crate::proofs::Forms::snoop_last), unfolding(crate::specs::Scan::with))]
+fn snoop_of(fields: &[u8]) -> Option<Event>
     ensures { result ≡ of_one snoop_of (fields_of fields.now) }
 {
-    match scan_number(fields) {
-        Number::Value(address) => Event::Snoop(address as u32),
-        Number::NotANumber => Event::Malformed,
-    }
+    let address = scan_number(fields)?;
+    Some(Event::Snoop(address as u32))
 }
 
-fn control_of(fields: &[u8]) -> Event
+#[tactic(auto, using(crate::proofs::Forms::two_end))]
+fn control_of(fields: &[u8]) -> Option<Event>
     ensures { result ≡ of_two control_of (fields_of fields.now) }
 {
-    let end = end_of(fields, b'\t');
-    if end == fields.len() {
-        return Event::Malformed;
-    }
-    let next = end + 1;
-    let last = &fields[next..];
-    if end_of(last, b'\t') != last.len() {
-        return Event::Malformed;
-    }
-    let Number::Value(cd) = scan_bit(&fields[..end]) else {
-        return Event::Malformed;
-    };
-    let Number::Value(nw) = scan_bit(last) else {
-        return Event::Malformed;
-    };
-    Event::Control(cd == 1, nw == 1)
+    let end = place_of(fields, b'\t')?;
+    let cd = scan_bit(&fields[..end])?;
+    let nw = scan_bit(&fields[end + 1..])?;
+    Some(Event::Control(cd, nw))
 }

@@ -1,17 +1,13 @@
 -- Laws of parity bits, and of the loops over bytes with their parity.
 use Prim.Native.Nat.{ℕ, zero, suc, ◌+◌, ◌*◌, ◌-◌, ◌%◌, ◌/◌, ◌^◌, ◌≤◌, ◌<◌}
 use mathlib.Core.Path.{◌≡◌, refl, sym, ◌∙◌, ap}
-use mathlib.Core.Bool.{true, ◌&&◌}
 use mathlib.Core.List.{List, [], ◌∷◌}
 use native.Mathlib.Numerals.{unary_clauses}
 use native.Mathlib.Omega.{arith}
 use native.Mathlib.Nat.{add-zero, pow-suc}
 use lib.Count.{ones, ones_step}
-use lib.Dec.{eqb, leb}
 use lib.ListN.{length, get_or, set, length-set}
 use lib.Seq.{sets, set-set, get_or-set_same}
-use borrow.Author.Tests.{eqb-true, leb-true}
-use Rattle.laws.proofs.Tests.{both}
 use Rattle.words.specs.Bytes.{bytes_at}
 use Rattle.memory.specs.Parity.{Memory, memory, ones_of, dp_of, with_dp, put, stored}
 
@@ -26,6 +22,14 @@ ones_is (suc k) n h =
 pub dp_below : (b : ℕ) → dp_of b < 2
 unfolding dp_of
 dp_below b = omega arith
+
+-- a bit shifted to its lane
+pub bit_placed : (bit lane : ℕ) → bit < 2 → lane < 4 → (bit * 2 ^ lane % 2 ^ 8 ≡ bit * 2 ^ lane) × (bit * 2 ^ lane < 16)
+bit_placed bit zero b h = (omega arith, omega arith)
+bit_placed bit (suc zero) b h = (omega arith, omega arith)
+bit_placed bit (suc (suc zero)) b h = (omega arith, omega arith)
+bit_placed bit (suc (suc (suc zero))) b h = (omega arith, omega arith)
+bit_placed bit (suc (suc (suc (suc lane)))) b h = absurd (omega arith)
 
 -- a byte put in leaves the lengths
 pub put_lengths : (m : Memory) (a b : ℕ) → (length (put m a b).ram ≡ length m.ram) × (length (put m a b).parity ≡ length m.parity)
@@ -87,32 +91,6 @@ pub line_stored : (src : List ℕ) (m : Memory) (s a : ℕ) →
     stored (stored (stored (stored m a (bytes_at src s 4)) (a + 4) (bytes_at src (s + 4) 4)) (a + 8) (bytes_at src (s + 8) 4)) (a + 12) (bytes_at src (s + 12) 4)
     ≡ stored m a (bytes_at src s 16)
 line_stored src m s a = rw (stored_parts src m s a 4 4, stored_parts src m s a 8 4) (stored_parts src m s a 12 4)
-
--- what the test of a whole doubleword or line tells
-module _ (n count a : ℕ) (h : (eqb count n && eqb (a % 4) 0) ≡ true) where
-  pub whole_count : count ≡ n
-  whole_count = eqb-true count n (both (eqb count n) _ h).0
-
-  pub whole_inside : (ram parity : ℕ) → (a + count ≤ ram) × (a + count ≤ 4 * parity) → (a % 4 ≡ 0) × (a + n ≤ ram) × (a + n ≤ 4 * parity)
-  whole_inside ram parity i =
-      let e = whole_count in
-      (eqb-true (a % 4) 0 (both (eqb count n) _ h).1, omega (arith, i.0), omega (arith, i.1))
-
-  pub whole_room : (s src ram parity : ℕ) → (s + count ≤ src) × (a + count ≤ ram) × (a + count ≤ 4 * parity) → (a % 4 ≡ 0) × (s + n ≤ src) × (a + n ≤ ram) × (a + n ≤ 4 * parity)
-  whole_room s src ram parity i =
-      let e = whole_count in
-      let k = whole_inside ram parity (i.1, i.2) in
-      (k.0, omega (arith, i.0), k.1, k.2)
-
--- what the test of a whole doubleword at the start tells
-module _ (left a : ℕ) (h : (leb 4 left && eqb (a % 4) 0) ≡ true) where
-  pub starts_whole : 4 ≤ left
-  starts_whole = leb-true 4 left (both (leb 4 left) _ h).0
-
-  pub starts_room : (s src ram parity : ℕ) → (0 < left) × (s + left ≤ src) × (a + left ≤ ram) × (a + left ≤ 4 * parity) → (a % 4 ≡ 0) × (s + 4 ≤ src) × (a + 4 ≤ ram) × (a + 4 ≤ 4 * parity)
-  starts_room s src ram parity i =
-      let l = starts_whole in
-      (eqb-true (a % 4) 0 (both (leb 4 left) _ h).1, omega (arith, i.1), omega (arith, i.2), omega (arith, i.3))
 
 -- the bits of all four lanes replaced, one after another, are the whole parity byte
 module _ (p d0 d1 d2 d3 : ℕ) (c0 : d0 < 2) (c1 : d1 < 2) (c2 : d2 < 2) (c3 : d3 < 2) where

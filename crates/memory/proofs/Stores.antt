@@ -9,6 +9,7 @@ use lib.Bits.{bit_and, and_high}
 use lib.ListN.{length, get_or, set, length-set}
 use lib.Pow.{pow_pos, pow-add, mod-mod-pow, mod-pow-add, split, shr-shr}
 use lib.Seq.{sets, set-set, set-get_or, get_or-set_same}
+use Rattle.std.proofs.lemmas.Nat.{and-not, and_comm, and_le_r, and_mod}
 use Rattle.words.specs.Bytes.{bytes_of, lanes_mask, lanes_value, lanes_word}
 use Rattle.words.proofs.Numbers.{of_length}
 use Rattle.words.proofs.Parts.{powers_some}
@@ -96,11 +97,24 @@ module _ (p lane count bits mask : ℕ) (h : lane + count ≤ 4) (is : mask ≡ 
       whole : (lane count : ℕ) → lane + count ≤ 4 → 4 ≡ 4 - (count + lane) + (count + lane)
       whole lane count h = omega arith
 
-  pub masked_below : bit_and p mask ≤ p % 16
-  masked_below = omega (arith, in_three)
+  -- the bits of the other lanes
+  others : mask ≤ 15 → bit_and p (15 - mask) ≡ p % 16 - bit_and p mask
+  others l =
+      let rest = and-not 4 mask (p % 16) (omega arith) (omega arith) in
+      let low : bit_and (15 - mask) (p % 16) ≡ bit_and p (15 - mask) = and_comm (15 - mask) (p % 16) ∙ sym (in_four (15 - mask) (omega arith)) in
+      let own : bit_and mask (p % 16) ≡ bit_and p mask = and_comm mask (p % 16) ∙ sym (in_four mask l) in
+      omega arith
+    where
+      in_four : (k : ℕ) → k ≤ 15 → bit_and p k ≡ bit_and (p % 16) k
+      in_four k l =
+          let e = and_mod p k 4 in
+          let f : k % 16 ≡ k = omega arith in
+          let g = and_le_r p k in
+          let h : bit_and p k % 16 ≡ bit_and p k = omega arith in
+          sym h ∙ rw f at e
 
-  pub masked_part : p % 16 - bit_and p mask + bits ≡ with_part p lane count bits
-  masked_part = omega (arith, in_three)
+  pub masked_part : mask ≤ 15 → bit_and p (15 - mask) + bits ≡ with_part p lane count bits
+  masked_part l = omega (arith, others l, in_three)
 
 -- one lane replaced, then those above it
 module _ (p lane d : ℕ) (h : lane < 4) (k : d < 2) where

@@ -10,10 +10,6 @@ pub record Memory : Type 0 where
 abbrev pub memory : List ℕ → List ℕ → Memory
 memory ram parity = record { ram = ram; parity = parity }
 
--- The memory that lent references hold.
-abbrev pub lent_memory : List ℕ → List ℕ → Memory
-lent_memory ram parity = memory ram parity
-
 -- The ones among the lowest binary digits of a number.
 unfoldable pub ones_of : ℕ → ℕ → ℕ
 ones_of zero x = 0

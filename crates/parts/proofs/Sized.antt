@@ -34,11 +34,6 @@ module _ (make : Cycle → Record) (blind : (w : Run) (x : ℕ) (b : Bool) → m
     pub most : used + left ≤ 4
     pub lengths : length log ≡ length log₀
 
-  -- at the first cycle all of the run is left
-  pub sized_begin : (lowest wanted : ℕ) → lowest ≡ 2 ^ lane → wanted ≡ lanes_mask lane count → 0 < count → lane + count ≤ 4 → SizedInvariant lowest wanted 0 log₀
-  sized_begin lowest wanted e f s l =
-      record { at = lane; left = count; low = e; all = f; rest = λ r log' g. g; some = s; lanes = l; most = omega arith; lengths = refl }
-
   -- a cycle moves some of them, by the mask that the code finds
   module _ (lowest wanted used mask : ℕ) (log : List ℕ) (k : SizedInvariant lowest wanted used log)
       (found : (lane count : ℕ) → 0 < count → lane + count ≤ 4 → lowest ≡ 2 ^ lane → wanted ≡ lanes_mask lane count →

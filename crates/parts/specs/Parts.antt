@@ -1,9 +1,11 @@
--- The record of one cycle of a doubleword, from numbers: what the doubleword says, its parity byte and the DP bits that its bytes ask for.
+-- The record of one cycle of a doubleword, from what it says, its parity byte and the DP bits that its bytes ask for.
 use Rattle.std.specs.Prelude.{ℕ, ◌+◌, ◌*◌, ◌/◌, ◌%◌, ◌^◌, ◌≤◌, ◌<◌, ◌≡◌, Bool, not, List, eqb, get_or}
-use Rattle.words.specs.Bytes.{lanes_word}
+use Rattle.words.specs.Bytes.{bytes_at, word_in, lanes_word}
 use Rattle.memory.specs.Parity.{dp_of}
 use Rattle.bus.specs.Bus.{run, Cycle}
-use Rattle.bus.specs.Record.{Record, flags_of}
+use Rattle.bus.specs.declared.record.Kind.{Kind}
+use Rattle.bus.specs.Record.{Record, kind_flag, flags_of}
+use Rattle.parts.specs.declared.lanes.Transfer.{Transfer}
 
 -- The DP bits that four bytes ask for, as a parity byte has them.
 abbrev pub due_bits : List ℕ → ℕ → ℕ
@@ -17,16 +19,29 @@ bits_in bits lane count = bits / 2 ^ lane % 2 ^ count
 abbrev pub moving : ℕ → ℕ → Bool → Cycle
 moving from count last = record { moved = run from count; answer = 0; last = last }
 
--- The record of a cycle of the doubleword at an address. held: its parity byte; due: the DP bits that its bytes ask for. Only the lanes of
--- the moved bytes matter, not where in a line the doubleword lies.
-unfoldable pub part_record : ℕ → ℕ → ℕ → ℕ → ℕ → Cycle → Record
-part_record kind address word held due c =
+-- A doubleword of RAM, and one of which no parity is checked.
+abbrev pub read_transfer : List ℕ → List ℕ → ℕ → Kind → Transfer
+read_transfer ram parity base kind =
     record {
-      address = address;
+      base = base;
+      word = word_in 0 (bytes_at ram base 4);
+      held = get_or parity (base / 4) 0;
+      due = due_bits ram base;
+      kind = kind;
+    }
+
+abbrev pub unchecked_transfer : ℕ → ℕ → Kind → Transfer
+unchecked_transfer base word kind = record { base = base; word = word; held = 0; due = 0; kind = kind }
+
+-- The record of a cycle of a doubleword. Only the lanes of the moved bytes matter, not where in a line the doubleword lies.
+unfoldable pub part_record : Transfer → Cycle → Record
+part_record t c =
+    record {
+      address = t.base;
       flags =
-          flags_of (c.moved.from % 4) c.moved.count kind c.last
-          (not (eqb (bits_in held (c.moved.from % 4) c.moved.count) (bits_in due (c.moved.from % 4) c.moved.count)));
-      word = lanes_word word (c.moved.from % 4) c.moved.count;
+          flags_of (c.moved.from % 4) c.moved.count (kind_flag t.kind) c.last
+          (not (eqb (bits_in t.held (c.moved.from % 4) c.moved.count) (bits_in t.due (c.moved.from % 4) c.moved.count)));
+      word = lanes_word t.word (c.moved.from % 4) c.moved.count;
     }
 
 -- A doubleword of a line in RAM.

@@ -6,6 +6,4 @@ mod lanes;
 mod part;
 mod whole;
 
-pub use lanes::{due_bits, put_part};
-pub use part::sized_cycles;
-pub use whole::whole_cycles;
+pub use lanes::Transfer;

@@ -1,14 +1,17 @@
 -- Laws of the ranges: how a loop over their words goes on, and what their tests tell.
-use Prim.Native.Nat.{ℕ, suc, ◌+◌, ◌*◌, ◌/◌, ◌%◌, ◌≤◌, ◌<◌}
-use mathlib.Core.Path.{◌≡◌, refl, sym, ◌∙◌}
+use Prim.Native.Nat.{ℕ, zero, suc, ◌+◌, ◌*◌, ◌/◌, ◌%◌, ◌≤◌, ◌<◌}
+use mathlib.Core.Path.{◌≡◌, refl, sym, ◌∙◌, ap}
 use mathlib.Core.Bool.{Bool, true, false, not, ◌&&◌, ◌||◌, or_assoc, or-false, false≢true}
 use mathlib.Core.List.{List, [], ◌∷◌}
 use native.Mathlib.Decide.{dec_le}
 use native.Mathlib.Omega.{arith}
+use native.Mathlib.Nat.{add-zero}
 use lib.Dec.{eqb, ltb, leb}
-use lib.ListN.{length, get_or, take, drop, drop_of_length-le, get_or-eq_default}
-use lib.Seq.{drop-cons, length-take-le}
+use lib.ListN.{length, get_or, take, drop, drop_of_length-le, get_or-eq_default, length-drop}
+use lib.Seq.{drop-cons, drop-drop, get_or-take, get_or-drop}
 use borrow.Author.Tests.{ltb-true, ltb-false, eqb-true, not-false, lt-ltb, le-ltb, lt-leb, le-leb}
+use Rattle.std.specs.List.{list_any}
+use Rattle.std.specs.Simd.{first_chunks}
 use Rattle.laws.proofs.Tests.{both, neither, by_test}
 use Rattle.ranges.specs.Ranges.{Range, range, ranges_in, ranges_of, in_range, read_only, bad_range, any_bad}
 
@@ -27,39 +30,16 @@ next_range l k h =
       | no p ↦ let g : suc k < length l = omega arith in rw (e, f, drop-cons l k 0 h, drop-cons l (suc k) 0 g)
     ]
 
--- whether a test holds of one of some ranges: both loops look for it
-unfoldable pub any_range : (Range → Bool) → List Range → Bool
-any_range test [] = false
-any_range test (r ∷ rs) = test r || any_range test rs
-
 -- such tests are: a byte lies in a range, a range is wrong
-pub read_only_any : (rs : List Range) (a : ℕ) → read_only rs a ≡ any_range (λ r. in_range r a) rs
-unfolding read_only any_range
+pub read_only_any : (rs : List Range) (a : ℕ) → read_only rs a ≡ list_any (λ r. in_range r a) rs
+unfolding read_only
 read_only_any [] a = refl
 read_only_any (r ∷ rs) a = rw (read_only_any rs a)
 
-pub any_bad_any : (ram : ℕ) (rs : List Range) → any_bad ram rs ≡ any_range (bad_range ram) rs
-unfolding any_bad any_range
+pub any_bad_any : (ram : ℕ) (rs : List Range) → any_bad ram rs ≡ list_any (bad_range ram) rs
+unfolding any_bad
 any_bad_any ram [] = refl
 any_bad_any ram (r ∷ rs) = rw (any_bad_any ram rs)
-
--- a loop over the first words
-module _ (test : Range → Bool) (words : List ℕ) (to : ℕ) (h : to ≤ length words) (k : ℕ) (found : Bool) where
-  -- the range at the k-th word is looked at, the others are left
-  pub any_step : (start size : ℕ) (hit : Bool) → k < to → start ≡ get_or (take to words) k 0 → size ≡ get_or (take to words) (k + 1) 0 → hit ≡ test (range start size) →
-      (found || hit || any_range test (ranges_in (drop (k + 2) (take to words)))) ≡ (found || any_range test (ranges_in (drop k (take to words))))
-  unfolding any_range
-  any_step start size hit l es ez e =
-      let n = length-take-le to words h in
-      rw (next_range (take to words) k (omega arith), e, es, ez, or_assoc)
-
-  -- no range is left
-  pub any_end : to ≤ k → (found || any_range test (ranges_in (drop k (take to words)))) ≡ found
-  unfolding any_range ranges_in
-  any_end l =
-      let n = length-take-le to words h in
-      let e : drop k (take to words) ≡ [] = drop_of_length-le (take to words) {i = k} (omega arith) in
-      rw e (or-false found)
 
 -- the bytes of a line are read-only together
 pub same_line : (rs : List Range) (a b : ℕ) → a / 16 ≡ b / 16 → read_only rs a ≡ read_only rs b
@@ -124,3 +104,50 @@ read_only_inside ram (r ∷ rs) a e h =
     inside g i =
         let below = both (not (ltb a r.start)) (ltb a (r.start + r.size)) (sym (in_range_bytes ram r a g) ∙ i) in
         omega (arith, ltb-true a (r.start + r.size) below.1, (good_range ram r g).2)
+
+-- A LOOP OVER THE RANGES THAT WORDS SAY
+
+-- the pairs of words, each with the words at its places
+pair_at : (words : List ℕ) (n i : ℕ) → i < n → get_or (first_chunks 2 n words) i [] ≡ take 2 (drop (2 * i) words)
+pair_at words zero i h = absurd (omega arith)
+pair_at words (suc n) zero h = refl
+pair_at words (suc n) (suc i) h =
+    let e : 2 + 2 * i ≡ 2 * suc i = omega arith in
+    pair_at (drop 2 words) n i (omega arith) ∙ ap (λ (l : List ℕ). take 2 l) (drop-drop (2 * i) 2 words ∙ ap (λ (k : ℕ). drop k words) e)
+
+word_at : (words : List ℕ) (n i o : ℕ) → i < n → o < 2 → get_or (get_or (first_chunks 2 n words) i []) o 0 ≡ get_or words (2 * i + o) 0
+word_at words n i o h k =
+    ap (λ (l : List ℕ). get_or l o 0) (pair_at words n i h) ∙ get_or-take 2 (drop (2 * i) words) o 0 k ∙ get_or-drop (2 * i) words o 0
+
+module _ (p : Range → Bool) (words : List ℕ) (i : ℕ) (found : Bool) where
+  -- the next pair is asked
+  pub any_step : (pairs : List (List ℕ)) (hit : Bool) → pairs ≡ first_chunks 2 (length words / 2) words → i < length words / 2 →
+      hit ≡ p (range (get_or (get_or pairs i []) 0 0) (get_or (get_or pairs i []) 1 0)) →
+      ((found || hit) || list_any p (ranges_in (drop (2 * (i + 1)) words))) ≡ (found || list_any p (ranges_in (drop (2 * i) words)))
+  any_step pairs hit e h q =
+      let k : 2 * (i + 1) ≡ 2 * i + 2 = omega arith in
+      let n = length words / 2 in
+      let a : get_or (get_or pairs i []) 0 0 ≡ get_or words (2 * i) 0 = rw (e, word_at words n i 0 h (omega arith), add-zero (2 * i)) in
+      let b : get_or (get_or pairs i []) 1 0 ≡ get_or words (2 * i + 1) 0 = rw e (word_at words n i 1 h (omega arith)) in
+      let l : 2 * i < length words = omega arith in
+      rw (k, next_range words (2 * i) l, q, a, b, or_assoc)
+
+  -- none is left
+  pub any_end : i ≡ length words / 2 → (last : List ℕ) → last ≡ drop (length words / 2 * 2) words → length last ≡ 0 → (found || list_any p (ranges_in (drop (2 * i) words))) ≡ found
+  unfolding ranges_in
+  any_end h last e z =
+      let n : length words ≤ 2 * i = omega (arith, ap (λ (l : List ℕ). length l) e, length-drop (length words / 2 * 2) words) in
+      let none : drop (2 * i) words ≡ [] = drop_of_length-le words {i = 2 * i} n in
+      rw none (or-false found)
+
+  -- a start is left
+  pub any_last : i ≡ length words / 2 → (last : List ℕ) (hit : Bool) → last ≡ drop (length words / 2 * 2) words → (length last ≡ 0 → ⊥) → hit ≡ p (range (get_or last 0 0) 0) →
+      (found || list_any p (ranges_in (drop (2 * i) words))) ≡ (found || hit)
+  unfolding ranges_in
+  any_last h last hit e z q =
+      let n : 2 * i < length words = omega (arith, ap (λ (l : List ℕ). length l) e, length-drop (length words / 2 * 2) words) in
+      let w : length words / 2 * 2 ≡ 2 * i = omega arith in
+      let a : get_or last 0 0 ≡ get_or words (2 * i) 0 = rw (e, w, get_or-drop (2 * i) words 0 0, add-zero (2 * i)) in
+      let b : get_or words (2 * i + 1) 0 ≡ 0 = get_or-eq_default words 0 {n = 2 * i + 1} (omega arith) in
+      let none : drop (2 * i + 2) words ≡ [] = drop_of_length-le words {i = 2 * i + 2} (omega arith) in
+      rw (next_range words (2 * i) n, b, none, q, a, or-false)

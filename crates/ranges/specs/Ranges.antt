@@ -1,5 +1,6 @@
 -- Document 02, C-17, 'Boot ROM': "Give the unit up to eight read-only ranges of whole lines."
 use Rattle.std.specs.Prelude.{ℕ, ◌+◌, ◌*◌, ◌/◌, ◌%◌, min, Bool, false, not, ◌&&◌, ◌||◌, List, [], ◌∷◌, eqb, ltb, take}
+use Rattle.ranges.specs.declared.Kept.{Kept}
 use Rattle.ranges.specs.declared.Ranges.{Ranges}
 
 -- A range: the address where it starts, and its bytes.
@@ -23,6 +24,10 @@ ranges_of kept = ranges_in (take (2 * min kept.count 8) kept.bounds)
 -- The ranges that are lent as their count and their words.
 abbrev pub lent_ranges : ℕ → List ℕ → Ranges
 lent_ranges count bounds = record { count = count; bounds = bounds }
+
+-- The same of their lent form.
+abbrev pub kept_ranges : Kept → Ranges
+kept_ranges kept = lent_ranges kept.count kept.bounds.now
 
 -- "whole lines": a byte lies in a range where its line does.
 unfoldable pub in_range : Range → ℕ → Bool

@@ -2,17 +2,17 @@
 // holds for either value.
 ghost use Rattle.std.specs.Prelude.{◌≡◌, Bool, [], length};
 ghost use Rattle.ranges.specs.declared.Ranges.{Ranges};
-ghost use Rattle.ranges.specs.Ranges.{lent_ranges};
+ghost use Rattle.ranges.specs.Ranges.{kept_ranges};
 ghost use Rattle.refusal.specs.Refusal.{argument_number, kept_number, lent_number, or_else, states_number_in};
 ghost use Rattle.refusal.specs.Call.{lent_state};
 ghost use Rattle.access.specs.Access.{leaves, read_call};
 
 use access::{CallResult, number_only};
 use doubleword::{AccessCursor, change_in_place};
-use ranges::BOUNDS;
+use ranges::Kept;
 use reading::{read_next, with_part};
 use refusal::read_number;
-use ways::{LINES, SETS};
+use ways::{Arrays, LINES, SETS};
 
 // The doublewords of a read whose number is 0, by any ranges that meet neither 37 nor 38: it writes nothing, so they tell it nothing more.
 fn read_accepted<'a>(
@@ -39,9 +39,7 @@ fn read_accepted<'a>(
     let mut cursor = AccessCursor::begin(address, width);
     while 0 < cursor.left {
         let next = read_next(
-            tags,
-            valid,
-            lru,
+            Arrays { tags, valid, lru },
             !cd & !pcd,
             &ram[..],
             &parity[..],
@@ -50,8 +48,7 @@ fn read_accepted<'a>(
             log,
             cursor,
         );
-        let change = next.change;
-        change_in_place(tags, valid, lru, next.line, change);
+        change_in_place(tags, valid, lru, next.line, next.change);
         value = with_part(value, cursor.place, next.value);
         cursor = cursor.next(next.count, next.cycles);
     }
@@ -62,13 +59,12 @@ fn read_accepted<'a>(
     }
 }
 
-pub fn read_in_place<'a>(
+pub fn read_in_place<'a, 'b>(
     tags: &'a mut [u32; LINES],
     valid: &'a mut [bool; LINES],
     lru: &'a mut [u8; SETS],
     cd: bool,
-    range_count: u32,
-    bounds: &'a [u32; BOUNDS],
+    ranges: Kept<'b>,
     ram: &[u8],
     parity: &[u8],
     data: &mut [u8],
@@ -78,15 +74,12 @@ pub fn read_in_place<'a>(
     answers: &[u8],
     log: &mut [u32],
 ) -> CallResult
-    ensures { (nw : Bool) → leaves result (lent_state tags.new valid.new lru.new cd nw (lent_ranges range_count bounds.now) ram.now parity.now «data».new) log.new
-        ≡ read_call (lent_state tags.old valid.old lru.old cd nw (lent_ranges range_count bounds.now) ram.now parity.now «data».old) address width pcd answers.now log.old [] }
+    ensures { (nw : Bool) → leaves result (lent_state tags.new valid.new lru.new cd nw (kept_ranges ranges.entry) ram.now parity.now «data».new) log.new
+        ≡ read_call (lent_state tags.old valid.old lru.old cd nw (kept_ranges ranges.entry) ram.now parity.now «data».old) address width pcd answers.now log.old [] }
 {
     let number = read_number(
-        tags,
-        valid,
-        lru,
-        range_count,
-        bounds,
+        Arrays { tags, valid, lru },
+        ranges,
         ram,
         parity,
         data,
@@ -95,21 +88,21 @@ pub fn read_in_place<'a>(
         answers,
         log,
     );
-    if number != 0 {
-        return number_only(number);
+    match number {
+        Err(refusal) => number_only(refusal.number()),
+        Ok(()) => read_accepted(
+            tags,
+            valid,
+            lru,
+            cd,
+            &ram[..],
+            &parity[..],
+            data,
+            address,
+            width,
+            pcd,
+            &answers[..],
+            log,
+        ),
     }
-    read_accepted(
-        tags,
-        valid,
-        lru,
-        cd,
-        &ram[..],
-        &parity[..],
-        data,
-        address,
-        width,
-        pcd,
-        &answers[..],
-        log,
-    )
 }

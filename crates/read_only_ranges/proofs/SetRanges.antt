@@ -1,13 +1,13 @@
 -- The setting call by its number, and the ranges that it leaves.
-use Prim.Native.Nat.{ℕ, suc, ◌+◌, ◌*◌, ◌/◌, ◌%◌, ◌≤◌, ◌<◌, min}
+use Prim.Native.Nat.{ℕ, ◌+◌, ◌*◌, ◌/◌, ◌%◌, ◌≤◌, min}
 use mathlib.Core.Path.{◌≡◌, refl, sym, ◌∙◌, ap}
 use mathlib.Core.Bool.{Bool, true, false, false≢true}
 use mathlib.Core.List.{List, [], ◌∷◌}
 use mathlib.Core.Logic.{◌⊎◌, inl, inr}
 use native.Mathlib.Omega.{arith}
 use lib.Dec.{ltb}
-use lib.ListN.{length, get_or, set, drop, replicate, drop_of_length-le}
-use lib.Seq.{sets, sets-eq, drop-cons, take-append_seam}
+use lib.ListN.{length, replicate}
+use lib.Seq.{sets, sets-eq, take-append_seam}
 use borrow.Author.Tests.{eq-eqb, ne_eqb, ltb-true, ltb-false, lt-ltb, le-ltb}
 use Rattle.laws.proofs.Tests.{cond_true, cond_false, neither, by_test}
 use Rattle.ranges.specs.Ranges.{range, ranges_in, ranges_of, bad_range, any_bad}
@@ -115,10 +115,3 @@ module _ (s : State) (words : List ℕ) where
 
 pub words_fit : (ram : ℕ) (words : List ℕ) (n : ℕ) → n ≡ set_ranges_number ram words → n ≡ 0 → length words ≤ 16
 words_fit ram words n en z = (set_ranges_count ram words (sym en ∙ z)).1
-
--- the next word is put, the others are left to put
-pub words_next : (bounds words : List ℕ) (k : ℕ) → k < length words → sets (set bounds k (get_or words k 0)) (k + 1) (drop (k + 1) words) ≡ sets bounds k (drop k words)
-words_next bounds words k h = let e : k + 1 ≡ suc k = omega arith in rw (e, drop-cons words k 0 h)
-
-pub words_end : (bounds words : List ℕ) (k : ℕ) → length words ≤ k → sets bounds k (drop k words) ≡ bounds
-words_end bounds words k h = rw (drop_of_length-le words h)

@@ -3,6 +3,7 @@
 
 ghost use Rattle.std.specs.Prelude.{◌≡◌, Bool, List, [], ℕ, ◌≤◌, length, replicate};
 ghost use Rattle.std.proofs.lemmas.List.Edits.{sets};
+ghost use Rattle.numbers.specs.Numbers.{answer_of};
 ghost use Rattle.ranges.specs.Ranges.{lent_ranges};
 ghost use Rattle.directory.specs.Outcome.{outcome};
 ghost use Rattle.directory.specs.Steps.{directory_of};
@@ -11,23 +12,23 @@ ghost use Rattle.refusal.specs.Call.{after, state};
 ghost use Rattle.read_only_ranges.specs.SetRanges.{set_ranges_call, set_ranges_number};
 
 use directory::{Directory, Outcome};
-use ranges::{BOUNDS, Ranges, any_bad};
-use refusal::bad_ram;
+use numbers::{Refusal, answer_of};
+use ranges::{BOUNDS, any_bad};
+use refusal::ram_number;
 
 // Numbers 1, 37 and 38, of all ranges that are given.
-fn set_ranges_number(ram: usize, ranges: &[u32]) -> u32
-    ensures { result ≡ set_ranges_number ram ranges.now }
+#[tactic(auto, using(refusal::proofs::Order::first_met, refusal::proofs::Order::next_met, crate::proofs::SetRanges::many_ranges), unfolding(crate::specs::SetRanges::set_ranges_number, refusal::specs::Refusal::ranges_number))]
+fn set_ranges_number(ram: usize, ranges: &[u32]) -> Result<(), Refusal>
+    ensures { answer_of result ≡ set_ranges_number ram ranges.now }
 {
-    if bad_ram(ram) {
-        return 1;
-    }
+    ram_number(ram)?;
     if any_bad(ram, ranges) {
-        return 37;
+        return Err(Refusal::WrongRange);
     }
     if BOUNDS < ranges.len() {
-        return 38;
+        return Err(Refusal::TooManyRanges);
     }
-    0
+    Ok(())
 }
 
 // The words that a directory keeps: those that are given, then zeros.
@@ -36,26 +37,17 @@ fn bounds_of(ranges: &[u32]) -> [u32; BOUNDS]
     ensures { result ≡ sets (replicate 16 0) 0 ranges.now }
 {
     let mut bounds = [0u32; BOUNDS];
-    let mut k: usize = 0;
-    while k < ranges.len() {
-        bounds[k] = ranges[k];
-        k += 1;
-    }
+    bounds[..ranges.len()].copy_from_slice(ranges);
     bounds
 }
 
-pub fn set_ranges(given: Directory, ram: &[u8], ranges: &[u32]) -> Outcome
+pub fn set_ranges(mut given: Directory, ram: &[u8], ranges: &[u32]) -> Outcome
     ensures { (parity array : List ℕ) → after result (memory ram.now parity) array []
         ≡ set_ranges_call (state given (memory ram.now parity) array) ranges.now }
 {
-    let number = set_ranges_number(ram.len(), ranges);
-    if number != 0 {
-        return given.answered(number);
-    }
-    let count = (ranges.len() / 2) as u32;
-    let bounds = bounds_of(ranges);
-    let kept = Ranges { count, bounds };
-    given.with_ranges(kept).answered(0)
+    let kept = &mut given.ranges;
+    let done = set_ranges_in_place(&mut kept.count, &mut kept.bounds, ram, ranges);
+    given.answered(answer_of(done))
 }
 
 // The rest of the directory is not lent, so it stays.
@@ -64,16 +56,13 @@ pub fn set_ranges_in_place(
     bounds: &mut [u32; BOUNDS],
     ram: &[u8],
     ranges: &[u32],
-) -> u32
+) -> Result<(), Refusal>
     ensures { (tags : List ℕ) (valid : List Bool) (lru : List ℕ) (cd nw : Bool) (parity array : List ℕ) →
-        after (outcome (directory_of tags valid lru cd nw (lent_ranges range_count.new bounds.new)) result 0 0) (memory ram.now parity) array []
+        after (outcome (directory_of tags valid lru cd nw (lent_ranges range_count.new bounds.new)) (answer_of result) 0 0) (memory ram.now parity) array []
         ≡ set_ranges_call (state (directory_of tags valid lru cd nw (lent_ranges range_count.old bounds.old)) (memory ram.now parity) array) ranges.now }
 {
-    let number = set_ranges_number(ram.len(), ranges);
-    if number != 0 {
-        return number;
-    }
+    set_ranges_number(ram.len(), ranges)?;
     *range_count = (ranges.len() / 2) as u32;
     *bounds = bounds_of(ranges);
-    0
+    Ok(())
 }

@@ -1,11 +1,10 @@
 -- Laws of a read that carries nothing: memory is the same at every cycle, so that no cycle's number and no range matters.
+use Rattle.std.specs.Prelude.{Option, Some, None}
 use Prim.Native.Nat.{ℕ, suc}
 use mathlib.Core.Path.{◌≡◌, refl}
 use mathlib.Core.Bool.{Bool, false, cond, ◌&&◌}
 use mathlib.Core.List.{List, [], ◌∷◌, map}
 use lib.ListN.{get_or, replicate}
-use Rattle.ways.specs.declared.ways.Found.{Found}
-use Rattle.ways.specs.declared.ways.Found.TheVariants.{At, Nothing}
 use Rattle.words.specs.Bytes.{bytes_at}
 use Rattle.ranges.specs.Ranges.{Range}
 use Rattle.memory.specs.Parity.{Memory}
@@ -72,11 +71,11 @@ settled_alone victim m array w missed =
       records = missed.records;
     }
 
-unfoldable pub done_alone : Found → ℕ → Bool → Memory → List ℕ → Doubleword → Done
-done_alone (At way) victim mayFill m array w = read_hit way m array w
-done_alone Nothing victim mayFill m array w = settled_alone victim m array w (miss_alone mayFill m w)
+unfoldable pub done_alone : Option ℕ → ℕ → Bool → Memory → List ℕ → Doubleword → Done
+done_alone (Some way) victim mayFill m array w = read_hit way m array w
+done_alone None victim mayFill m array w = settled_alone victim m array w (miss_alone mayFill m w)
 
-pub done_alone_lem : (f : Found) (victim : ℕ) (mayFill : Bool) (rs : List Range) (m : Memory) (n : ℕ) (array : List ℕ) (w : Doubleword) → read_done f victim mayFill rs m [] n array w ≡ done_alone f victim mayFill m array w
+pub done_alone_lem : (f : Option ℕ) (victim : ℕ) (mayFill : Bool) (rs : List Range) (m : Memory) (n : ℕ) (array : List ℕ) (w : Doubleword) → read_done f victim mayFill rs m [] n array w ≡ done_alone f victim mayFill m array w
 unfolding read_done done_alone settled settled_alone due landed
-done_alone_lem (At way) victim mayFill rs m n array w = refl
-done_alone_lem Nothing victim mayFill rs m n array w = rw (miss_alone_lem mayFill rs m n w)
+done_alone_lem (Some way) victim mayFill rs m n array w = refl
+done_alone_lem None victim mayFill rs m n array w = rw (miss_alone_lem mayFill rs m n w)

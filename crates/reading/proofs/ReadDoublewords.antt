@@ -1,4 +1,5 @@
 -- Laws of one doubleword of a read: what its cycles brought is RAM's, and what the code leaves in each case.
+use Rattle.std.specs.Prelude.{Option, Some, None}
 use Prim.Native.Nat.{ℕ, ◌+◌, ◌*◌, ◌-◌, ◌/◌, ◌%◌, ◌^◌, ◌≤◌, ◌<◌}
 use mathlib.Core.Path.{◌≡◌, refl, sym, ◌∙◌, ap}
 use mathlib.Core.Bool.{Bool, true, false, ◌&&◌}
@@ -8,9 +9,8 @@ use native.Mathlib.Nat.{add-zero, zero-add}
 use lib.ListN.{length, get_or, length-map}
 use lib.Seq.{sets}
 use Rattle.laws.proofs.Tests.{cond_true, cond_false}
-use Rattle.ways.specs.Address.{data_offset}
-use Rattle.ways.specs.declared.ways.Found.{Found}
-use Rattle.ways.specs.declared.ways.Found.TheVariants.{At, Nothing}
+use Rattle.ways.specs.Address.{data_offset, set_of}
+use Rattle.ways.specs.Ways.{lookup_in, victim_in}
 use Rattle.words.specs.Bytes.{bytes_at, value_of}
 use Rattle.words.proofs.Spans.{bytes_same}
 use Rattle.words.proofs.Numbers.{byte_powers, bytes_small, value_below}
@@ -23,23 +23,22 @@ use Rattle.parts.specs.Made.{CyclesMade}
 use Rattle.bus.proofs.Runs.{last_answer_lem}
 use Rattle.cycles.proofs.Brought.{OneDoubleword, fill_buffer, wanted_bytes}
 use Rattle.doubleword.specs.declared.change.Change.TheVariants.{Unchanged, Use, Fill}
+use Rattle.doubleword.specs.declared.change.Change.{Change}
 use Rattle.doubleword.specs.declared.change.Wanted.{Wanted}
 use Rattle.doubleword.specs.Doubleword.{Doubleword, Done, plain_cycles}
 use Rattle.doubleword.specs.declared.cursor.AccessCursor.{AccessCursor}
-use Rattle.doubleword.specs.DoublewordCode.{DoublewordNeeds}
+use Rattle.doubleword.specs.DoublewordCode.{DoublewordNeeds, doubleword_of}
 use Rattle.doubleword.specs.Cursor.{wanted_of, group_at}
 use Rattle.carried.specs.Carried.{due, landed}
 use Rattle.reading.specs.Reading.{read_hit, fill_cycles, settled, read_done}
-use Rattle.reading.specs.declared.next.NextRead.{NextRead}
-use Rattle.reading.specs.declared.reading.DoublewordRead.{DoublewordRead}
 use Rattle.reading.specs.ReadingCode.{Reads, ReadNext, read_alone}
 use Rattle.reading.proofs.Alone.{buffer_alone, plain_alone, fill_alone, miss_alone, settled_alone, done_alone, done_alone_lem}
 
 -- a read leaves memory as it was
-pub read_memory : (f : Found) (victim : ℕ) (mayFill : Bool) (m : Memory) (array : List ℕ) (w : Doubleword) → (read_alone f victim mayFill m array w).memory ≡ m
+pub read_memory : (f : Option ℕ) (victim : ℕ) (mayFill : Bool) (m : Memory) (array : List ℕ) (w : Doubleword) → (read_alone f victim mayFill m array w).memory ≡ m
 unfolding read_done read_hit settled due landed
-read_memory (At way) victim mayFill m array w = refl
-read_memory Nothing victim mayFill m array w = refl
+read_memory (Some way) victim mayFill m array w = refl
+read_memory None victim mayFill m array w = refl
 
 -- the bytes of a line buffer that a fill filled are RAM's
 filled_bytes : (m : Memory) (w : Doubleword) (j n : ℕ) → 16 ≤ length w.answers → j + n ≤ 16 → bytes_at (buffer_alone m w (fill_cycles w)) j n ≡ bytes_at m.ram (w.line + j) n
@@ -60,14 +59,14 @@ one_doubleword w first ram parity answers log z = record { some = z.some; lanes 
     inside : (from count : ℕ) → from < 16 → from % 4 + count ≤ 4 → from + count ≤ 16
     inside from count h l = omega arith
 
-module _ (f : Found) (victim : ℕ) (mayFill : Bool) (m : Memory) (array : List ℕ) (w : Doubleword) (first : ℕ) (log₀ : List ℕ) where
+module _ (victim : ℕ) (mayFill : Bool) (m : Memory) (array : List ℕ) (w : Doubleword) (first : ℕ) (log₀ : List ℕ) where
   -- a hit
-  pub hit_reads : (way offset value : ℕ) → f ≡ At way → way < 4 → offset ≡ data_offset w.line way →
+  pub hit_reads : (way offset value : ℕ) → way < 4 → offset ≡ data_offset w.line way →
       value ≡ value_of (bytes_at array (offset + w.wanted.from) w.wanted.count) → ((i : ℕ) → get_or array i 0 < 256) →
-      Reads (read_alone f victim mayFill m array w) w.wanted.count first log₀ (Use way) value 0 array log₀
+      Reads (read_alone (Some way) victim mayFill m array w) w.wanted.count first log₀ (Use way) value 0 array log₀
   unfolding done_alone read_hit words_of
-  hit_reads way offset value e b eo ev small =
-      rw (done_alone_lem f victim mayFill [] m 0 array w, e)
+  hit_reads way offset value b eo ev small =
+      rw (done_alone_lem (Some way) victim mayFill [] m 0 array w)
       (record {
         changes = refl;
         below = b;
@@ -80,16 +79,16 @@ module _ (f : Found) (victim : ℕ) (mayFill : Bool) (m : Memory) (array : List 
       })
 
   -- a miss reads RAM's bytes
-  module _ (e : f ≡ Nothing) (g : OneDoubleword w.wanted) (enough : 16 ≤ length w.answers) (value : ℕ) (ev : value ≡ value_of (bytes_at m.ram (w.line + w.wanted.from) w.wanted.count))
+  module _ (g : OneDoubleword w.wanted) (enough : 16 ≤ length w.answers) (value : ℕ) (ev : value ≡ value_of (bytes_at m.ram (w.line + w.wanted.from) w.wanted.count))
       (small : (i : ℕ) → get_or m.ram i 0 < 256) (cycles : ℕ) (log : List ℕ) where
     fits_ram : value < 256 ^ w.wanted.count
     fits_ram = rw ev (bytes_below m.ram small (w.line + w.wanted.from) w.wanted.count)
 
     pub plain_reads : (mayFill && ken (get_or w.answers 0 0)) ≡ false → CyclesMade (read_record plain_kind m w.line) (plain_cycles w) first 0 log₀ cycles log → cycles ≤ 4 →
-        Reads (read_alone f victim mayFill m array w) w.wanted.count first log₀ Unchanged value cycles array log
+        Reads (read_alone None victim mayFill m array w) w.wanted.count first log₀ Unchanged value cycles array log
     unfolding done_alone miss_alone settled_alone plain_alone
     plain_reads p made most =
-        rw (done_alone_lem f victim mayFill [] m 0 array w, e, cond_false _ (fill_alone m w) (plain_alone m w) p)
+        rw (done_alone_lem None victim mayFill [] m 0 array w, cond_false _ (fill_alone m w) (plain_alone m w) p)
         (record {
           changes = refl;
           below = tt;
@@ -113,11 +112,11 @@ module _ (f : Found) (victim : ℕ) (mayFill : Bool) (m : Memory) (array : List 
       filled_made = made.made ∙ zero-add (length (fill_cycles w)) ∙ sym (length-map (fill_cycles w) (read_record fill_kind m w.line))
 
       pub dropped_reads : ken (get_or w.answers (cycles - 1) 0) ≡ false →
-          Reads (read_alone f victim mayFill m array w) w.wanted.count first log₀ Unchanged value cycles array log
+          Reads (read_alone None victim mayFill m array w) w.wanted.count first log₀ Unchanged value cycles array log
       unfolding done_alone miss_alone settled_alone fill_alone
       dropped_reads k =
           let q = last_is ∙ k in
-          rw (done_alone_lem f victim mayFill [] m 0 array w, e, cond_true _ (fill_alone m w) (plain_alone m w) p)
+          rw (done_alone_lem None victim mayFill [] m 0 array w, cond_true _ (fill_alone m w) (plain_alone m w) p)
           (record {
             changes = rw q;
             below = tt;
@@ -131,12 +130,12 @@ module _ (f : Found) (victim : ℕ) (mayFill : Bool) (m : Memory) (array : List 
 
       pub kept_reads : ken (get_or w.answers (cycles - 1) 0) ≡ true → (way : ℕ) → way ≡ victim → way < 4 → (array' : List ℕ) →
           array' ≡ sets array (data_offset w.line way) (bytes_at m.ram w.line 16) →
-          Reads (read_alone f victim mayFill m array w) w.wanted.count first log₀ (Fill way) value cycles array' log
+          Reads (read_alone None victim mayFill m array w) w.wanted.count first log₀ (Fill way) value cycles array' log
       unfolding done_alone miss_alone settled_alone fill_alone
       kept_reads k way ew b array' ea =
           let q = last_is ∙ k in
           let line : bytes_at (buffer_alone m w (fill_cycles w)) 0 16 ≡ bytes_at m.ram w.line 16 = rw (add-zero w.line) at (filled_bytes m w 0 16 enough (omega arith)) in
-          rw (done_alone_lem f victim mayFill [] m 0 array w, e, cond_true _ (fill_alone m w) (plain_alone m w) p)
+          rw (done_alone_lem None victim mayFill [] m 0 array w, cond_true _ (fill_alone m w) (plain_alone m w) p)
           (record {
             changes = rw (q, ew);
             below = b;
@@ -149,14 +148,14 @@ module _ (f : Found) (victim : ℕ) (mayFill : Bool) (m : Memory) (array : List 
           })
 
 -- the next doubleword of the code, from what its parts leave
-module _ (cursor : AccessCursor) (xs : List ℕ) (w : Wanted) (given : List ℕ) (ew : w ≡ wanted_of cursor) (eg : given ≡ group_at cursor xs) (read : DoublewordRead) where
-  abbrev result : NextRead
-  result = record { line = w.line; change = read.change; count = w.count; value = read.value; cycles = read.cycles }
+module _ (tags : List ℕ) (valid : List Bool) (lru : List ℕ) (mayFill : Bool) (m : Memory) (array : List ℕ) where
+  abbrev read_of : Wanted → List ℕ → Done
+  read_of w xs = read_alone (lookup_in tags valid w.line) (victim_in valid lru (set_of w.line)) mayFill m array (doubleword_of w xs)
 
-  pub read_next_left : (one : Wanted → List ℕ → Done) (log₀ array log : List ℕ) →
-      Reads (one w given) w.count cursor.cycles log₀ read.change read.value read.cycles array log →
-      ReadNext (one (wanted_of cursor) (group_at cursor xs)) cursor log₀ result array log
-  read_next_left one log₀ array log k =
+  pub read_next_left : (cursor : AccessCursor) (xs given : List ℕ) (w : Wanted) → w ≡ wanted_of cursor → given ≡ group_at cursor xs →
+      {change : Change} {value cycles : ℕ} {log₀ array' log : List ℕ} → Reads (read_of w given) w.count cursor.cycles log₀ change value cycles array' log →
+      ReadNext (read_of (wanted_of cursor) (group_at cursor xs)) cursor log₀ (record { line = w.line; change = change; count = w.count; value = value; cycles = cycles }) array' log
+  read_next_left cursor xs given w ew eg k =
       record {
         line = ap (λ (x : Wanted). x.line) ew;
         counts = ap (λ (x : Wanted). x.count) ew;

@@ -1,11 +1,10 @@
 -- Laws of a read by the bytes that RAM takes of the carried writes: a doubleword does the same with them and no range as with the writes and the ranges.
+use Rattle.std.specs.Prelude.{Option, Some, None}
 use Prim.Native.Nat.{ℕ, suc, ◌+◌}
 use mathlib.Core.Path.{◌≡◌, refl, sym, ◌∙◌, ap}
 use mathlib.Core.Bool.{Bool}
 use mathlib.Core.List.{List, [], ◌∷◌}
 use lib.ListN.{length, replicate}
-use Rattle.ways.specs.declared.ways.Found.{Found}
-use Rattle.ways.specs.declared.ways.Found.TheVariants.{At, Nothing}
 use Rattle.ranges.specs.Ranges.{Range}
 use Rattle.memory.specs.Parity.{Memory}
 use Rattle.carried.specs.Carried.{Carried, due, later, landed, memory_at, in_line, taken}
@@ -78,7 +77,7 @@ module _ (rs : List Range) (m : Memory) (ws : List Carried) (h : WithinLines ws)
       taken_landed rs (due n ws) m (due_lines n ws h) ∙ ap (λ (l : List Carried). landed [] l m) (sym (taken_due rs n ws)) in
       rw e
 
-  pub done_taken : (f : Found) (victim : ℕ) (mayFill : Bool) (array : List ℕ) → read_done f victim mayFill rs m ws first array w ≡ read_done f victim mayFill [] m (taken rs ws) first array w
+  pub done_taken : (f : Option ℕ) (victim : ℕ) (mayFill : Bool) (array : List ℕ) → read_done f victim mayFill rs m ws first array w ≡ read_done f victim mayFill [] m (taken rs ws) first array w
   unfolding read_done
-  done_taken (At way) victim mayFill array = refl
-  done_taken Nothing victim mayFill array = rw (miss_taken mayFill) (settled_taken victim array (read_miss mayFill [] m (taken rs ws) first w))
+  done_taken (Some way) victim mayFill array = refl
+  done_taken None victim mayFill array = rw (miss_taken mayFill) (settled_taken victim array (read_miss mayFill [] m (taken rs ws) first w))

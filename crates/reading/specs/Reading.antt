@@ -1,11 +1,9 @@
 -- Document 01, 'One doubleword', with document 02, C-12: what one doubleword of a read does, by what the directory answers for its line. In two stages: the lookup and, for a
 -- miss, its cycles, which ask nothing of the directory; then the end of a miss, by the victim that the directory names then. `ws` are the writes that the read
 -- carries and that have not landed, `first` is the number of the next cycle of the access, `rs` are the read-only ranges.
-use Rattle.std.specs.Prelude.{ℕ, suc, ◌+◌, ◌/◌, Bool, false, cond, not, ◌&&◌, List, [], ◌∷◌, length, get_or, replicate}
+use Rattle.std.specs.Prelude.{ℕ, suc, ◌+◌, ◌/◌, Bool, false, cond, not, ◌&&◌, List, [], ◌∷◌, length, get_or, replicate, Option, Some, None}
 use Rattle.std.proofs.lemmas.List.Edits.{sets}
 use Rattle.ways.specs.Address.{data_offset}
-use Rattle.ways.specs.declared.ways.Found.{Found}
-use Rattle.ways.specs.declared.ways.Found.TheVariants.{At, Nothing}
 use Rattle.words.specs.Bytes.{bytes_at}
 use Rattle.ranges.specs.Ranges.{Range}
 use Rattle.memory.specs.Parity.{Memory}
@@ -93,6 +91,6 @@ settled victim rs m ws first array w missed =
     }
 
 -- A doubleword of a read, by what the lookup found: "A doubleword is looked up before a write lands ahead of its first cycle."
-unfoldable pub read_done : Found → ℕ → Bool → List Range → Memory → List Carried → ℕ → List ℕ → Doubleword → Done
-read_done (At way) victim mayFill rs m ws first array w = read_hit way m array w
-read_done Nothing victim mayFill rs m ws first array w = settled victim rs m ws first array w (read_miss mayFill rs m ws first w)
+unfoldable pub read_done : Option ℕ → ℕ → Bool → List Range → Memory → List Carried → ℕ → List ℕ → Doubleword → Done
+read_done (Some way) victim mayFill rs m ws first array w = read_hit way m array w
+read_done None victim mayFill rs m ws first array w = settled victim rs m ws first array w (read_miss mayFill rs m ws first w)

@@ -1,6 +1,5 @@
 -- What the parts of the code of a read leave.
-use Rattle.std.specs.Prelude.{ℕ, ◌^◌, ◌≤◌, ◌<◌, ◌≡◌, Bool, List, [], length}
-use Rattle.ways.specs.declared.ways.Found.{Found}
+use Rattle.std.specs.Prelude.{ℕ, ◌^◌, ◌≤◌, ◌<◌, ◌≡◌, Bool, List, [], length, Option}
 use Rattle.words.specs.Bytes.{value_of}
 use Rattle.memory.specs.Parity.{Memory}
 use Rattle.bus.specs.Groups.{group_size}
@@ -31,5 +30,5 @@ pub record ReadNext (done : Done) (cursor : AccessCursor) (log₀ : List ℕ) (r
   pub reads : Reads done (count_of cursor) cursor.cycles log₀ r.change r.value r.cycles array log
 
 -- A doubleword of a read that carries nothing, so that no range is asked.
-abbrev pub read_alone : Found → ℕ → Bool → Memory → List ℕ → Doubleword → Done
+abbrev pub read_alone : Option ℕ → ℕ → Bool → Memory → List ℕ → Doubleword → Done
 read_alone f victim mayFill m array w = read_done f victim mayFill [] m [] 0 array w

@@ -2,14 +2,15 @@
 ghost use Rattle.std.specs.Prelude.{◌≡◌, ◌+◌, ◌*◌, ◌^◌, ◌≤◌, ◌<◌, length};
 ghost use Rattle.ways.specs.Address.{set_of};
 ghost use Rattle.ways.specs.Ways.{lookup_in, victim_in};
-ghost use Rattle.memory.specs.Parity.{lent_memory};
+ghost use Rattle.memory.specs.Parity.{memory};
 ghost use Rattle.bus.specs.Groups.{widest};
 ghost use Rattle.doubleword.specs.Cursor.{AccessNeeds, line_address, next_doubleword};
 ghost use Rattle.reading.specs.ReadingCode.{ReadNext, read_alone};
 
-use crate::reading::read_doubleword;
+use crate::reading::read_miss;
 use doubleword::{AccessCursor, Change};
-use ways::{LINES, SETS};
+use ways::{Arrays, data_offset};
+use words::value_at;
 
 // What the next doubleword did: the directory's change with its line, how many bytes it read and their number, the count of
 // cycles. What is left after it is worked out by the caller, in registers.
@@ -22,11 +23,9 @@ pub struct NextRead {
     pub cycles: usize,
 }
 
-// The doubleword at a cursor, by lent fields of the directory. may_fill: CD = 0 and PCD = 0.
+// The doubleword at a cursor. may_fill: CD = 0 and PCD = 0.
 pub fn read_next<'a>(
-    tags: &'a [u32; LINES],
-    valid: &'a [bool; LINES],
-    lru: &'a [u8; SETS],
+    arrays: Arrays<'a>,
     may_fill: bool,
     ram: &[u8],
     parity: &[u8],
@@ -36,32 +35,31 @@ pub fn read_next<'a>(
     cursor: AccessCursor,
 ) -> NextRead
     requires { (0 < cursor.left) × AccessNeeds cursor (length ram.now) (length parity.now) (length «data».old) (length answers.now) (length log.old) }
-    ensures { ReadNext (read_alone (lookup_in tags.now valid.now (line_address cursor)) (victim_in valid.now lru.now (set_of (line_address cursor)))
-        may_fill (lent_memory ram.now parity.now) «data».old (next_doubleword cursor answers.now))
+    ensures { ReadNext (read_alone (lookup_in arrays.entry.tags.now arrays.entry.valid.now (line_address cursor)) (victim_in arrays.entry.valid.now arrays.entry.lru.now (set_of (line_address cursor)))
+        may_fill (memory ram.now parity.now) «data».old (next_doubleword cursor answers.now))
         cursor log.old result «data».new log.new }
 {
     let w = cursor.wanted();
     let group = cursor.group_of(answers);
-    let read = read_doubleword(
-        tags,
-        valid,
-        lru,
-        may_fill,
-        ram,
-        parity,
-        data,
-        group,
-        log,
-        w,
-        cursor.cycles,
-    );
-    let change = read.change;
+    let first = cursor.cycles;
+    let tags = arrays.tags;
+    let valid = arrays.valid;
+    let lru = arrays.lru;
+    let (change, value, cycles) = match ways::lookup(tags, valid, w.line) {
+        Some(way) => {
+            let value = value_at(data, data_offset(w.line, way) + w.from, w.count);
+            (Change::Use(way), value, 0)
+        }
+        None => read_miss(
+            valid, lru, may_fill, ram, parity, data, group, log, w, first,
+        ),
+    };
     NextRead {
         line: w.line,
         change,
         count: w.count,
-        value: read.value,
-        cycles: read.cycles,
+        value,
+        cycles,
     }
 }
 

@@ -10,8 +10,8 @@ use borrow.Author.Tests.{eq-eqb, ne_eqb, eqb-true, eqb-false, ltb-true, ltb-fals
 use Rattle.laws.proofs.Tests.{neither, cond_true, cond_false, same_or}
 use Rattle.ranges.specs.declared.Ranges.{Ranges}
 use Rattle.ranges.specs.Ranges.{Range, ranges_in, ranges_of, any_bad}
-use Rattle.bus.specs.Groups.{widest, bad_width, group_count, answer_count, highest_answer, log_size}
-use Rattle.refusal.specs.Refusal.{when, or_else, any_above, bad_ram, memory_number, lent_number, bad_answers, argument_number, ram_number, array_number, view_input_number, external_number, ranges_number, kept_number}
+use Rattle.bus.specs.Groups.{widest, bad_width, group_count, answer_count, log_size}
+use Rattle.refusal.specs.Refusal.{when, or_else, bad_ram, memory_number, lent_number, bad_answers, argument_number, ram_number, array_number, view_input_number, external_number, ranges_number, kept_number}
 
 -- neither of two numbers is met
 pub or_zero : (a b : ℕ) → or_else a b ≡ 0 → (a ≡ 0) × (b ≡ 0)
@@ -33,80 +33,6 @@ or_grouped a b c =
     same_or _ a 0
     (λ z. let e = zero_or a b z in let k = zero_or a (or_else b c) z in rw (e, k))
     (λ n. let e = first_or a b n in let k = first_or a (or_else b c) n in rw (e, k) (first_or a c n))
-
--- a number that is met, one number for both, and the second one where the first is not met
-pub number_first : (n a b : ℕ) → n ≡ a → (n ≡ 0 → ⊥) → n ≡ or_else a b
-number_first n a b e h = e ∙ sym (first_or a b (λ z. h (e ∙ z)))
-
-pub number_same : (n a : ℕ) → n ≡ a → n ≡ or_else a a
-number_same n a e = e ∙ same_or _ a 0 (λ z. sym (zero_or a a z)) (λ k. sym (first_or a a k))
-
-pub number_later : (n k a b : ℕ) → n ≡ a → n ≡ 0 → k ≡ b → k ≡ or_else a b
-number_later n k a b e z f = f ∙ sym (zero_or a b (sym e ∙ z))
-
--- numbers 4 to 7 as the code asks for them: the count of answers with the first three, then the answers themselves
-in_two : (a b c d : Bool) (e : ℕ) →
-    or_else (when a 4) (or_else (when b 5) (or_else (when (c || d) 6) e)) ≡ or_else (or_else (when a 4) (or_else (when b 5) (when c 6))) (or_else (when d 6) e)
-in_two true b c d e = refl
-in_two false true c d e = refl
-in_two false false true d e = refl
-in_two false false false d e = refl
-
--- the number of a call, by what it asks for first, second and later
-module _ (ram parity array address width : ℕ) (answers : List ℕ) (log later : ℕ) where
-  abbrev lent : ℕ
-  lent = lent_number ram parity array
-
-  abbrev first : ℕ
-  first = or_else (when (bad_width width) 4) (or_else (when (ltb ram (address + width)) 5) (when (not (eqb (length answers) answer_count)) 6))
-
-  abbrev second : ℕ
-  second = or_else (when (any_above highest_answer answers) 6) (when (ltb log log_size) 7)
-
-  abbrev whole : ℕ
-  whole = or_else lent (or_else (argument_number ram address width answers log) later)
-
-  asked : or_else (or_else lent first) (or_else second later) ≡ whole
-  unfolding argument_number
-  asked =
-      or_grouped lent first (or_else second later)
-      ∙ ap (or_else lent) (sym (or_grouped first second later))
-      ∙ ap (λ (x : ℕ). or_else lent (or_else x later))
-      (sym (in_two (bad_width width) (ltb ram (address + width)) (not (eqb (length answers) answer_count)) (any_above highest_answer answers) (when (ltb log log_size) 7)))
-
-  module _ (n : ℕ) (e : n ≡ or_else lent first) where
-    pub asked_first : (n ≡ 0 → ⊥) → n ≡ whole
-    asked_first h = number_first n (or_else lent first) (or_else second later) e h ∙ asked
-
-    module _ (z : n ≡ 0) (k : ℕ) (f : k ≡ second) where
-      pub asked_second : (k ≡ 0 → ⊥) → k ≡ whole
-      asked_second h = number_later n k (or_else lent first) (or_else second later) e z (number_first k second later f h) ∙ asked
-
-      pub asked_later : k ≡ 0 → (r : ℕ) → r ≡ later → r ≡ whole
-      asked_later y r g = number_later n r (or_else lent first) (or_else second later) e z (number_later k r second later f y g) ∙ asked
-
--- the same where a number of its own is asked for with the second
-module _ (ram parity array address width : ℕ) (answers : List ℕ) (log own rest : ℕ) where
-  abbrev lent_first : ℕ
-  lent_first = or_else (lent_number ram parity array) (or_else (when (bad_width width) 4) (or_else (when (ltb ram (address + width)) 5) (when (not (eqb (length answers) answer_count)) 6)))
-
-  abbrev then_second : ℕ
-  then_second = or_else (when (any_above highest_answer answers) 6) (when (ltb log log_size) 7)
-
-  abbrev all : ℕ
-  all = or_else (lent_number ram parity array) (or_else (argument_number ram address width answers log) (or_else own rest))
-
-  module _ (n : ℕ) (e : n ≡ lent_first) (z : n ≡ 0) (k : ℕ) (f : k ≡ or_else then_second own) where
-    pub asked_joined : (k ≡ 0 → ⊥) → k ≡ all
-    asked_joined h =
-        same_or _ then_second 0
-        (λ none. asked_later ram parity array address width answers log (or_else own rest) n e z 0 (sym none) refl k (number_first k own rest (f ∙ zero_or then_second own none) h))
-        (λ some. asked_second ram parity array address width answers log (or_else own rest) n e z k (f ∙ first_or then_second own some) h)
-
-    pub asked_after : k ≡ 0 → (r : ℕ) → r ≡ rest → r ≡ all
-    asked_after y r g =
-        let p = or_zero then_second own (sym f ∙ y) in
-        asked_later ram parity array address width answers log (or_else own rest) n e z 0 (sym p.0) refl r (number_later 0 r own rest (sym p.1) refl g)
 
 pub when_zero : (b : Bool) (n : ℕ) → 0 < n → when b n ≡ 0 → b ≡ false
 when_zero true n h e = absurd (omega arith)
@@ -238,9 +164,9 @@ unfolding ranges_number
 ranges_good ram rs count e h = rw (e, le-ltb 8 count h)
 
 -- a directory that keeps no range meets neither, by any RAM
-pub none_kept : (ram : ℕ) (kept : Ranges) → kept.count ≡ 0 → kept_number ram kept ≡ 0
+pub none_kept : (ram : ℕ) (kept : Ranges) → kept.count ≡ 0 → 0 ≡ kept_number ram kept
 unfolding any_bad ranges_of ranges_in
-none_kept ram kept z = ranges_good ram (ranges_of kept) kept.count (rw z) (omega arith)
+none_kept ram kept z = sym (ranges_good ram (ranges_of kept) kept.count (rw z) (omega arith))
 
-pub none_first : (ram : ℕ) (kept : Ranges) → kept.count ≡ 0 → (r later : ℕ) → r ≡ later → r ≡ or_else (kept_number ram kept) later
-none_first ram kept z r later g = number_later 0 r (kept_number ram kept) later (sym (none_kept ram kept z)) refl g
+pub none_first : (ram : ℕ) (kept : Ranges) (n later : ℕ) → kept.count ≡ 0 → n ≡ later → n ≡ or_else (kept_number ram kept) later
+none_first ram kept n later z e = rw (← none_kept ram kept z) e

@@ -1,6 +1,6 @@
 -- Laws of the numbers of the writes that a read carries: their loops, and what the accepted case knows.
 use Prim.Native.Nat.{ℕ, zero, suc, ◌+◌, ◌*◌, ◌-◌, ◌≤◌, ◌<◌}
-use mathlib.Core.Path.{◌≡◌, refl, ◌∙◌, ap}
+use mathlib.Core.Path.{◌≡◌, refl, sym, ◌∙◌, ap}
 use mathlib.Core.Bool.{Bool, true, false, not, ◌&&◌, ◌||◌, or_assoc, or-false}
 use mathlib.Core.List.{List, [], ◌∷◌}
 use native.Mathlib.Omega.{arith}
@@ -91,7 +91,14 @@ module _ (c : CarriedWrites) where
   unfolding carried_number
   carried_many ram h = let l = carried_length in let t = lt-ltb 4 c.count h in rw (l, t)
 
-  -- 33 is not met, so no write meets 10
+  -- 33 is not met, so there are four at most
+  pub few_accepted : (ram : ℕ) → 0 ≡ carried_number ram (carried_of c) → c.count ≤ 4
+  unfolding carried_number
+  few_accepted ram e =
+      let p = neither (ltb 4 (length (carried_of c)) || not (in_order (carried_of c))) (any_refused ram (carried_of c)) (when_zero _ 33 (omega arith) (sym e)) in
+      omega (arith, ltb-false 4 (length (carried_of c)) (neither (ltb 4 (length (carried_of c))) (not (in_order (carried_of c))) p.0).0, carried_length)
+
+  -- and no write meets 10
   abbrev tenth : ℕ → ℕ → ℕ
   tenth ram k = external_number ram (write_in c k).address (length (write_in c k).bytes)
 
@@ -117,13 +124,9 @@ module _ (c : CarriedWrites) where
       good_at ram (neither (ltb 4 (length (carried_of c)) || not (in_order (carried_of c))) (any_refused ram (carried_of c)) (when_zero _ 33 (omega arith) e)).1
 
   pub carried_accepted : (ram parity : ℕ) → carried_number ram (carried_of c) ≡ 0 → ram ≤ 4 * parity → CarriedNeeds c ram parity
-  unfolding carried_number
   carried_accepted ram parity e b =
-      let z = when_zero _ 33 (omega arith) e in
-      let p = neither (ltb 4 (length (carried_of c)) || not (in_order (carried_of c))) (any_refused ram (carried_of c)) z in
-      let q = neither (ltb 4 (length (carried_of c))) (not (in_order (carried_of c))) p.0 in
       record {
-        few = omega (arith, ltb-false 4 (length (carried_of c)) q.0, carried_length);
+        few = few_accepted ram (sym e);
         short = λ k h. (carried_good ram e k h).most;
         inside = λ k h. (carried_good ram e k h).inside;
         bits = b;

@@ -1,4 +1,5 @@
 -- Laws that several proofs cite.
-mod Numbers
+pub mod Numbers
+pub mod Order
 pub mod Accepted
 pub mod Carried

@@ -4,8 +4,8 @@ use Rattle.ranges.specs.declared.Ranges.{Ranges}
 use Rattle.directory.specs.declared.steps.Directory.{Directory}
 use Rattle.directory.specs.declared.steps.Outcome.{Outcome}
 use Rattle.directory.specs.Outcome.{outcome}
-use Rattle.directory.specs.Steps.{lent_directory}
-use Rattle.memory.specs.Parity.{Memory, lent_memory}
+use Rattle.directory.specs.Steps.{directory_of}
+use Rattle.memory.specs.Parity.{Memory, memory}
 
 -- What a call is lent and changes: directory, RAM with its parity, data array (`array`).
 pub record State : Type 0 where
@@ -18,7 +18,7 @@ state d m array = record { directory = d; memory = m; array = array }
 
 -- The state that lent references hold.
 abbrev pub lent_state : List ℕ → List Bool → List ℕ → Bool → Bool → Ranges → List ℕ → List ℕ → List ℕ → State
-lent_state tags valid lru cd nw ranges ram parity array = state (lent_directory tags valid lru cd nw ranges) (lent_memory ram parity) array
+lent_state tags valid lru cd nw ranges ram parity array = state (directory_of tags valid lru cd nw ranges) (memory ram parity) array
 
 -- What a call leaves: its answer with the directory, every lent buffer, and the bytes that a view shows.
 pub record After : Type 0 where

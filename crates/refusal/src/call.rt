@@ -1,23 +1,24 @@
 // The number of a read and of a write, for either form of the call.
+#![tactic(auto, using(crate::proofs::Order::first_met, crate::proofs::Order::next_met, crate::proofs::Carried::few_accepted))]
+
 ghost use Rattle.std.specs.Prelude.{◌≡◌, length};
-ghost use Rattle.ranges.specs.Ranges.{lent_ranges};
+ghost use Rattle.numbers.specs.Numbers.{answer_of};
+ghost use Rattle.ranges.specs.Ranges.{kept_ranges};
 ghost use Rattle.carried.specs.CarriedCode.{carried_of};
 ghost use Rattle.refusal.specs.Refusal.{argument_number, carried_number, carried_states_number_in, kept_number, lent_number, or_else, states_number_in, value_number};
 
-use crate::input::{answers_number, input_number, or_else, value_number};
-use crate::state::{ranged_number, states_number};
+use crate::input::{argument_number, lent_number, value_number};
+use crate::state::own_number;
 use crate::writes::{carried_number, carried_states_number};
 use carried::CarriedWrites;
-use ranges::BOUNDS;
-use ways::{LINES, SETS};
+use numbers::Refusal;
+use ranges::Kept;
+use ways::Arrays;
 
-// The lowest number that a read meets, or 0.
-pub fn read_number<'a>(
-    tags: &'a [u32; LINES],
-    valid: &'a [bool; LINES],
-    lru: &'a [u8; SETS],
-    range_count: u32,
-    bounds: &'a [u32; BOUNDS],
+// The lowest number that a read meets.
+pub fn read_number<'a, 'b>(
+    arrays: Arrays<'a>,
+    ranges: Kept<'b>,
     ram: &[u8],
     parity: &[u8],
     data: &[u8],
@@ -25,61 +26,22 @@ pub fn read_number<'a>(
     width: u32,
     answers: &[u8],
     log: &[u32],
-) -> u32
-    ensures { result ≡ or_else (lent_number (length ram.now) (length parity.now) (length «data».now))
+) -> Result<(), Refusal>
+    ensures { answer_of result ≡ or_else (lent_number (length ram.now) (length parity.now) (length «data».now))
         (or_else (argument_number (length ram.now) address width answers.now (length log.now))
-        (or_else (kept_number (length ram.now) (lent_ranges range_count bounds.now))
-        (states_number_in tags.now valid.now lru.now address width))) }
+        (or_else (kept_number (length ram.now) (kept_ranges ranges.entry))
+        (states_number_in arrays.entry.tags.now arrays.entry.valid.now arrays.entry.lru.now address width))) }
 {
-    let number = input_number(ram, parity, data, answers, address, width);
-    if number != 0 {
-        return number;
-    }
-    let next = answers_number(answers, log);
-    if next != 0 {
-        return next;
-    }
-    if range_count != 0 {
-        return ranged_number(
-            tags,
-            valid,
-            lru,
-            range_count,
-            bounds,
-            ram.len(),
-            address,
-            width,
-        );
-    }
-    states_number(tags, valid, lru, address, width)
+    let size = ram.len();
+    lent_number(size, parity.len(), data.len())?;
+    argument_number(size, address, width, answers, log)?;
+    own_number(arrays, ranges, size, address, width)
 }
 
-// Those of a read's own sets, after 37 and 38.
-fn own_number<'a>(
-    tags: &'a [u32; LINES],
-    valid: &'a [bool; LINES],
-    lru: &'a [u8; SETS],
-    range_count: u32,
-    bounds: &'a [u32; BOUNDS],
-    ram: usize,
-    address: u32,
-    width: u32,
-) -> u32
-    ensures { result ≡ or_else (kept_number ram (lent_ranges range_count bounds.now)) (states_number_in tags.now valid.now lru.now address width) }
-{
-    if range_count != 0 {
-        return ranged_number(tags, valid, lru, range_count, bounds, ram, address, width);
-    }
-    states_number(tags, valid, lru, address, width)
-}
-
-// The lowest number that a read meets with the writes that it carries, or 0.
-pub fn read_carrying_number<'a>(
-    tags: &'a [u32; LINES],
-    valid: &'a [bool; LINES],
-    lru: &'a [u8; SETS],
-    range_count: u32,
-    bounds: &'a [u32; BOUNDS],
+// The lowest number that a read meets with the writes that it carries.
+pub fn read_carrying_number<'a, 'b>(
+    arrays: Arrays<'a>,
+    ranges: Kept<'b>,
     ram: &[u8],
     parity: &[u8],
     data: &[u8],
@@ -88,48 +50,26 @@ pub fn read_carrying_number<'a>(
     answers: &[u8],
     log: &[u32],
     carried: CarriedWrites,
-) -> u32
-    ensures { result ≡ or_else (lent_number (length ram.now) (length parity.now) (length «data».now))
+) -> Result<(), Refusal>
+    ensures { answer_of result ≡ or_else (lent_number (length ram.now) (length parity.now) (length «data».now))
         (or_else (argument_number (length ram.now) address width answers.now (length log.now))
         (or_else (carried_number (length ram.now) (carried_of carried))
-        (or_else (kept_number (length ram.now) (lent_ranges range_count bounds.now))
-        (or_else (states_number_in tags.now valid.now lru.now address width)
-        (carried_states_number_in tags.now valid.now lru.now (carried_of carried)))))) }
+        (or_else (kept_number (length ram.now) (kept_ranges ranges.entry))
+        (or_else (states_number_in arrays.entry.tags.now arrays.entry.valid.now arrays.entry.lru.now address width)
+        (carried_states_number_in arrays.entry.tags.now arrays.entry.valid.now arrays.entry.lru.now (carried_of carried)))))) }
 {
-    let number = input_number(ram, parity, data, answers, address, width);
-    if number != 0 {
-        return number;
-    }
-    let next = or_else(
-        answers_number(answers, log),
-        carried_number(ram.len(), carried),
-    );
-    if next != 0 {
-        return next;
-    }
-    let own = own_number(
-        tags,
-        valid,
-        lru,
-        range_count,
-        bounds,
-        ram.len(),
-        address,
-        width,
-    );
-    if own != 0 {
-        return own;
-    }
-    carried_states_number(tags, valid, lru, carried)
+    let size = ram.len();
+    lent_number(size, parity.len(), data.len())?;
+    argument_number(size, address, width, answers, log)?;
+    carried_number(size, carried)?;
+    own_number(arrays, ranges, size, address, width)?;
+    carried_states_number(arrays, carried)
 }
 
-// The lowest number that a write meets, or 0.
-pub fn write_number<'a>(
-    tags: &'a [u32; LINES],
-    valid: &'a [bool; LINES],
-    lru: &'a [u8; SETS],
-    range_count: u32,
-    bounds: &'a [u32; BOUNDS],
+// The lowest number that a write meets.
+pub fn write_number<'a, 'b>(
+    arrays: Arrays<'a>,
+    ranges: Kept<'b>,
     ram: &[u8],
     parity: &[u8],
     data: &[u8],
@@ -138,32 +78,16 @@ pub fn write_number<'a>(
     value: u64,
     answers: &[u8],
     log: &[u32],
-) -> u32
-    ensures { result ≡ or_else (lent_number (length ram.now) (length parity.now) (length «data».now))
+) -> Result<(), Refusal>
+    ensures { answer_of result ≡ or_else (lent_number (length ram.now) (length parity.now) (length «data».now))
         (or_else (argument_number (length ram.now) address width answers.now (length log.now))
         (or_else (value_number width value)
-        (or_else (kept_number (length ram.now) (lent_ranges range_count bounds.now))
-        (states_number_in tags.now valid.now lru.now address width)))) }
+        (or_else (kept_number (length ram.now) (kept_ranges ranges.entry))
+        (states_number_in arrays.entry.tags.now arrays.entry.valid.now arrays.entry.lru.now address width)))) }
 {
-    let number = input_number(ram, parity, data, answers, address, width);
-    if number != 0 {
-        return number;
-    }
-    let next = or_else(answers_number(answers, log), value_number(width, value));
-    if next != 0 {
-        return next;
-    }
-    if range_count != 0 {
-        return ranged_number(
-            tags,
-            valid,
-            lru,
-            range_count,
-            bounds,
-            ram.len(),
-            address,
-            width,
-        );
-    }
-    states_number(tags, valid, lru, address, width)
+    let size = ram.len();
+    lent_number(size, parity.len(), data.len())?;
+    argument_number(size, address, width, answers, log)?;
+    value_number(width, value)?;
+    own_number(arrays, ranges, size, address, width)
 }

@@ -1,99 +1,101 @@
-// The numbers that turn a call away because of the input, 0 where none is met.
-ghost use Rattle.std.specs.Prelude.{◌≡◌, not, ◌+◌, ◌^◌, eqb, ltb, length};
-ghost use Rattle.bus.specs.Groups.{answer_count, bad_width, highest_answer, log_size};
-ghost use Rattle.refusal.specs.Refusal.{any_above, bad_ram, external_number, lent_number, memory_number, or_else, value_number, view_input_number, when};
+// The numbers that turn a call away because of the input.
+ghost use Rattle.std.specs.Prelude.{◌≡◌, not, ◌^◌, ltb, length};
+ghost use Rattle.numbers.specs.Numbers.{answer_of};
+ghost use Rattle.refusal.specs.Refusal.{any_above, argument_number, array_number, bad_ram, external_number, lent_number, memory_number, ram_number, value_number, view_input_number};
 
 use bus::{ANSWERS, HIGHEST_ANSWER, LOG_WORDS, bad_width};
+use numbers::Refusal;
 use ways::DATA_SIZE;
 
-// The first of two numbers that is met.
-pub fn or_else(number: u32, next: u32) -> u32
-    ensures { result ≡ or_else number next }
-{
-    if number == 0 { next } else { number }
-}
-
-// Number 1.
-pub fn bad_ram(ram: usize) -> bool
+// RAM has 16 to 16,777,216 bytes, a multiple of 16.
+fn bad_ram(ram: usize) -> bool
     ensures { result ≡ bad_ram ram }
 {
     (ram < 16) | (16777216 < ram) | (ram % 16 != 0)
 }
 
-// Numbers 1 and 2, of the lengths of RAM and parity array.
-pub fn memory_number(ram: usize, parity: usize) -> u32
-    ensures { result ≡ memory_number ram parity }
+// Number 1, of RAM's length.
+pub fn ram_number(ram: usize) -> Result<(), Refusal>
+    ensures { answer_of result ≡ ram_number ram }
 {
     if bad_ram(ram) {
-        return 1;
+        return Err(Refusal::WrongRamLength);
     }
-    if parity != ram / 4 {
-        return 2;
-    }
-    0
+    Ok(())
 }
 
+// Number 3, of the data array's length.
+pub fn array_number(data: usize) -> Result<(), Refusal>
+    ensures { answer_of result ≡ array_number «data» }
+{
+    if data != DATA_SIZE {
+        return Err(Refusal::WrongDataLength);
+    }
+    Ok(())
+}
+
+// Numbers 1 and 2, of the lengths of RAM and parity array.
+#[tactic(auto, using(crate::proofs::Order::first_met, crate::proofs::Order::next_met), unfolding(crate::specs::Refusal::memory_number))]
+pub fn memory_number(ram: usize, parity: usize) -> Result<(), Refusal>
+    ensures { answer_of result ≡ memory_number ram parity }
+{
+    ram_number(ram)?;
+    if parity != ram / 4 {
+        return Err(Refusal::WrongParityLength);
+    }
+    Ok(())
+}
+
+// Numbers 1 to 3.
+#[tactic(auto, using(crate::proofs::Order::first_met, crate::proofs::Order::next_met), unfolding(crate::specs::Refusal::lent_number))]
+pub fn lent_number(ram: usize, parity: usize, data: usize) -> Result<(), Refusal>
+    ensures { answer_of result ≡ lent_number ram parity «data» }
+{
+    memory_number(ram, parity)?;
+    array_number(data)
+}
+
+#[tactic(auto, using(crate::proofs::Numbers::above_step, crate::proofs::Numbers::above_end))]
 fn any_above(limit: u8, answers: &[u8]) -> bool
     ensures { result ≡ any_above limit answers.now }
 {
     let mut above = false;
-    let mut k: usize = 0;
-    while k < answers.len() {
-        above = above | (limit < answers[k]);
-        k += 1;
+    for answer in answers {
+        above = above | (limit < *answer);
     }
     above
 }
 
-// Numbers 1 to 5 of a read or a write, then 6 where there are not ANSWERS of them. What the answers are is asked by answers_number, in the
-// caller, where their count is known then.
-pub fn input_number(
-    ram: &[u8],
-    parity: &[u8],
-    data: &[u8],
-    answers: &[u8],
+// Numbers 4 to 7, of a read's or a write's own arguments. In line, as own_number is: as calls the two cost an access some three
+// nanoseconds.
+#[tactic(auto, unfolding(crate::specs::Refusal::argument_number))]
+#[inline(always)]
+pub fn argument_number(
+    ram: usize,
     address: u32,
     width: u32,
-) -> u32
-    ensures { result ≡ or_else (lent_number (length ram.now) (length parity.now) (length «data».now))
-        (or_else (when (bad_width width) 4) (or_else (when (ltb (length ram.now) (address + width)) 5) (when (not (eqb (length answers.now) answer_count)) 6))) }
+    answers: &[u8],
+    log: &[u32],
+) -> Result<(), Refusal>
+    ensures { answer_of result ≡ argument_number ram address width answers.now (length log.now) }
 {
-    let n = ram.len();
-    if bad_ram(n) {
-        return 1;
-    }
-    if parity.len() != n / 4 {
-        return 2;
-    }
-    if data.len() != DATA_SIZE {
-        return 3;
-    }
     if bad_width(width) {
-        return 4;
+        return Err(Refusal::WrongWidth);
     }
-    if n < address as usize + width as usize {
-        return 5;
+    if ram < address as usize + width as usize {
+        return Err(Refusal::BeyondRam);
     }
-    if answers.len() != ANSWERS {
-        return 6;
-    }
-    0
-}
-
-// Number 6 of the answers themselves, then 7.
-pub fn answers_number(answers: &[u8], log: &[u32]) -> u32
-    ensures { result ≡ or_else (when (any_above highest_answer answers.now) 6) (when (ltb (length log.now) log_size) 7) }
-{
-    if any_above(HIGHEST_ANSWER, answers) {
-        return 6;
+    if answers.len() != ANSWERS || any_above(HIGHEST_ANSWER, answers) {
+        return Err(Refusal::WrongAnswers);
     }
     if log.len() < LOG_WORDS {
-        return 7;
+        return Err(Refusal::ShortLog);
     }
-    0
+    Ok(())
 }
 
 // Whether a value has more bytes than its width.
+#[tactic(auto, using(crate::proofs::Numbers::nothing_above, crate::proofs::Numbers::fits))]
 fn too_large(width: u32, value: u64) -> bool
     ensures { result ≡ not (ltb value (256 ^ width)) }
 {
@@ -104,41 +106,40 @@ fn too_large(width: u32, value: u64) -> bool
 }
 
 // Number 8.
-pub fn value_number(width: u32, value: u64) -> u32
-    ensures { result ≡ value_number width value }
+#[tactic(auto, unfolding(crate::specs::Refusal::value_number))]
+pub fn value_number(width: u32, value: u64) -> Result<(), Refusal>
+    ensures { answer_of result ≡ value_number width value }
 {
     if too_large(width, value) {
-        return 8;
+        return Err(Refusal::LargeValue);
     }
-    0
+    Ok(())
 }
 
 // Number 10, of an external write of so many bytes.
-pub fn external_number(ram: usize, address: u32, count: usize) -> u32
-    ensures { result ≡ external_number ram address count }
+#[tactic(auto, unfolding(crate::specs::Refusal::external_number))]
+pub fn external_number(ram: usize, address: u32, count: usize) -> Result<(), Refusal>
+    ensures { answer_of result ≡ external_number ram address count }
 {
     if (count == 0) | (16 < count) {
-        return 10;
+        return Err(Refusal::WrongExternalWrite);
     }
     let start = address as usize;
     if (16 < start % 16 + count) | (ram < start + count) {
-        return 10;
+        return Err(Refusal::WrongExternalWrite);
     }
-    0
+    Ok(())
 }
 
 // Numbers 1, 3 and 5 of a view, of the lengths of RAM and data array.
-pub fn view_input_number(ram: usize, data: usize, address: u32) -> u32
-    ensures { result ≡ view_input_number ram «data» address }
+#[tactic(auto, using(crate::proofs::Order::first_met, crate::proofs::Order::next_met), unfolding(crate::specs::Refusal::view_input_number))]
+pub fn view_input_number(ram: usize, data: usize, address: u32) -> Result<(), Refusal>
+    ensures { answer_of result ≡ view_input_number ram «data» address }
 {
-    if bad_ram(ram) {
-        return 1;
-    }
-    if data != DATA_SIZE {
-        return 3;
-    }
+    ram_number(ram)?;
+    array_number(data)?;
     if ram <= address as usize {
-        return 5;
+        return Err(Refusal::BeyondRam);
     }
-    0
+    Ok(())
 }

@@ -1,4 +1,4 @@
-// The numbers that turn a call away: of the input, of the ranges that the directory keeps, then of the state in every touched set. 0 where none is met.
+// The numbers that turn a call away: of the input, of the ranges that the directory keeps, then of the state in every touched set.
 #![tactic(auto)]
 
 mod call;
@@ -8,6 +8,6 @@ mod state;
 mod writes;
 
 pub use call::{read_carrying_number, read_number, write_number};
-pub use input::{bad_ram, external_number, memory_number, or_else, view_input_number};
+pub use input::{array_number, external_number, memory_number, ram_number, view_input_number};
 pub use kept::ranges_number;
-pub use state::{ranged_number, states_number};
+pub use state::own_number;

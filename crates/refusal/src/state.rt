@@ -1,62 +1,71 @@
 // The numbers that turn a call away because of the state.
 ghost use Rattle.std.specs.Prelude.{◌≡◌, ◌+◌, ◌-◌, ◌<◌};
+ghost use Rattle.numbers.specs.Numbers.{answer_of};
 ghost use Rattle.ways.specs.Address.{set_count, set_of};
-ghost use Rattle.ranges.specs.Ranges.{lent_ranges};
+ghost use Rattle.ranges.specs.Ranges.{kept_ranges};
 ghost use Rattle.refusal.specs.Refusal.{kept_number, or_else, states_number_in};
 
 use crate::kept::ranges_number;
-use ranges::BOUNDS;
-use ways::{LINES, SETS};
+use numbers::Refusal;
+use ranges::Kept;
+use ways::{Arrays, SETS, set_of, sound_set};
 
 // The set of the last of so many bytes.
 fn last_set(address: u32, count: u32) -> usize
     ensures { (result ≡ set_of (address + count - 1)) × (result < set_count) }
 {
     let end = address as usize + count as usize;
-    let last = if end == 0 { 0 } else { end - 1 };
-    last / 16 % SETS
+    end.saturating_sub(1) / 16 % SETS
 }
 
 // Numbers 21 to 23 of every touched set, the lower address's set first. Most accesses touch one set, and the quick
 // test says that it is sound.
-pub fn states_number<'a>(
-    tags: &'a [u32; LINES],
-    valid: &'a [bool; LINES],
-    lru: &'a [u8; SETS],
-    address: u32,
-    count: u32,
-) -> u32
-    ensures { result ≡ states_number_in tags.now valid.now lru.now address count }
+#[tactic(auto, using(crate::proofs::Order::first_met, crate::proofs::Order::next_met), unfolding(crate::specs::Refusal::states_number_in))]
+#[inline(always)]
+pub fn states_number<'a>(arrays: Arrays<'a>, address: u32, count: u32) -> Result<(), Refusal>
+    ensures { answer_of result ≡ states_number_in arrays.entry.tags.now arrays.entry.valid.now arrays.entry.lru.now address count }
 {
-    let first = ways::set_of(address);
+    let first = set_of(address);
     let last = last_set(address, count);
-    if (first == last) & ways::sound_set(tags, lru, first) {
-        return 0;
+    let tags = arrays.tags;
+    let lru = arrays.lru;
+    if (first == last) & sound_set(tags, lru, first) {
+        return Ok(());
     }
-    let number = ways::state_number(tags, valid, lru, first);
-    if number != 0 {
-        return number;
-    }
-    ways::state_number(tags, valid, lru, last)
+    arrays.state_number(first)?;
+    arrays.state_number(last)
 }
 
-// Numbers 37 and 38 of the ranges that are kept, then those of every touched set: what a call with ranges asks for, apart from the
-// calls, so that one without has the test of its set in line.
-pub fn ranged_number<'a>(
-    tags: &'a [u32; LINES],
-    valid: &'a [bool; LINES],
-    lru: &'a [u8; SETS],
-    range_count: u32,
-    bounds: &'a [u32; BOUNDS],
+// Numbers 37 and 38 of the ranges that are kept, then those of every touched set: what a call with ranges asks for, apart from
+// own_number, so that a call without has the test of its set in line.
+#[tactic(auto, using(crate::proofs::Order::first_met, crate::proofs::Order::next_met))]
+#[inline(never)]
+fn ranged_number<'a, 'b>(
+    arrays: Arrays<'a>,
+    ranges: Kept<'b>,
     ram: usize,
     address: u32,
     count: u32,
-) -> u32
-    ensures { result ≡ or_else (kept_number ram (lent_ranges range_count bounds.now)) (states_number_in tags.now valid.now lru.now address count) }
+) -> Result<(), Refusal>
+    ensures { answer_of result ≡ or_else (kept_number ram (kept_ranges ranges.entry)) (states_number_in arrays.entry.tags.now arrays.entry.valid.now arrays.entry.lru.now address count) }
 {
-    let kept = ranges_number(ram, range_count, bounds);
-    if kept != 0 {
-        return kept;
+    ranges_number(ram, ranges)?;
+    states_number(arrays, address, count)
+}
+
+// The same of any call. Most directories keep no range.
+#[inline(always)]
+pub fn own_number<'a, 'b>(
+    arrays: Arrays<'a>,
+    ranges: Kept<'b>,
+    ram: usize,
+    address: u32,
+    count: u32,
+) -> Result<(), Refusal>
+    ensures { answer_of result ≡ or_else (kept_number ram (kept_ranges ranges.entry)) (states_number_in arrays.entry.tags.now arrays.entry.valid.now arrays.entry.lru.now address count) }
+{
+    if ranges.count != 0 {
+        return ranged_number(arrays, ranges, ram, address, count);
     }
-    states_number(tags, valid, lru, address, count)
+    states_number(arrays, address, count)
 }

@@ -9,8 +9,9 @@ use lib.Dec.{ltb}
 use lib.ListN.{length, length-append}
 use borrow.Author.Tests.{ltb-true, ltb-false, lt-ltb, le-ltb}
 use Rattle.laws.proofs.Tests.{by_test}
-use Rattle.fields.specs.declared.numbers.Number.TheVariants.{Value}
-use Rattle.fields.specs.Number.{is_digit, all_are, value_after, decimal_value, number_within}
+use Rattle.std.specs.Prelude.{Some}
+use Rattle.std.specs.List.{list_all}
+use Rattle.fields.specs.Number.{is_digit, value_after, decimal_value, number_within}
 use Rattle.fields.proofs.Digits.{value_snoc, all_snoc, a_digit, number_value}
 use Rattle.rows.specs.Decimal.{digits_of, decimal}
 
@@ -66,15 +67,15 @@ digits_value (suc most) n h =
     (λ _ e. let m : 10 ≤ n = ltb-false n 10 e in rw (value_snoc 0 (digits_of most (n / 10)) (48 + n % 10), digits_value most (n / 10) (omega (arith, h))) (omega arith))
     refl
 
-digits_all : (most n : ℕ) → all_are is_digit (digits_of most n) ≡ true
-unfolding digits_of all_are
+digits_all : (most n : ℕ) → list_all is_digit (digits_of most n) ≡ true
+unfolding digits_of
 digits_all zero n = refl
 digits_all (suc most) n =
-    by_test (λ t. all_are is_digit (cond t [] (digits_of most (n / 10)) ++ ((48 + n % 10) ∷ [])) ≡ true) (ltb n 10)
+    by_test (λ t. list_all is_digit (cond t [] (digits_of most (n / 10)) ++ ((48 + n % 10) ∷ [])) ≡ true) (ltb n 10)
     (λ _. all_snoc is_digit [] (48 + n % 10) refl (a_digit (48 + n % 10) (omega arith) (omega arith)))
     (λ _. all_snoc is_digit (digits_of most (n / 10)) (48 + n % 10) (digits_all most (n / 10)) (a_digit (48 + n % 10) (omega arith) (omega arith)))
 
-pub decimal_digits : (n : ℕ) → all_are is_digit (decimal n) ≡ true
+pub decimal_digits : (n : ℕ) → list_all is_digit (decimal n) ≡ true
 unfolding decimal
 decimal_digits n = digits_all (suc n) n
 
@@ -98,7 +99,7 @@ unfolding decimal
 decimal_most k n h = digits_most (suc n) k n h
 
 -- Scanning what was printed gives the number back, where so many digits are room enough for every number up to the limit.
-pub printed_scanned : (k limit n : ℕ) → limit < 10 ^ suc k → n ≤ limit → number_within (suc k) limit (decimal n) ≡ Value n
+pub printed_scanned : (k limit n : ℕ) → limit < 10 ^ suc k → n ≤ limit → number_within (suc k) limit (decimal n) ≡ Some n
 unfolding decimal
 printed_scanned k limit n room h =
     let v : decimal_value (digits_of (suc n) n) ≡ n = digits_value (suc n) n (omega arith) in

@@ -1,11 +1,15 @@
 -- Laws of text put into a buffer: digits, rows, the header.
-use Prim.Native.Nat.{ℕ, zero, suc, ◌+◌, ◌/◌, ◌%◌, ◌≤◌, ◌<◌}
-use mathlib.Core.Path.{◌≡◌, refl, sym, ap, ◌∙◌}
+use Prim.Native.Nat.{ℕ, zero, suc, ◌+◌, ◌-◌, ◌/◌, ◌%◌, ◌≤◌, ◌<◌, min}
+use mathlib.Core.Path.{◌≡◌, refl, sym, ◌∙◌}
 use mathlib.Core.List.{List, [], ◌∷◌, ◌++◌}
 use native.Mathlib.Numerals.{add-one}
 use native.Mathlib.Omega.{arith}
-use lib.ListN.{length, drop, get_or, set, length-set, drop_of_length-le, length-append}
-use lib.Seq.{sets, drop-cons, set_out}
+use lib.ListN.{length, drop, set, take, drop_of_length-le, length-append}
+use lib.Seq.{sets, set_out, length-sets, length-take-le, take_all, sets-eq}
+use borrow.Rule.Slice.PartMut.{put_mid}
+use Rattle.std.proofs.lemmas.Slice.{put_mid-paste}
+use Rattle.std.proofs.lemmas.List.{take-append-drop}
+use Rattle.laws.proofs.Tests.{same_or}
 use Rattle.laws.proofs.Lists.{sets_append}
 use Rattle.fields.specs.Fields.{tab, newline}
 use Rattle.rows.specs.Decimal.{decimal}
@@ -87,29 +91,23 @@ pub header_length : length header ≡ 26
 unfolding header
 header_length = refl
 
--- What the loop that puts the header keeps: the bytes that are left, put, give what all give.
-pub record HeaderInvariant (out₀ text out : List ℕ) (k : ℕ) : Type 0 where
-  pub within : k ≤ 26
-  pub says : text ≡ header
-  pub rest : sets out k (drop k header) ≡ sets out₀ 0 header
-  pub lengths : length out ≡ length out₀
+-- a text cut off where the buffer ends
+pub put_kept : (out text ys : List ℕ) (at kept size : ℕ) → at ≤ length out → kept ≡ min (length text) (length out - at) → size ≡ kept → ys ≡ take kept text → put_mid at size out ys ≡ sets out at text
+put_kept out text ys at kept size h k same-size e =
+    let first = take kept text in
+    let long : length first ≡ kept = length-take-le kept text (omega (arith, k)) in
+    let same : sets out at text ≡ sets (sets out at first) (at + length first) (drop kept text) = rw (take-append-drop kept text) at (sets_append out at first (drop kept text)) in
+    let rest : sets (sets out at first) (at + length first) (drop kept text) ≡ sets out at first =
+    same_or _ kept (length text)
+    (λ all. rw (drop_of_length-le text {i = kept} (omega (arith, all))))
+    (λ cut. put_beyond (sets out at first) (at + length first) (drop kept text) (omega (arith, cut, long, length-sets out at first, k))) in
+    put_mid-paste at size out ys first kept e (sym same-size) (sym long)
+    ∙ rw (take_all kept first (omega (arith, long))) (sym (rw long at (sets-eq first out at (omega (arith, long, k)))))
+    ∙ sym (same ∙ rest)
 
-pub header_begin : (out text : List ℕ) → text ≡ header → HeaderInvariant out text out 0
-header_begin out text e = record { within = omega arith; says = e; rest = refl; lengths = refl }
-
-module _ (out₀ text out : List ℕ) (k : ℕ) (inv : HeaderInvariant out₀ text out k) where
-  -- the next byte is put
-  pub header_next : (out' : List ℕ) → k < 26 → out' ≡ set out k (get_or text k 0) → HeaderInvariant out₀ text out' (k + 1)
-  header_next out' h e =
-      record {
-        within = omega arith;
-        says = inv.says;
-        rest = rw (e, inv.says) (rw (add-one k) (rw (drop-cons header k 0 (omega (arith, header_length))) at inv.rest));
-        lengths = ap length e ∙ length-set out k (get_or text k 0) ∙ inv.lengths;
-      }
-
-  -- none is left
-  pub header_end : 26 ≤ k → (k ≡ length header) × (out ≡ sets out₀ 0 header)
-  header_end h =
-      let past : length header ≤ k = omega (arith, header_length) in
-      (omega (arith, header_length, inv.within), rw (drop_of_length-le header past) at inv.rest)
+-- a place beyond the end is as good as the end
+pub put_within : (out text : List ℕ) (at from : ℕ) → from ≡ min at (length out) → sets out from text ≡ sets out at text
+put_within out text at from e =
+    same_or _ from at
+    (λ same. rw same)
+    (λ other. put_beyond out from text (omega (arith, e, other)) ∙ sym (put_beyond out at text (omega (arith, e, other))))

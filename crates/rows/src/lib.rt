@@ -1,7 +1,7 @@
 // Numbers and rows as text, printed into a lent buffer.
 #![tactic(auto)]
 
-ghost use Rattle.std.specs.Prelude.{◌≡◌, List, ℕ, ◌+◌, ◌≤◌, ◌<◌, length, set};
+ghost use Rattle.std.specs.Prelude.{◌≡◌, List, ℕ, ◌+◌, ◌≤◌, ◌<◌, length, set, ◌^◌};
 ghost use Rattle.std.proofs.lemmas.List.Edits.{sets};
 ghost use Rattle.rows.specs.Decimal.{decimal};
 ghost use Rattle.rows.specs.Row.{header, row_of};
@@ -13,13 +13,6 @@ fn put(out: &mut [u8], at: usize, byte: u8)
     if at < out.len() {
         out[at] = byte;
     }
-}
-
-// The place itself, or the end of out where that comes first: a text beyond the end is lost, wherever it begins.
-fn place_in(out: &[u8], at: usize) -> usize
-    ensures { (result ≤ length out.now) × ((text : List ℕ) → sets out.now result text ≡ sets out.now at text) }
-{
-    if at < out.len() { at } else { out.len() }
 }
 
 // How many decimal digits a number below 10,000,000,000 has.
@@ -67,7 +60,8 @@ fn digit_count(n: u64) -> usize
     10 + low_digit_count(n / 10000000000)
 }
 
-// Puts the decimal text of n at a place of out, the last digit first, as far as out goes, and answers the place after it.
+// Puts the decimal text of n at a place of out, the last digit first and straight into it, which is faster than a text that is
+// then copied, as far as out goes, and answers the place after it.
 fn put_number(out: &mut [u8], at: usize, n: u64) -> usize
     requires { at ≤ length out.old + 63 }
     ensures value { (result ≡ at + length (decimal n)) × (out.new ≡ sets out.old at (decimal n)) }
@@ -85,17 +79,24 @@ fn put_number(out: &mut [u8], at: usize, n: u64) -> usize
     end
 }
 
+// Puts a text at a place of out, as far as out goes, and answers the place after it.
+fn put_text(out: &mut [u8], at: usize, text: &[u8]) -> usize
+    requires { at + length text.now < 2 ^ 64 }
+    ensures { (result ≡ at + length text.now) × (out.new ≡ sets out.old at text.now) }
+{
+    if at < out.len() {
+        let kept = text.len().min(out.len() - at);
+        out[at..at + kept].copy_from_slice(&text[..kept]);
+    }
+    at + text.len()
+}
+
 // Puts the header line at the start of out, as far as out goes, and answers its length.
+#[tactic(auto, unfolding(crate::specs::Row::header))]
 pub fn put_header(out: &mut [u8]) -> usize
     ensures { (result ≡ length header) × (out.new ≡ sets out.old 0 header) }
 {
-    let text = b"event\tanswer\tvalue\tcycles\n";
-    let mut k: usize = 0;
-    while k < text.len() {
-        put(out, k, text[k]);
-        k += 1;
-    }
-    k
+    put_text(out, 0, b"event\tanswer\tvalue\tcycles\n")
 }
 
 // Puts a row at a place of out, as far as out goes, and answers the row's length.
@@ -103,7 +104,8 @@ pub fn put_row(out: &mut [u8], at: usize, event: u32, number: u32, value: u64, c
     ensures value { (result ≡ length (row_of event number value cycles)) × (out.new ≡ sets out.old at (row_of event number value cycles)) }
     ensures upper_bound { result ≤ 54 }
 {
-    let from = place_in(out, at);
+    // A text beyond the end is lost, wherever it begins.
+    let from = at.min(out.len());
     let a = put_number(out, from, event as u64);
     put(out, a, b'\t');
     let b = put_number(out, a + 1, number as u64);

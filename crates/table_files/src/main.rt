@@ -7,31 +7,29 @@
 
 mod print;
 
-ghost use Rattle.std.specs.Prelude.{◌≡◌, length};
 ghost use Rattle.std.specs.Io.{ReadsAtMost};
 
 use board::BLOCKS;
-use buffers::{large_buffer, read_full};
-use print::{board_rows, file_name, run_rows, table_row};
-use std::env::Args;
+use buffers::{array_of, read_full};
+use print::{board_rows, run_rows, table_row};
 use std::rt::Files;
 use std::{env, fs, io};
 
+// A table that no load has made: no answer is one that an access takes.
+const JUNK: [u8; BLOCKS] = [
+    255, 254, 253, 252, 251, 250, 249, 248, 247, 246, 245, 244, 243, 242, 241, 240,
+];
+
 fn main(rt: HostRuntime) -> io::Result<()> {
-    let mut names = env::args(&rt)?;
-    let _ = names.next();
+    let mut names = env::args(&rt)?.skip(1);
     let Some(name) = names.next() else {
         return Ok(());
     };
-    let mut input = large_buffer();
+    let mut input: [u8; 65536] = array_of(0);
     let n = read_file(&rt, name.as_str(), &mut input)?;
-    load_all(&rt, names, &input[..n])
-}
-
-fn load_all(rt: &(impl Files + Print), names: Args, input: &[u8]) -> io::Result<()> {
     let mut table = board::block_answers();
     for name in names {
-        load_file(rt, name.as_str(), &mut table, input)?;
+        load_file(&rt, name.as_str(), &mut table, &input[..n])?;
     }
     Ok(())
 }
@@ -42,17 +40,18 @@ fn load_file(
     table: &mut [u8; BLOCKS],
     input: &[u8],
 ) -> io::Result<()> {
-    file_name(rt, name);
-    let mut space = text_buffer();
+    let _ = println!(rt; "{name}");
+    // Enough for every table file in ../data.
+    let mut space: [u8; 131072] = array_of(0);
     let n = read_file(rt, name, &mut space)?;
     let text = &space[..n];
     let done = block_table::load(table, text);
     let in_force = done.table;
     *table = in_force;
-    table_row(rt, b"load", done.number, table);
-    let mut other = junk_table();
+    table_row(rt, "load", done.number, table);
+    let mut other = JUNK;
     let number = block_table::load_in_place(&mut other, text);
-    table_row(rt, b"junk", number, &other);
+    table_row(rt, "junk", number, &other);
     board_rows(rt, table);
     run_rows(rt, table, input);
     run_rows(rt, &other, input);
@@ -65,18 +64,4 @@ fn read_file(rt: &impl Files, name: &str, buffer: &mut [u8]) -> io::Result<usize
 {
     let mut file = fs::open(rt, name)?;
     read_full(&mut file, buffer)
-}
-
-// Enough for every table file in ../data.
-fn text_buffer() -> [u8; 131072]
-    ensures { 131072 ≡ length result }
-{
-    [0u8; 131072]
-}
-
-// A table that no load has made: no answer is one that an access takes.
-fn junk_table() -> [u8; BLOCKS] {
-    [
-        255, 254, 253, 252, 251, 250, 249, 248, 247, 246, 245, 244, 243, 242, 241, 240,
-    ]
 }

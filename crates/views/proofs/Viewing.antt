@@ -1,4 +1,5 @@
 -- Laws of views: a part of a slice as bytes, and a view that is refused, held or not held.
+use Rattle.std.specs.Prelude.{Option, Some, None}
 use Prim.Native.Nat.{ℕ, zero, suc, ◌+◌, ◌*◌, ◌/◌, ◌-◌, ◌≤◌}
 use mathlib.Core.Path.{◌≡◌, refl, sym, ◌∙◌, ap}
 use mathlib.Core.Bool.{Bool}
@@ -8,8 +9,6 @@ use lib.ListN.{length, get_or, take, drop}
 use lib.Seq.{drop-cons}
 use borrow.Author.Tests.{eq-eqb, ne_eqb}
 use Rattle.laws.proofs.Tests.{cond_true, cond_false}
-use Rattle.ways.specs.declared.ways.Found.{Found}
-use Rattle.ways.specs.declared.ways.Found.TheVariants.{At, Nothing}
 use Rattle.ways.specs.Address.{set_of, data_offset}
 use Rattle.ways.specs.State.{state_number_in}
 use Rattle.ways.specs.Ways.{lookup_in}
@@ -57,8 +56,8 @@ input_0 tags valid lru ranges ram array address n en z =
     (or_zero (view_input_number ram array address) (or_else (kept_number ram ranges) (state_number_in tags valid lru (set_of address))) (sym en ∙ z)).0
 
 -- what is shown where the line is held, and where it is not
-module _ (f : Found) (address : ℕ) where
-  module _ (way : ℕ) (e : f ≡ At way) (offset : ℕ) (s : offset ≡ data_offset address way) where
+module _ (f : Option ℕ) (address : ℕ) where
+  module _ (way : ℕ) (e : f ≡ Some way) (offset : ℕ) (s : offset ≡ data_offset address way) where
     pub held_shown : (ram array r : List ℕ) → r ≡ bytes_at array offset 16 → r ≡ shown f ram array address
     unfolding shown
     held_shown ram array r k = k ∙ rw (s, e)
@@ -67,7 +66,7 @@ module _ (f : Found) (address : ℕ) where
     unfolding shown_at
     held_at ramAt array_at p k = k ∙ rw (s, e)
 
-  module _ (e : f ≡ Nothing) where
+  module _ (e : f ≡ None) where
     pub missed_shown : (ram array r : List ℕ) → r ≡ bytes_at ram (address / 16 * 16) 16 → r ≡ shown f ram array address
     unfolding shown
     missed_shown ram array r k = k ∙ rw e
@@ -77,10 +76,10 @@ module _ (f : Found) (address : ℕ) where
     missed_at ramAt array_at p k = k ∙ rw e
 
 -- an accepted view has sixteen bytes
-shown_length : (f : Found) (ram array : List ℕ) (address : ℕ) → length (shown f ram array address) ≡ 16
+shown_length : (f : Option ℕ) (ram array : List ℕ) (address : ℕ) → length (shown f ram array address) ≡ 16
 unfolding shown
-shown_length (At way) ram array address = bytes_length array (data_offset address way) 16
-shown_length Nothing ram array address = bytes_length ram (address / 16 * 16) 16
+shown_length (Some way) ram array address = bytes_length array (data_offset address way) 16
+shown_length None ram array address = bytes_length ram (address / 16 * 16) 16
 
 -- a view by its number
 module _ (tags : List ℕ) (valid : List Bool) (lru : List ℕ) (ranges : Ranges) (ram array : List ℕ) (address n : ℕ) (en : n ≡ view_number_in tags valid lru ranges (length ram) (length array) address) where

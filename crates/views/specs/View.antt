@@ -1,7 +1,5 @@
 -- Document 01, 'Other masters, views, and the plain memory': line views, asked of the arrays of a directory.
-use Rattle.std.specs.Prelude.{ℕ, ◌+◌, ◌*◌, ◌/◌, Bool, cond, List, [], eqb, length}
-use Rattle.ways.specs.declared.ways.Found.{Found}
-use Rattle.ways.specs.declared.ways.Found.TheVariants.{At, Nothing}
+use Rattle.std.specs.Prelude.{ℕ, ◌+◌, ◌*◌, ◌/◌, Bool, cond, List, [], eqb, length, Option, Some, None}
 use Rattle.ways.specs.Address.{set_of, data_offset}
 use Rattle.ways.specs.Ways.{lookup_in}
 use Rattle.ways.specs.State.{state_number_in}
@@ -16,9 +14,9 @@ view_number_in tags valid lru ranges ram array address =
     (or_else (kept_number ram ranges) (state_number_in tags valid lru (set_of address)))
 
 -- "A line view is a part of the data array where the line is held, otherwise a part of RAM, always the sixteen bytes around the address": for each case of a lookup's answer.
-unfoldable pub shown : Found → List ℕ → List ℕ → ℕ → List ℕ
-shown (At way) ram array address = bytes_at array (data_offset address way) 16
-shown Nothing ram array address = bytes_at ram (address / 16 * 16) 16
+unfoldable pub shown : Option ℕ → List ℕ → List ℕ → ℕ → List ℕ
+shown (Some way) ram array address = bytes_at array (data_offset address way) 16
+shown None ram array address = bytes_at ram (address / 16 * 16) 16
 
 -- The bytes of a view, none where it is refused.
 unfoldable pub view_in : List ℕ → List Bool → List ℕ → Ranges → List ℕ → List ℕ → ℕ → List ℕ
@@ -27,9 +25,9 @@ view_in tags valid lru ranges ram array address =
     (shown (lookup_in tags valid address) ram array address) []
 
 -- Where the part begins, by where RAM and the data array begin: a block of the host's memory, and a byte of it.
-unfoldable pub shown_at : Found → ℕ × ℕ → ℕ × ℕ → ℕ → ℕ × ℕ
-shown_at (At way) ramAt array_at address = (array_at.0, array_at.1 + data_offset address way)
-shown_at Nothing ramAt array_at address = (ramAt.0, ramAt.1 + address / 16 * 16)
+unfoldable pub shown_at : Option ℕ → ℕ × ℕ → ℕ × ℕ → ℕ → ℕ × ℕ
+shown_at (Some way) ramAt array_at address = (array_at.0, array_at.1 + data_offset address way)
+shown_at None ramAt array_at address = (ramAt.0, ramAt.1 + address / 16 * 16)
 
 -- "a refused view is the empty part at RAM's start"
 unfoldable pub view_at : List ℕ → List Bool → List ℕ → Ranges → List ℕ → List ℕ → ℕ × ℕ → ℕ × ℕ → ℕ → ℕ × ℕ

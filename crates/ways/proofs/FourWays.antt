@@ -1,4 +1,5 @@
 -- Laws of the four ways of a set: what `lowest` finds, and that a victim is one of them.
+use Rattle.std.specs.Prelude.{Option, Some, None, unwrap_or}
 use Prim.Native.Nat.{ℕ, ◌%◌, ◌<◌}
 use mathlib.Core.Path.{◌≡◌, refl}
 use mathlib.Core.Bool.{Bool, true, false, cond, not}
@@ -6,11 +7,9 @@ use mathlib.Core.List.{List}
 use native.Mathlib.Omega.{arith}
 use lib.Dec.{eqb}
 use lib.ListN.{get_or}
-use Rattle.ways.specs.declared.ways.Found.{Found}
-use Rattle.ways.specs.declared.ways.Found.TheVariants.{At, Nothing}
 use Rattle.ways.specs.Address.{set_of, tag_of}
 use Rattle.ways.specs.Lru.{lru_after, lru_way}
-use Rattle.ways.specs.Ways.{valid_in, holds, lowest, way_or, lookup_in, victim_in}
+use Rattle.ways.specs.Ways.{valid_in, holds, lowest, lookup_in, victim_in}
 use Rattle.laws.proofs.Tests.{differ}
 use Rattle.laws.proofs.Below.{four}
 
@@ -24,12 +23,12 @@ six P p01 p02 p03 p12 p13 p23 w v l m =
     (λ w l. four (λ w. w < 3 → P w 3) (λ l. p03) (λ l. p13) (λ l. p23) (λ l. absurd (omega arith)) w (omega arith) l)
     v m w l
 
-abbrev pub lowest_of : (ℕ → Bool) → Found
+abbrev pub lowest_of : (ℕ → Bool) → Option ℕ
 lowest_of p = lowest (p 0) (p 1) (p 2) (p 3)
 
 module _ (p : ℕ → Bool) where
   at_cases : (w : ℕ) (t0 t1 t2 t3 : Bool) → p 0 ≡ t0 → p 1 ≡ t1 → p 2 ≡ t2 → p 3 ≡ t3 →
-      lowest t0 t1 t2 t3 ≡ At w → (w < 4) × (p w ≡ true)
+      lowest t0 t1 t2 t3 ≡ Some w → (w < 4) × (p w ≡ true)
   unfolding lowest
   at_cases w true t1 t2 t3 e0 e1 e2 e3 e = let z : 0 ≡ w = cc in (omega arith, rw (← z) e0)
   at_cases w false true t2 t3 e0 e1 e2 e3 e = let z : 1 ≡ w = cc in (omega arith, rw (← z) e1)
@@ -38,11 +37,11 @@ module _ (p : ℕ → Bool) where
   at_cases w false false false false e0 e1 e2 e3 e = let z : ◌≡◌ {A = ℕ} 0 1 = cc in absurd (omega arith)
 
   -- the way that is found is below 4, and its test holds
-  pub lowest_at : (w : ℕ) → lowest_of p ≡ At w → (w < 4) × (p w ≡ true)
+  pub lowest_at : (w : ℕ) → lowest_of p ≡ Some w → (w < 4) × (p w ≡ true)
   lowest_at w e = at_cases w (p 0) (p 1) (p 2) (p 3) refl refl refl refl e
 
   none_cases : (t0 t1 t2 t3 : Bool) → p 0 ≡ t0 → p 1 ≡ t1 → p 2 ≡ t2 → p 3 ≡ t3 →
-      lowest t0 t1 t2 t3 ≡ Nothing → (w : ℕ) → w < 4 → p w ≡ false
+      lowest t0 t1 t2 t3 ≡ None → (w : ℕ) → w < 4 → p w ≡ false
   unfolding lowest
   none_cases true t1 t2 t3 e0 e1 e2 e3 e = let z : ◌≡◌ {A = ℕ} 0 1 = cc in absurd (omega arith)
   none_cases false true t2 t3 e0 e1 e2 e3 e = let z : ◌≡◌ {A = ℕ} 0 1 = cc in absurd (omega arith)
@@ -51,28 +50,28 @@ module _ (p : ℕ → Bool) where
   none_cases false false false false e0 e1 e2 e3 e = four (λ w. p w ≡ false) e0 e1 e2 e3
 
   -- where nothing is found, no test holds
-  pub lowest_nothing : lowest_of p ≡ Nothing → (w : ℕ) → w < 4 → p w ≡ false
+  pub lowest_nothing : lowest_of p ≡ None → (w : ℕ) → w < 4 → p w ≡ false
   lowest_nothing = none_cases (p 0) (p 1) (p 2) (p 3) refl refl refl refl
 
   -- where no test holds, nothing is found
-  pub none_lowest : ((w : ℕ) → w < 4 → p w ≡ false) → lowest_of p ≡ Nothing
+  pub none_lowest : ((w : ℕ) → w < 4 → p w ≡ false) → lowest_of p ≡ None
   unfolding lowest
   none_lowest n = rw (n 0 (omega arith), n 1 (omega arith), n 2 (omega arith), n 3 (omega arith))
 
-  found_or : (f : Found) → lowest_of p ≡ f → (w : ℕ) → w < 4 → p w ≡ true →
-      ((v : ℕ) → v < 4 → p v ≡ true → v ≡ w) → lowest_of p ≡ At w
-  found_or (At v) e w l h u = let k = lowest_at v e in let z : v ≡ w = u v k.0 k.1 in rw (← z) e
-  found_or Nothing e w l h u = absurd (differ h (lowest_nothing e w l))
+  found_or : (f : Option ℕ) → lowest_of p ≡ f → (w : ℕ) → w < 4 → p w ≡ true →
+      ((v : ℕ) → v < 4 → p v ≡ true → v ≡ w) → lowest_of p ≡ Some w
+  found_or (Some v) e w l h u = let k = lowest_at v e in let z : v ≡ w = u v k.0 k.1 in rw (← z) e
+  found_or None e w l h u = absurd (differ h (lowest_nothing e w l))
 
   -- the one way whose test holds is found
-  pub one_lowest : (w : ℕ) → w < 4 → p w ≡ true → ((v : ℕ) → v < 4 → p v ≡ true → v ≡ w) → lowest_of p ≡ At w
+  pub one_lowest : (w : ℕ) → w < 4 → p w ≡ true → ((v : ℕ) → v < 4 → p v ≡ true → v ≡ w) → lowest_of p ≡ Some w
   one_lowest = found_or (lowest_of p) refl
 
-  found_below : (f : Found) → lowest_of p ≡ f → (n : ℕ) → n < 4 → way_or f n < 4
-  found_below (At w) e n l = (lowest_at w e).0
-  found_below Nothing e n l = l
+  found_below : (f : Option ℕ) → lowest_of p ≡ f → (n : ℕ) → n < 4 → unwrap_or f n < 4
+  found_below (Some w) e n l = (lowest_at w e).0
+  found_below None e n l = l
 
-  way_or_below : (n : ℕ) → n < 4 → way_or (lowest_of p) n < 4
+  way_or_below : (n : ℕ) → n < 4 → unwrap_or (lowest_of p) n < 4
   way_or_below = found_below (lowest_of p) refl
 
 -- an LRU number names a way below 4, and stays below 8
@@ -94,6 +93,6 @@ unfolding victim_in
 victim_below valid lru s =
     way_or_below (λ w. not (valid_in valid s w)) (lru_way (get_or lru s 0)) (lru_way_below _)
 
-pub lookup_below : (tags : List ℕ) (valid : List Bool) (a w : ℕ) → lookup_in tags valid a ≡ At w → w < 4
+pub lookup_below : (tags : List ℕ) (valid : List Bool) (a w : ℕ) → lookup_in tags valid a ≡ Some w → w < 4
 unfolding lookup_in
 lookup_below tags valid a w e = (lowest_at (λ v. holds tags valid (set_of a) v (tag_of a)) w e).0

@@ -1,4 +1,5 @@
 -- Laws of the bits of an LRU number that the use of a way sets or clears (document 02, C-14): the victim of a set whose ways are all valid depends on no other.
+use Rattle.std.specs.Prelude.{Option, Some, None, unwrap_or}
 use Prim.Native.Nat.{ℕ, ◌<◌}
 use mathlib.Core.Path.{◌≡◌, refl}
 use mathlib.Core.Bool.{Bool, true, not}
@@ -6,11 +7,9 @@ use mathlib.Core.List.{List}
 use native.Mathlib.Omega.{arith}
 use lib.ListN.{get_or}
 use borrow.Author.Tests.{not-false}
-use Rattle.ways.specs.declared.ways.Found.{Found}
-use Rattle.ways.specs.declared.ways.Found.TheVariants.{At, Nothing}
 use Rattle.ways.specs.Lru.{lru_after, lru_way}
 use Rattle.ways.specs.LruBits.{SameBits}
-use Rattle.ways.specs.Ways.{valid_in, way_or, victim_in}
+use Rattle.ways.specs.Ways.{valid_in, victim_in}
 use Rattle.laws.proofs.Below.{four}
 use Rattle.ways.proofs.FourWays.{lowest_of, lowest_nothing}
 
@@ -29,10 +28,10 @@ module _ (valid : List Bool) (lru other : List ℕ) (s : ℕ) (bits : (w : ℕ) 
   abbrev invalid : ℕ → Bool
   invalid w = not (valid_in valid s w)
 
-  by_invalid : (f : Found) → lowest_of invalid ≡ f → way_or f (lru_way (get_or lru s 0)) ≡ way_or f (lru_way (get_or other s 0))
+  by_invalid : (f : Option ℕ) → lowest_of invalid ≡ f → unwrap_or f (lru_way (get_or lru s 0)) ≡ unwrap_or f (lru_way (get_or other s 0))
   unfolding lru_way
-  by_invalid (At w) e = refl
-  by_invalid Nothing e =
+  by_invalid (Some w) e = refl
+  by_invalid None e =
       let full : (w : ℕ) → w < 4 → valid_in valid s w ≡ true = λ w l. not-false (valid_in valid s w) (lowest_nothing invalid e w l) in
       let low = bits 0 (omega arith) (full 0 (omega arith)) in
       let high = bits 2 (omega arith) (full 2 (omega arith)) in

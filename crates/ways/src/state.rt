@@ -1,10 +1,12 @@
 // What is wrong with a set: the numbers 21 to 23.
 ghost use Rattle.std.specs.Prelude.{◌≡◌, Bool, true, false, List, ◌<◌};
+ghost use Rattle.numbers.specs.Numbers.{answer_of};
 ghost use Rattle.ways.specs.Ways.{tag_in};
 ghost use Rattle.ways.specs.State.{first_number, same_pair, same_tags, state_number_in, tag_above, tags_above};
 ghost use Rattle.ways.specs.Address.{set_count, way_count};
 
 use crate::sizes::{LINES, SETS, WAYS};
+use numbers::Refusal;
 
 // Whether two ways of a set are valid and have one tag.
 fn same_pair<'a>(
@@ -53,19 +55,20 @@ fn tags_above<'a>(tags: &'a [u32; LINES], valid: &'a [bool; LINES], set: usize) 
         | tag_above(tags, valid, set, 3)
 }
 
-fn first_number(same: bool, above: bool, lru: u8) -> u32
-    ensures { result ≡ first_number same above lru }
+// The lowest number of what is wrong with a set.
+fn first_number(same: bool, above: bool, lru: u8) -> Result<(), Refusal>
+    ensures { answer_of result ≡ first_number same above lru }
 {
     if same {
-        return 21;
+        return Err(Refusal::TwoOfOneTag);
     }
     if above {
-        return 22;
+        return Err(Refusal::LargeTag);
     }
     if 7 < lru {
-        return 23;
+        return Err(Refusal::LargeLru);
     }
-    0
+    Ok(())
 }
 
 fn tag_at(tags: &[u32; LINES], set: usize, way: usize) -> u32
@@ -103,22 +106,45 @@ pub fn sound_set<'a>(tags: &'a [u32; LINES], lru: &'a [u8; SETS], set: usize) ->
     sound_tags(tags, set) & (lru[set] <= 7)
 }
 
-// The lowest number that a set meets, or 0. Nearly always the quick test tells that it meets none.
-pub fn state_number<'a>(
+// The lowest number that a set meets. Nearly always the quick test tells that it meets none. The arrays come one by one, so that a
+// caller hands them over in registers.
+fn state_number<'a>(
     tags: &'a [u32; LINES],
     valid: &'a [bool; LINES],
     lru: &'a [u8; SETS],
     set: usize,
-) -> u32
+) -> Result<(), Refusal>
     requires { set < set_count }
-    ensures { result ≡ state_number_in tags.now valid.now lru.now set }
+    ensures { answer_of result ≡ state_number_in tags.now valid.now lru.now set }
 {
     if sound_set(tags, lru, set) {
-        return 0;
+        return Ok(());
     }
     first_number(
         same_tags(tags, valid, set),
         tags_above(tags, valid, set),
         lru[set],
     )
+}
+
+// The arrays of a directory, lent: the line of a set and a way is element set * WAYS + way of tags and valid.
+#[derive(Clone, Copy)]
+pub struct Arrays<'a> {
+    pub tags: &'a [u32; LINES],
+    pub valid: &'a [bool; LINES],
+    pub lru: &'a [u8; SETS],
+}
+
+impl<'a> Arrays<'a> {
+    // The lowest number that a set meets.
+    #[inline(always)]
+    pub fn state_number(self, set: usize) -> Result<(), Refusal>
+        requires { set < set_count }
+        ensures { answer_of result ≡ state_number_in self.entry.tags.now self.entry.valid.now self.entry.lru.now set }
+    {
+        let tags = self.tags;
+        let valid = self.valid;
+        let lru = self.lru;
+        state_number(tags, valid, lru, set)
+    }
 }

@@ -1,18 +1,11 @@
 // Questions about the four ways of a set, on lent arrays, so that asking copies nothing.
 ghost use Rattle.std.specs.Prelude.{◌≡◌, cond, not, ◌+◌, ◌<◌, ◌≤◌};
-ghost use Rattle.ways.specs.Ways.{holds, lookup_in, lowest, valid_in, victim_in, way_or};
+ghost use Rattle.ways.specs.Ways.{holds, lookup_in, lowest, valid_in, victim_in};
 ghost use Rattle.ways.specs.Address.{set_count, way_count};
 
 use crate::address::{set_of, tag_of};
 use crate::lru::lru_way;
 use crate::sizes::{LINES, SETS, WAYS};
-
-// A way of a set that a test singles out.
-#[derive(Clone, Copy)]
-pub enum Found {
-    At(usize),
-    Nothing,
-}
 
 // The lowest of some ways whose test holds, counted from the first: that one, or else one of those after it.
 fn lowest_from(test: bool, later: usize) -> usize
@@ -22,28 +15,15 @@ fn lowest_from(test: bool, later: usize) -> usize
     if test { 0 } else { 1 + later }
 }
 
-// The lowest way whose test holds. It is counted, and 4 says that there is none: the compiler makes no branches of that.
-fn lowest_way(test0: bool, test1: bool, test2: bool, test3: bool) -> Found
+// The lowest way whose test holds, if one does. It is counted, and 4 says that there is none: the compiler makes no branches of that.
+fn lowest_way(test0: bool, test1: bool, test2: bool, test3: bool) -> Option<usize>
     ensures { result ≡ lowest test0 test1 test2 test3 }
 {
     let way = lowest_from(
         test0,
         lowest_from(test1, lowest_from(test2, lowest_from(test3, 0))),
     );
-    if way < WAYS {
-        Found::At(way)
-    } else {
-        Found::Nothing
-    }
-}
-
-fn way_or(found: Found, other: usize) -> usize
-    ensures { result ≡ way_or found other }
-{
-    match found {
-        Found::At(way) => way,
-        Found::Nothing => other,
-    }
+    if way < WAYS { Some(way) } else { None }
 }
 
 // Whether a way of a set holds a tag.
@@ -62,7 +42,7 @@ fn holds_tag<'a>(
 }
 
 // The way that holds the line of an address.
-pub fn lookup<'a>(tags: &'a [u32; LINES], valid: &'a [bool; LINES], address: u32) -> Found
+pub fn lookup<'a>(tags: &'a [u32; LINES], valid: &'a [bool; LINES], address: u32) -> Option<usize>
     ensures { result ≡ lookup_in tags.now valid.now address }
 {
     let set = set_of(address);
@@ -94,5 +74,5 @@ pub fn victim<'a>(valid: &'a [bool; LINES], lru: &'a [u8; SETS], set: usize) -> 
         is_invalid(valid, set, 2),
         is_invalid(valid, set, 3),
     );
-    way_or(invalid, lru_way(lru[set]))
+    invalid.unwrap_or(lru_way(lru[set]))
 }

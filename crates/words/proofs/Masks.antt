@@ -59,22 +59,17 @@ bits_in_table (suc (suc (suc zero))) (suc (suc c)) h = omega arith
 bits_in_table (suc (suc (suc (suc zero)))) (suc c) h = omega arith
 bits_in_table (suc (suc (suc (suc (suc l))))) c h = omega arith
 
--- the entry of a mask that is known by what it leaves of 16
-pub mask_bits : (mask k : ℕ) → mask % 16 ≡ k → (lane count : ℕ) → lane + count ≤ 4 → mask ≡ lanes_mask lane count →
-    get_or lane_bits k 0 ≡ 2 ^ (8 * count + 8 * lane) - 2 ^ (8 * lane)
-mask_bits mask k e lane count h m =
+-- the entry of a mask
+pub mask_bits : (mask lane count : ℕ) → lane + count ≤ 4 → mask ≡ lanes_mask lane count → get_or lane_bits (mask % 16) 0 ≡ 2 ^ (8 * count + 8 * lane) - 2 ^ (8 * lane)
+mask_bits mask lane count h m =
     let b = mask_below lane count h in
-    let f : k ≡ lanes_mask lane count = sym e ∙ omega arith in
-    rw f (bits_in_table lane count h)
+    let e : mask % 16 ≡ lanes_mask lane count = omega arith in
+    rw e (bits_in_table lane count h)
 
 -- an `and` with the bits of some lanes leaves these
 pub masked_word : (word lane count : ℕ) → bit_and word (2 ^ (8 * count + 8 * lane) - 2 ^ (8 * lane)) ≡ lanes_word word lane count
 unfolding lanes_word lanes_value
 masked_word word lane count = and_high word (8 * count) (8 * lane) ∙ rw (byte_powers lane, byte_powers count)
-
--- a number that is none of five neighbours and not below them is above them
-pub past_five : (m k : ℕ) → k ≤ m → (m ≡ k → ⊥) → (m ≡ k + 1 → ⊥) → (m ≡ k + 2 → ⊥) → (m ≡ k + 3 → ⊥) → (m ≡ k + 4 → ⊥) → k + 5 ≤ m
-past_five m k h a b c d e = omega arith
 
 -- bytes of a number moved into lanes and masked
 pub placed_masked : (value place lane count : ℕ) → lane + count ≤ 4 →

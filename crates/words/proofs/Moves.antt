@@ -1,55 +1,33 @@
--- Bytes moved one after another, in a loop.
-use Prim.Native.Nat.{ℕ, zero, suc, ◌+◌, ◌-◌, ◌<◌}
-use mathlib.Core.Path.{◌≡◌}
-use mathlib.Core.List.{List, ◌∷◌}
+-- Bytes moved as one part of a slice, by the list edits of the contracts.
+use Prim.Native.Nat.{ℕ, zero, suc, ◌+◌, ◌-◌, ◌≤◌, ◌<◌}
+use mathlib.Core.Path.{◌≡◌, refl, ◌∙◌}
+use mathlib.Core.List.{List, append_assoc}
 use native.Mathlib.Omega.{arith}
-use native.Mathlib.Nat.{add-zero}
-use lib.ListN.{get_or, set}
-use lib.Seq.{sets}
+use lib.ListN.{length, take, drop}
+use lib.Seq.{sets, sets-eq, drop-cons, drop-drop}
+use borrow.Rule.Slice.PartMut.{put_mid}
 use Rattle.words.specs.Bytes.{bytes_at}
+use Rattle.words.proofs.Places.{bytes_length}
 
--- The bytes from the k-th on are the k-th and those after it.
-pub bytes_next : (l : List ℕ) (i n k : ℕ) → k < n → bytes_at l (i + k) (n - k) ≡ get_or l (i + k) 0 ∷ bytes_at l (i + (k + 1)) (n - (k + 1))
+-- the bytes from a place on are a part of the list
+pub bytes_taken : (l : List ℕ) (i n : ℕ) → i + n ≤ length l → take n (drop i l) ≡ bytes_at l i n
 unfolding bytes_at
-bytes_next l i n k h =
-    let e : n - k ≡ suc (n - (k + 1)) = omega arith in
-    let f : i + (k + 1) ≡ suc (i + k) = omega arith in
-    rw (e, f)
+bytes_taken l i zero h = refl
+bytes_taken l i (suc n) h =
+    let m : i < length l = omega arith in
+    let e = bytes_taken l (suc i) n (omega arith) in
+    rw (drop-cons l i 0 m, e)
 
--- A copy goes on: the k-th byte is put, the others are left to put.
-pub copy_next : (src dst : List ℕ) (s d n k : ℕ) → k < n
-    → sets (set dst (d + k) (get_or src (s + k) 0)) (d + (k + 1)) (bytes_at src (s + (k + 1)) (n - (k + 1)))
-    ≡ sets dst (d + k) (bytes_at src (s + k) (n - k))
-copy_next src dst s d n k h =
-    let f : d + (k + 1) ≡ suc (d + k) = omega arith in
-    rw (f, bytes_next src s n k h)
+-- a part replaced by as many bytes is these put in
+pub part_replaced : (l x : List ℕ) (i n : ℕ) → i + n ≤ length l → length x ≡ n → put_mid i (i + n - i) l x ≡ sets l i x
+part_replaced l x i n h e =
+    let m : i + n - i ≡ n = omega arith in
+    let f : i + length x ≤ length l = omega arith in
+    rw (m, sets-eq x l i f, drop-drop, e, append_assoc)
 
--- Four bytes copied at once.
-pub four_copied : (src dst : List ℕ) (s d : ℕ) →
-    set (set (set (set dst d (get_or src s 0)) (d + 1) (get_or src (s + 1) 0)) (d + 2) (get_or src (s + 2) 0)) (d + 3) (get_or src (s + 3) 0)
-    ≡ sets dst d (bytes_at src s 4)
-unfolding bytes_at
-four_copied src dst s d =
-    let d1 : d + 1 ≡ suc d = omega arith in
-    let d2 : d + 2 ≡ suc (suc d) = omega arith in
-    let d3 : d + 3 ≡ suc (suc (suc d)) = omega arith in
-    let s1 : s + 1 ≡ suc s = omega arith in
-    let s2 : s + 2 ≡ suc (suc s) = omega arith in
-    let s3 : s + 3 ≡ suc (suc (suc s)) = omega arith in
-    rw (d1, d2, d3, s1, s2, s3)
-
--- Bytes copied in two runs are copied at once.
-copied_parts : (src dst : List ℕ) (s d n k : ℕ) → sets (sets dst d (bytes_at src s n)) (d + n) (bytes_at src (s + n) k) ≡ sets dst d (bytes_at src s (n + k))
-unfolding bytes_at
-copied_parts src dst s d zero k = let z : 0 + k ≡ k = omega arith in rw (add-zero d, add-zero s, z)
-copied_parts src dst s d (suc n) k =
-    let e : d + suc n ≡ suc d + n = omega arith in
-    let f : s + suc n ≡ suc s + n = omega arith in
-    let g : suc n + k ≡ suc (n + k) = omega arith in
-    rw (e, f, g) (copied_parts src (set dst d (get_or src s 0)) (suc s) (suc d) n k)
-
--- Sixteen bytes copied by fours.
-pub line_copied : (src dst : List ℕ) (s d : ℕ) →
-    sets (sets (sets (sets dst d (bytes_at src s 4)) (d + 4) (bytes_at src (s + 4) 4)) (d + 8) (bytes_at src (s + 8) 4)) (d + 12) (bytes_at src (s + 12) 4)
-    ≡ sets dst d (bytes_at src s 16)
-line_copied src dst s d = rw (copied_parts src dst s d 4 4, copied_parts src dst s d 8 4) (copied_parts src dst s d 12 4)
+-- a part of one list copied over one of another
+pub part_copied : (src dst x : List ℕ) (s d n : ℕ) → s + n ≤ length src → d + n ≤ length dst → x ≡ take (s + n - s) (drop s src) → put_mid d (d + n - d) dst x ≡ sets dst d (bytes_at src s n)
+part_copied src dst x s d n h k e =
+    let m : s + n - s ≡ n = omega arith in
+    let f : x ≡ bytes_at src s n = e ∙ rw m (bytes_taken src s n h) in
+    rw f (part_replaced dst (bytes_at src s n) d n k (bytes_length src s n))

@@ -21,35 +21,17 @@ pub fn lanes_mask(lane: usize, count: usize) -> u32
     (end - 1) << lane
 }
 
-// The bits of the lanes that a mask names. All sixteen masks are here, so that this is a table without a test.
-fn lane_bits(mask: u32) -> u32
-    ensures { (lane count : ℕ) → lane + count ≤ 4 → mask ≡ lanes_mask lane count → result ≡ 2 ^ (8 * count + 8 * lane) - 2 ^ (8 * lane) }
-{
-    match mask % 16 {
-        0 => 0,
-        1 => 0xff,
-        2 => 0xff00,
-        3 => 0xffff,
-        4 => 0xff0000,
-        5 => 0xff00ff,
-        6 => 0xffff00,
-        7 => 0xffffff,
-        8 => 0xff000000,
-        9 => 0xff0000ff,
-        10 => 0xff00ff00,
-        11 => 0xff00ffff,
-        12 => 0xffff0000,
-        13 => 0xffff00ff,
-        14 => 0xffffff00,
-        _ => 0xffffffff,
-    }
-}
+// The bits of the lanes that each mask names: a table, so that there is no test.
+const LANE_BITS: [u32; 16] = [
+    0, 0xff, 0xff00, 0xffff, 0xff0000, 0xff00ff, 0xffff00, 0xffffff, 0xff000000, 0xff0000ff,
+    0xff00ff00, 0xff00ffff, 0xffff0000, 0xffff00ff, 0xffffff00, 0xffffffff,
+];
 
 // The lanes of a doubleword that a mask names, in their places, the other lanes 0.
 pub fn lanes_word(word: u32, mask: u32) -> u32
     ensures { (lane count : ℕ) → lane + count ≤ 4 → mask ≡ lanes_mask lane count → result ≡ lanes_word word lane count }
 {
-    word & lane_bits(mask)
+    word & LANE_BITS[(mask % 16) as usize]
 }
 
 // So many bytes of a number, from a place on, in the lanes of a doubleword from a lane on, the other lanes 0.

@@ -1,9 +1,7 @@
 -- Document 01, 'One doubleword': what one doubleword of a write does, by what the directory answers for its line.
-use Rattle.std.specs.Prelude.{ℕ, ◌+◌, Bool, cond, List, [], map, replicate}
+use Rattle.std.specs.Prelude.{ℕ, ◌+◌, Bool, cond, List, [], map, replicate, Option, Some, None}
 use Rattle.std.proofs.lemmas.List.Edits.{sets}
 use Rattle.ways.specs.Address.{data_offset}
-use Rattle.ways.specs.declared.ways.Found.{Found}
-use Rattle.ways.specs.declared.ways.Found.TheVariants.{At, Nothing}
 use Rattle.words.specs.Bytes.{bytes_at}
 use Rattle.ranges.specs.Ranges.{Range}
 use Rattle.memory.specs.Parity.{Memory}
@@ -35,9 +33,9 @@ hit_array way array operand w =
     sets array (data_offset w.line way + w.wanted.from) (bytes_at operand w.place w.wanted.count)
 
 -- "A miss never fills. With CD = NW = 1 a hit changes the data array and, as a use, the LRU number; RAM and parity stay, with no cycle." `stays`: CD = NW = 1. (002)
-unfoldable pub write_done : Found → Bool → List Range → Memory → List ℕ → List ℕ → Doubleword → Done
-write_done (At way) stays rs m array operand w =
+unfoldable pub write_done : Option ℕ → Bool → List Range → Memory → List ℕ → List ℕ → Doubleword → Done
+write_done (Some way) stays rs m array operand w =
     cond stays
     (record { change = Use way; memory = m; array = hit_array way array operand w; bytes = []; records = [] })
     (write_through (Use way) rs m (hit_array way array operand w) operand w)
-write_done Nothing stays rs m array operand w = write_through Unchanged rs m array operand w
+write_done None stays rs m array operand w = write_through Unchanged rs m array operand w

@@ -1,25 +1,14 @@
-use mathlib.Core.Path.{refl, sym, ◌∙◌}
+use Prim.Native.Nat.{ℕ, ◌+◌, ◌≤◌}
+use mathlib.Core.List.{List, ◌++◌}
+use mathlib.Core.Path.{◌≡◌, sym}
 use native.Mathlib.Omega.{arith}
-use Rattle.read_only_ranges.proofs.SetRanges.{words_next, words_end}
+use lib.ListN.{length, drop, replicate}
+use lib.Seq.{sets, sets-eq}
 use Rattle.read_only_ranges.proofs.bounds_of.Goals as goal
 
-pub loop-k-init : goal.loop-k-init
-loop-k-init c = refl
-
-pub bounds-ranges-k : goal.bounds-ranges-k
-bounds-ranges-k c = omega arith
-
-pub bounds-bounds-k : goal.bounds-bounds-k
-bounds-bounds-k c = omega arith
-
-pub overflow_add-k : goal.overflow_add-k
-overflow_add-k c = omega arith
-
-pub loop-k-smaller : goal.loop-k-smaller
-loop-k-smaller c = omega arith
-
-pub loop-k-preserved : goal.loop-k-preserved
-loop-k-preserved c = words_next c.loop-k.bounds c.args.ranges.now c.loop-k.k (omega arith) ∙ c.loop-k.invariant
+-- words put at the start, and what they leave
+put_first : (words l : List ℕ) → length words ≤ length l → sets l 0 words ≡ words ++ drop (length words) l
+put_first words l h = let e : 0 + length words ≡ length words = omega arith in rw e at (sets-eq words l 0 (omega arith))
 
 pub returns : goal.returns
-returns c = sym (words_end c.loop-k.bounds c.args.ranges.now c.loop-k.k (omega arith)) ∙ c.loop-k.invariant
+returns c = rw c.copy_from_slice.ensures.after (sym (put_first c.args.ranges.now (replicate 16 0) c.requires))

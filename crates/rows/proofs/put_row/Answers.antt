@@ -1,6 +1,6 @@
 use Rattle.rows.specs.Row.{row_of}
 use Rattle.rows.proofs.Decimal.{decimal_most}
-use Rattle.rows.proofs.Printing.{row_put}
+use Rattle.rows.proofs.Printing.{put_within, row_put}
 use native.Mathlib.Omega.{arith}
 use mathlib.Core.Path.{◌∙◌}
 use Rattle.rows.proofs.put_row.Goals as goal
@@ -13,7 +13,7 @@ overflow_add-result c =
       c.put_number-b.ensures.upper_bound,
       c.put_number-c.ensures.upper_bound,
       c.put_number-d.ensures.upper_bound,
-      c.place_in-from.ensures.0,
+      c.min-from.ensures,
       c.ranges,
     )
 
@@ -30,13 +30,13 @@ overflow_sub-result c =
 pub returns : goal.returns
 returns c =
     let a = c.args in
-    let put = row_put a.out.now c.place_in-from.result a.event a.number a.value a.cycles c.put_number-a.result c.put_number-b.result
+    let put = row_put a.out.now c.min-from.result a.event a.number a.value a.cycles c.put_number-a.result c.put_number-b.result
     c.put_number-c.result c.put_number-d.result _ _ _ _ _ _ _ _ c.put_number-a.ensures.value.0
     c.put_number-a.ensures.value.1 c.put.ensures c.put_number-b.ensures.value.0
     c.put_number-b.ensures.value.1 c.put-2.ensures c.put_number-c.ensures.value.0
     c.put_number-c.ensures.value.1 c.put-3.ensures c.put_number-d.ensures.value.0
     c.put_number-d.ensures.value.1 c.put-4.ensures in record {
-      value = (omega (arith, put.0), put.1 ∙ c.place_in-from.ensures.1 (row_of a.event a.number a.value a.cycles));
+      value = (omega (arith, put.0), put.1 ∙ put_within _ (row_of a.event a.number a.value a.cycles) _ _ c.min-from.ensures);
       upper_bound = omega (
         arith,
         c.put_number-a.ensures.value.0,

@@ -11,14 +11,14 @@ pub hit_read-requires : goal.hit_read-requires
 hit_read-requires c =
     let p = c.requires in
     let z = cursor_doubleword _ _ _ _ _ _ _ _ _ p.0 c.wanted-w.ensures p.1 refl c.group_of-group.ensures.1 in
-    (lookup_below _ _ _ _ (sym c.in-At.ensures), p.1.array_length, z.some, z.lanes, z.line)
+    (lookup_below _ _ _ _ (sym c.in-Some.ensures), p.1.array_length, z.some, z.lanes, z.line)
 
-pub returns-in-At : goal.returns-in-At
-returns-in-At c =
+pub returns-in-Some : goal.returns-in-Some
+returns-in-Some c =
     let p = c.requires in
     let a = c.args in
     let r = c.hit_read.ensures in
-    hit_next a.cursor a.answers.now a.carried a.landed (memory a.ram.now a.parity.now) a.«data».now a.log.now a.may_fill _ _ c.wanted-w.ensures _ _ _ (sym (rw c.wanted-w.ensures at c.in-At.ensures)) p.4 p.3 r.0 r.1 r.2
+    hit_next a.cursor a.answers.now a.carried a.landed (memory a.ram.now a.parity.now) a.«data».now a.log.now a.may_fill _ _ c.wanted-w.ensures _ _ _ (sym (rw c.wanted-w.ensures at c.in-Some.ensures)) p.4 p.3 r.0 r.1 r.2
 
 pub bounds-group-0 : goal.bounds-group-0
 bounds-group-0 c = omega (arith, c.group_of-group.ensures.1)

@@ -1,4 +1,4 @@
 use Rattle.carrying.proofs.next.use_of.Goals as goal
 
-pub returns-in-At : goal.returns-in-At
-returns-in-At c = cc
+pub returns-in-Some : goal.returns-in-Some
+returns-in-Some c = cc

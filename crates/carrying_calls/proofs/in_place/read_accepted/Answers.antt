@@ -1,7 +1,7 @@
 use native.Mathlib.Omega.{arith}
 use mathlib.Core.Path.{◌∙◌}
 use Rattle.memory.specs.Parity.{memory}
-use Rattle.ranges.specs.Ranges.{lent_ranges}
+use Rattle.ranges.specs.Ranges.{kept_ranges}
 use Rattle.directory.specs.Steps.{directory_of}
 use Rattle.doubleword.proofs.Cursors.{cursor_less, cursor_next}
 use Rattle.carrying_calls.proofs.CarryingLoop.{carry_few, carry_begin, carry_made, kept_writes, kept_needs, end_needs, part_fits, kept_next}
@@ -10,13 +10,13 @@ use Rattle.carrying_calls.proofs.in_place.read_accepted.Goals as goal
 pub taken_writes-taken-requires : goal.taken_writes-taken-requires
 taken_writes-taken-requires c =
     let a = c.args in
-    carry_few (directory_of a.tags.now a.valid.now a.lru.now a.cd a.nw (lent_ranges a.range_count a.bounds.now)) (memory a.ram.now a.parity.now)
+    carry_few (directory_of a.tags.now a.valid.now a.lru.now a.cd a.nw (kept_ranges a.ranges)) (memory a.ram.now a.parity.now)
     a.«data».now a.address a.width a.answers.now a.log.now a.pcd a.carried c.requires
 
 pub loop-cursor-init : goal.loop-cursor-init
 loop-cursor-init c =
     let a = c.args in
-    rw c.begin-cursor.ensures (carry_begin (directory_of a.tags.now a.valid.now a.lru.now a.cd a.nw (lent_ranges a.range_count a.bounds.now)) (memory a.ram.now a.parity.now)
+    rw c.begin-cursor.ensures (carry_begin (directory_of a.tags.now a.valid.now a.lru.now a.cd a.nw (kept_ranges a.ranges)) (memory a.ram.now a.parity.now)
     a.«data».now a.address a.width a.answers.now a.log.now a.pcd a.carried c.requires _ c.taken_writes-taken.ensures.2)
 
 pub carried_next-read-requires : goal.carried_next-read-requires
@@ -26,7 +26,7 @@ pub end_in_place-requires : goal.end_in_place-requires
 end_in_place-requires c =
     let a = c.args in
     end_needs a.pcd a.answers.now c.taken_writes-taken.result c.loop-cursor.cursor (directory_of c.loop-cursor.tags c.loop-cursor.valid c.loop-cursor.lru a.cd
-    a.nw (lent_ranges a.range_count a.bounds.now)) _ _ _ c.loop-cursor.landed c.loop-cursor.invariant.none c.carried_next-read.ensures (kept_writes c.loop-cursor.invariant) (kept_needs
+    a.nw (kept_ranges a.ranges)) _ _ _ c.loop-cursor.landed c.loop-cursor.invariant.none c.carried_next-read.ensures (kept_writes c.loop-cursor.invariant) (kept_needs
     c.loop-cursor.invariant c.loop-cursor-test.true).array_length
 
 pub with_part-value-requires : goal.with_part-value-requires
@@ -68,6 +68,6 @@ shape_of-log c = c.loop-cursor.invariant.logs
 pub returns : goal.returns
 returns c =
     let a = c.args in
-    carry_made (directory_of a.tags.now a.valid.now a.lru.now a.cd a.nw (lent_ranges a.range_count a.bounds.now)) (memory a.ram.now a.parity.now) a.«data».now a.address
+    carry_made (directory_of a.tags.now a.valid.now a.lru.now a.cd a.nw (kept_ranges a.ranges)) (memory a.ram.now a.parity.now) a.«data».now a.address
     a.width a.answers.now a.log.now a.pcd a.carried c.requires _ c.taken_writes-taken.ensures.1 c.loop-cursor.invariant (omega (arith, c.loop-cursor-test.false)) _ _ (c.snoop_in_place.ensures _ _ _)
     c.land.ensures

@@ -1,32 +1,15 @@
-use native.Mathlib.Omega.{arith}
 use lib.ListN.{get_or}
-use mathlib.Core.Path.{◌≡◌, sym, ◌∙◌, ap}
-use Prim.Native.Nat.{ℕ}
-use Rattle.directory.specs.Steps.{directory_of, after_snoop}
+use mathlib.Core.Path.{sym, ◌∙◌, ap}
+use Rattle.directory.specs.Steps.{after_snoop}
 use Rattle.directory.specs.declared.steps.Directory.{Directory}
-use Rattle.carrying_calls.specs.CarryingCalls.{snooped_to}
 use Rattle.carrying_calls.proofs.Snoops.{snooped_none, snooped_next}
 use Rattle.carrying_calls.proofs.in_place.snoop_in_place.Goals as goal
 
 pub loop-k-init : goal.loop-k-init
-loop-k-init c = (omega arith, omega arith, λ lru cd ranges. sym (snooped_none _ _ _))
-
-pub bounds-carried-k : goal.bounds-carried-k
-bounds-carried-k c = omega arith
-
-pub loop-k-smaller : goal.loop-k-smaller
-loop-k-smaller c = omega arith
+loop-k-init c lru cd ranges = sym (snooped_none _ _ _)
 
 pub loop-k-preserved : goal.loop-k-preserved
-loop-k-preserved c = (
-  omega arith,
-  omega arith,
-  λ lru cd ranges. c.invalidate_in_place.ensures lru cd ranges ∙ ap (λ (d : Directory). after_snoop d (get_or c.args.carried.addresses
-      c.loop-k.k 0)) (c.loop-k.invariant.2 lru cd ranges) ∙ sym (snooped_next _ _ _ _ c.loop-k.invariant.0),
-)
-
-pub returns : goal.returns
-returns c =
-    let a = c.args in
-    λ lru cd ranges. let e : c.loop-k.k ≡ a.to = omega arith in c.loop-k.invariant.2 lru cd ranges ∙ ap (λ (i : ℕ). snooped_to a.carried a.from i (directory_of
-    a.tags.now a.valid.now lru cd a.nw ranges)) e
+loop-k-preserved c lru cd ranges =
+    c.invalidate_in_place.ensures lru cd ranges
+    ∙ ap (λ (d : Directory). after_snoop d (get_or c.args.carried.addresses c.loop-k.k 0)) (c.loop-k.invariant lru cd ranges)
+    ∙ sym (snooped_next _ _ _ _ c.loop-k.auto.k)

@@ -3,12 +3,12 @@ use mathlib.Core.List.{List}
 use mathlib.Core.Path.{◌≡◌, ap}
 use native.Mathlib.Omega.{arith}
 use lib.ListN.{get_or}
+use Rattle.bus.specs.declared.record.Kind.TheVariants.{Fill}
 use Rattle.bus.specs.Bus.{burst_order}
-use Rattle.bus.specs.Record.{fill_kind}
 use Rattle.bus.proofs.BurstOrder.{Whole, burst_turn}
 use Rattle.parts.specs.Parts.{LineNeeds}
 use Rattle.cycles.proofs.Records.{read_made}
-use Rattle.cycles.proofs.Loops.{fill_begin, fill_next, fill_end}
+use Rattle.cycles.proofs.Loops.{fill_next, fill_end}
 use Rattle.cycles.proofs.fill.fill_cycles.Goals as goal
 
 -- the doubleword of a turn lies in the line
@@ -19,49 +19,24 @@ here order start turn n e l =
     let w : Whole (get_or order turn 0) = rw e t.whole in
     record { aligned = n.aligned; whole = w.aligned; short = w.inside; inside = n.inside; small = n.small; bits = n.bits }
 
-pub overflow_mul-start : goal.overflow_mul-start
-overflow_mul-start c = omega (arith, c.requires.0)
+pub overflow_add-line : goal.overflow_add-line
+overflow_add-line c = let n = here _ c.args.start c.loop-turn.turn c.requires.3 c.burst_order.ensures c.loop-turn-test.true in omega arith
 
-pub loop-turn-init : goal.loop-turn-init
-loop-turn-init c = fill_begin _ _ _ _ _
-
-pub overflow_add-base : goal.overflow_add-base
-overflow_add-base c = let n = here _ c.args.start c.loop-turn.turn c.requires.3 c.burst_order-order.ensures c.loop-turn-test.true in omega arith
-
-pub word_at-word-requires : goal.word_at-word-requires
-word_at-word-requires c = let n = here _ c.args.start c.loop-turn.turn c.requires.3 c.burst_order-order.ensures c.loop-turn-test.true in omega arith
-
-pub bounds-parity-base : goal.bounds-parity-base
-bounds-parity-base c = let n = here _ c.args.start c.loop-turn.turn c.requires.3 c.burst_order-order.ensures c.loop-turn-test.true in omega arith
-
-pub due_bits-due-requires : goal.due_bits-due-requires
-due_bits-due-requires c = let n = here _ c.args.start c.loop-turn.turn c.requires.3 c.burst_order-order.ensures c.loop-turn-test.true in omega arith
-
-pub overflow_cast-base : goal.overflow_cast-base
-overflow_cast-base c = let n = here _ c.args.start c.loop-turn.turn c.requires.3 c.burst_order-order.ensures c.loop-turn-test.true in omega arith
-
-pub whole_cycles-used-requires : goal.whole_cycles-used-requires
-whole_cycles-used-requires c =
-    let p = c.requires in
-    let k = c.loop-turn.invariant in
-    (omega (arith, k.most, p.1), omega (arith, k.most, k.lengths, p.2))
-
-pub loop-turn-smaller : goal.loop-turn-smaller
-loop-turn-smaller c = omega (arith, c.loop-turn-test.true)
+pub read-doubleword-requires : goal.read-doubleword-requires
+read-doubleword-requires c =
+    let n = here _ c.args.start c.loop-turn.turn c.requires.3 c.burst_order.ensures c.loop-turn-test.true in
+    (omega arith, omega arith, omega arith)
 
 pub loop-turn-preserved : goal.loop-turn-preserved
 loop-turn-preserved c =
     let a = c.args in
     let p = c.requires in
-    let n = here _ c.args.start c.loop-turn.turn c.requires.3 c.burst_order-order.ensures c.loop-turn-test.true in
-    let g = rw (c.word_at-word.ensures, c.due_bits-due.ensures) at c.whole_cycles-used.ensures in
+    let n = here _ c.args.start c.loop-turn.turn c.requires.3 c.burst_order.ensures c.loop-turn-test.true in
+    let g = rw c.read-doubleword.ensures at c.whole_cycles-used.ensures in
     fill_next _ _ _ _ _ c.loop-turn.turn _ _ _ _ _ c.loop-turn-test.true p.1 c.loop-turn.invariant
-    (ap (λ (l : List ℕ). get_or l c.loop-turn.turn 0) c.burst_order-order.ensures)
-    (read_made fill_kind a.ram.now a.parity.now a.line _ 4 _ (λ i. omega (arith, c.shared_slice_known-1.given i)) n.aligned
+    (ap (λ (l : List ℕ). get_or l c.loop-turn.turn 0) c.burst_order.ensures)
+    (read_made Fill a.ram.now a.parity.now a.line _ 4 _ (λ i. omega (arith, c.type_inv.ram i)) n.aligned
     (omega arith) (omega (arith, n.whole)) (omega (arith, n.whole)) _ _ _ _ _ _ 0 (omega (arith, n.whole)) _ g)
-
-pub shape_of-log : goal.shape_of-log
-shape_of-log c = c.loop-turn.invariant.lengths
 
 pub returns : goal.returns
 returns c =

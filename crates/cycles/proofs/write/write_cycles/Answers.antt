@@ -18,5 +18,5 @@ pub returns : goal.returns
 returns c =
     let p = c.requires in
     let a = c.args in
-    let e = c.sized_cycles.ensures in
+    let e = rw c.unchecked.ensures at c.sized_cycles.ensures in
     (write_made a.from a.count a.word p.1 p.2 p.3 p.0 a.line _ _ _ _ _ _ e.0, e.1, e.2)

@@ -1,54 +1,28 @@
-use Rattle.fields.proofs.Digits.{number_empty, number_long, low_digit, high_digit, scan_begin, scan_other, scan_large, scan_next, scan_value}
-use native.Mathlib.Omega.{arith}
+use Rattle.std.proofs.Common.{arith, eqb-true, sym, ◌∙◌}
+use Rattle.fields.proofs.Digits.{number_empty, number_long, scan_other, scan_large, scan_next, scan_done}
 use Rattle.fields.proofs.numbers.scan_within.Goals as goal
+use Rattle.fields.proofs.numbers.scan_within.Goals.{then-is_empty-via-then-is_empty, then-is_empty-via-else-is_empty+then-digits-field}
 
-pub returns-then-field-eq0 : goal.returns-then-field-eq0
-returns-then-field-eq0 c = number_empty _ _ c.args.field.now c.if-field-eq0.true
+pub returns-then-is_empty-clause-value : goal.returns-then-is_empty-clause-value
+returns-then-is_empty-clause-value c =
+    elim c.then-is_empty.branch [
+      | then-is_empty-via-then-is_empty w ↦ number_empty _ _ _ (eqb-true _ _ (sym w.if-is_empty.ensures))
+      | then-is_empty-via-else-is_empty+then-digits-field w ↦ number_long _ _ _ w.if-digits-field.true
+    ]
 
-pub returns-then-digits-field : goal.returns-then-digits-field
-returns-then-digits-field c = number_long _ _ c.args.field.now c.if-digits-field.true
+pub returns-in_err-checked_mul-clause-value : goal.returns-in_err-checked_mul-clause-value
+returns-in_err-checked_mul-clause-value c = c.from_residual.ensures ∙ scan_large _ _ _ c.loop-byte.invariant (omega arith) _ _ (omega (arith, c.in_err-checked_mul.ensures))
 
-pub loop-k-init : goal.loop-k-init
-loop-k-init c = scan_begin _ _
+pub returns-in_err-digit_of-clause-value : goal.returns-in_err-digit_of-clause-value
+returns-in_err-digit_of-clause-value c = c.from_residual-in_err-digit_of.ensures ∙ scan_other _ _ _ c.loop-byte.invariant (omega arith) _ _ c.in_err-digit_of.ensures
 
-pub bounds-field-k : goal.bounds-field-k
-bounds-field-k c = omega arith
+pub returns-in_err-value-clause-value : goal.returns-in_err-value-clause-value
+returns-in_err-value-clause-value c = c.from_residual-in_err-value.ensures ∙ scan_large _ _ _ c.loop-byte.invariant (omega arith) _ _ (omega (arith, c.in_err-value.ensures, c.in_ok-checked_mul.ensures.1, c.in_ok-digit_of.ensures.1))
 
-pub returns-then-byte-lt48 : goal.returns-then-byte-lt48
-returns-then-byte-lt48 c = scan_other _ _ _ _ c.loop-k.invariant (omega arith) _ (low_digit _ c.if-byte-lt48.true)
+pub loop-byte-preserved : goal.loop-byte-preserved
+loop-byte-preserved c =
+    rw (c.in_ok-value.ensures.1, c.in_ok-checked_mul.ensures.1, c.in_ok-digit_of.ensures.1)
+    (scan_next _ _ _ c.loop-byte.invariant (omega arith) c.in_ok-digit_of.ensures.0)
 
-pub returns-then-byte-gt57 : goal.returns-then-byte-gt57
-returns-then-byte-gt57 c = scan_other _ _ _ _ c.loop-k.invariant (omega arith) _ (high_digit _ c.if-byte-gt57.true)
-
-pub overflow_cast-digit : goal.overflow_cast-digit
-overflow_cast-digit c = omega arith
-
-pub returns-then-limit-value : goal.returns-then-limit-value
-returns-then-limit-value c = scan_large _ _ _ _ c.loop-k.invariant (omega arith) _ (omega arith)
-
-pub overflow_mul-value : goal.overflow_mul-value
-overflow_mul-value c = omega arith
-
-pub overflow_sub-limit : goal.overflow_sub-limit
-overflow_sub-limit c = omega arith
-
-pub returns-then-limit-value-2 : goal.returns-then-limit-value-2
-returns-then-limit-value-2 c = scan_large _ _ _ _ c.loop-k.invariant (omega arith) _ (omega arith)
-
-pub overflow_mul-value-in-loop-k : goal.overflow_mul-value-in-loop-k
-overflow_mul-value-in-loop-k c = omega arith
-
-pub overflow_add-value : goal.overflow_add-value
-overflow_add-value c = omega arith
-
-pub overflow_add-k : goal.overflow_add-k
-overflow_add-k c = omega arith
-
-pub loop-k-smaller : goal.loop-k-smaller
-loop-k-smaller c = omega arith
-
-pub loop-k-preserved : goal.loop-k-preserved
-loop-k-preserved c = scan_next _ _ _ _ c.loop-k.invariant (omega arith) (omega arith) (omega arith) (omega arith)
-
-pub returns : goal.returns
-returns c = scan_value _ _ _ _ c.loop-k.invariant _ (omega arith) (omega arith) (omega arith)
+pub returns-clause-value : goal.returns-clause-value
+returns-clause-value c = c.then_some.ensures ∙ scan_done _ _ _ c.loop-byte.invariant _ _ (omega arith) (sym c.if-is_empty.ensures) (omega arith)

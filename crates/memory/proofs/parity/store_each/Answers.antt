@@ -7,7 +7,7 @@ loop-k-init c = storing_begin _ _ _ _ _
 
 pub loop-k-preserved : goal.loop-k-preserved
 loop-k-preserved c =
-    storing_next _ _ _ _ _ _ _ _ _ c.loop-k.invariant c.store_next-n.ensures.result_nonzero.1 c.store_next-n.ensures.parity_value
+    storing_next _ _ _ _ _ _ _ _ _ c.loop-k.invariant c.store_next-n.ensures.progress.1 c.store_next-n.ensures.bytes_stored
 
 pub shape_of-ram : goal.shape_of-ram
 shape_of-ram c = c.loop-k.invariant.ram

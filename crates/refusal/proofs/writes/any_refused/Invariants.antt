@@ -1,12 +1,8 @@
 use mathlib.Core.Bool.{◌||◌}
 use mathlib.Core.Path.{◌≡◌}
-use Prim.Native.Nat.{◌≤◌, ◌-◌}
 use Rattle.carried.specs.CarriedCode.{carried_of, left_from}
 use Rattle.refusal.specs.Refusal.{any_refused}
 use Rattle.refusal.proofs.writes.any_refused.Given as goal
 
 abbrev pub invariant-loop-k : goal.invariant-loop-k
-invariant-loop-k l = (l.count ≡ l.carried.count) × (l.k ≤ l.count) × ((l.refused || any_refused l.ram (left_from l.carried l.k)) ≡ any_refused l.ram (carried_of l.carried))
-
-abbrev pub decreases-loop-k : goal.decreases-loop-k
-decreases-loop-k l = l.count - l.k
+invariant-loop-k l = (l.refused || any_refused l.ram (left_from l.carried l.k)) ≡ any_refused l.ram (carried_of l.carried)

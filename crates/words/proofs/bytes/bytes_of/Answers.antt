@@ -1,7 +1,6 @@
-use mathlib.Core.Path.{refl}
-use Rattle.words.specs.Bytes.{bytes_of}
+use mathlib.Core.Path.{◌∙◌}
+use Rattle.words.proofs.Words.{four_bytes_of}
 use Rattle.words.proofs.bytes.bytes_of.Goals as goal
 
 pub returns : goal.returns
-unfolding bytes_of
-returns c = refl
+returns c = c.to_le_bytes.ensures ∙ four_bytes_of _

@@ -1,4 +1,5 @@
+use Rattle.words.proofs.Moves.{part_copied}
 use Rattle.words.proofs.bytes.copy_bytes.Goals as goal
 
-pub returns-then-count-eq4 : goal.returns-then-count-eq4
-returns-then-count-eq4 c = rw c.if-count-eq4.true c.copy_four.ensures
+pub returns-else-count-eq4 : goal.returns-else-count-eq4
+returns-else-count-eq4 c = part_copied _ _ _ _ _ _ c.requires.0 c.requires.1 c.copy_from_slice.ensures.after

@@ -1,3 +1,4 @@
+use borrow.Author.Rules.{rules}
 use mathlib.Core.Path.{sym, ◌∙◌}
 use native.Mathlib.Omega.{arith}
 use Rattle.words.proofs.Replaced.{lanes_at_most, lanes_put, lanes_fit, whole_mask, whole_put}
@@ -12,7 +13,7 @@ pub overflow_add-old : goal.overflow_add-old
 overflow_add-old c =
     let a = c.args in
     let part = c.lanes_word.ensures a.lane a.count c.requires.1 c.lanes_mask-mask.ensures.0 in
-    omega (arith, lanes_fit a.dst.now (λ i. omega (arith, c.slice_known-1.given i)) a.base a.lane a.count a.word _ _ c.requires.1 c.requires.3 c.word_at-old.ensures part)
+    omega (arith, lanes_fit a.dst.now (search rules) a.base a.lane a.count a.word _ _ c.requires.1 c.requires.3 c.word_at-old.ensures part)
 
 pub returns-then-mask-eq15 : goal.returns-then-mask-eq15
 returns-then-mask-eq15 c =
@@ -26,4 +27,4 @@ returns-else-mask-eq15 c =
     let a = c.args in
     let part = c.lanes_word.ensures a.lane a.count c.requires.1 c.lanes_mask-mask.ensures.0 in
     rw c.put_word-else-mask-eq15.ensures
-    (lanes_put a.dst.now (λ i. omega (arith, c.slice_known-1.given i)) a.base a.lane a.count a.word _ _ c.requires.1 c.requires.3 c.word_at-old.ensures part)
+    (lanes_put a.dst.now (search rules) a.base a.lane a.count a.word _ _ c.requires.1 c.requires.3 c.word_at-old.ensures part)

@@ -1,3 +1,4 @@
+use borrow.Author.Rules.{rules}
 use Prim.Native.Nat.{◌+◌, ◌*◌, ◌/◌, ◌%◌}
 use mathlib.Core.Path.{◌≡◌, sym}
 use native.Mathlib.Omega.{arith}
@@ -9,4 +10,4 @@ returns c =
     let a = c.args in
     let e : a.at / 4 * 4 + a.at % 4 ≡ a.at = omega arith in
     rw (c.lanes_value.ensures, c.word_at.ensures, word_of_all a.src.now (a.at / 4 * 4))
-    (sym (rw e at (value_in_lanes a.src.now (λ i. omega (arith, c.shared_slice_known-1.given i)) (a.at / 4 * 4) (a.at % 4) a.count c.requires.1)))
+    (sym (rw e at (value_in_lanes a.src.now (search rules) (a.at / 4 * 4) (a.at % 4) a.count c.requires.1)))

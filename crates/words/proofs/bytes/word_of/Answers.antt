@@ -1,7 +1,7 @@
-use mathlib.Core.Path.{sym}
-use Rattle.words.proofs.Words.{value_of_four}
+use mathlib.Core.Path.{◌∙◌}
 use borrow.Author.Rules.{rules}
+use Rattle.words.proofs.Words.{value_of_four}
 use Rattle.words.proofs.bytes.word_of.Goals as goal
 
 pub returns : goal.returns
-returns c = sym (value_of_four _ (search rules))
+returns c = c.from_le_bytes.ensures ∙ value_of_four _ (search rules)

@@ -4,7 +4,7 @@ use Rattle.access.specs.Access.{write_one}
 use Rattle.doubleword.proofs.Cursors.{cursor_less, cursor_next}
 use Rattle.writing.proofs.WriteDoublewords.{write_no_fill}
 use Rattle.memory.specs.Parity.{memory}
-use Rattle.ranges.specs.Ranges.{lent_ranges}
+use Rattle.ranges.specs.Ranges.{kept_ranges}
 use Rattle.directory.specs.Steps.{directory_of}
 use native.Mathlib.Omega.{arith}
 use Rattle.write_calls.proofs.in_place.write_accepted.Goals as goal
@@ -13,7 +13,7 @@ pub loop-cursor-init : goal.loop-cursor-init
 loop-cursor-init c =
     let a = c.args in
     rw c.begin-cursor.ensures
-    (write_begin (directory_of a.tags.now a.valid.now a.lru.now a.cd a.nw (lent_ranges a.range_count a.bounds.now)) (memory a.ram.now a.parity.now) a.«data».now
+    (write_begin (directory_of a.tags.now a.valid.now a.lru.now a.cd a.nw (kept_ranges a.ranges)) (memory a.ram.now a.parity.now) a.«data».now
     a.address a.width a.answers.now a.log.now a.value c.requires)
 
 pub write_next-next-requires : goal.write_next-next-requires
@@ -57,5 +57,5 @@ shape_of-log c = c.loop-cursor.invariant.logs
 pub returns : goal.returns
 returns c =
     let a = c.args in
-    write_made (directory_of a.tags.now a.valid.now a.lru.now a.cd a.nw (lent_ranges a.range_count a.bounds.now)) (memory a.ram.now a.parity.now) a.«data».now
+    write_made (directory_of a.tags.now a.valid.now a.lru.now a.cd a.nw (kept_ranges a.ranges)) (memory a.ram.now a.parity.now) a.«data».now
     a.address a.width a.answers.now a.log.now a.value c.requires _ _ _ _ _ (omega arith) c.loop-cursor.invariant.writing

@@ -1,17 +1,16 @@
-use Rattle.writing.proofs.WriteDoublewords.{part_bytes, placed_fits, placed_value, place_within, write_next_left}
-use Rattle.writing.specs.Writing.{write_done}
+use mathlib.Core.Path.{refl, sym, ◌∙◌}
+use native.Mathlib.Omega.{arith}
+use lib.ListN.{length}
+use Rattle.ways.proofs.FourWays.{lookup_below}
+use Rattle.cycles.proofs.Stored.{one_run}
 use Rattle.doubleword.proofs.Cursors.{cursor_doubleword}
-use Rattle.doubleword.specs.DoublewordCode.{doubleword_of}
-use Rattle.doubleword.specs.declared.change.Wanted.{Wanted}
-use Rattle.memory.specs.Parity.{memory}
-use Rattle.ranges.specs.Ranges.{lent_ranges, ranges_of}
-use Rattle.bus.specs.Groups.{widest}
-use Rattle.words.specs.Bytes.{bytes_of}
-use Rattle.ways.specs.Ways.{lookup_in}
-use mathlib.Core.List.{List}
-use mathlib.Core.Path.{refl}
-use Prim.Native.Nat.{ℕ}
+use Rattle.doubleword.specs.DoublewordCode.{DoublewordNeeds}
+use Rattle.writing.proofs.WriteDoublewords.{lane_place, operand_lanes, placed_fits, place_within, put_found, stay_writes, ram_writes, write_next_left}
+use Rattle.writing.proofs.next.write_next.Goals.{in-Some, in-None}
 use Rattle.writing.proofs.next.write_next.Goals as goal
+
+pub data_offset-requires : goal.data_offset-requires
+data_offset-requires c = lookup_below _ _ _ _ (sym c.lookup-found.ensures ∙ c.in-Some.is)
 
 pub placed_lanes-word-requires : goal.placed_lanes-word-requires
 placed_lanes-word-requires c =
@@ -20,17 +19,44 @@ placed_lanes-word-requires c =
     let d = cursor_doubleword _ _ _ _ _ _ _ _ _ p.0 c.wanted-w.ensures p.1 refl c.group_of-group.ensures.1 in
     (h.0, h.1, d.lanes)
 
-pub write_doubleword-written-requires : goal.write_doubleword-written-requires
-write_doubleword-written-requires c =
+pub put_lanes-requires : goal.put_lanes-requires
+put_lanes-requires c =
     let p = c.requires in
     let d = cursor_doubleword _ _ _ _ _ _ _ _ _ p.0 c.wanted-w.ensures p.1 refl c.group_of-group.ensures.1 in
-    (d, p.1.array_length, rw c.placed_lanes-word.ensures (placed_fits _ _ _ _))
+    (d.some, d.lanes, omega (arith, c.data_offset.ensures.1, d.line, p.1.array_length), rw c.placed_lanes-word.ensures (placed_fits _ _ _ _))
 
-pub returns : goal.returns
-returns c =
-    let a = c.args in
-    let h = place_within _ _ c.requires.0 c.wanted-w.ensures c.requires.1 in
-    write_next_left _ _ _ _ c.wanted-w.ensures c.group_of-group.ensures.0 _
-    (λ (w : Wanted) (xs : List ℕ). write_done (lookup_in a.tags.now a.valid.now w.line) a.stays (ranges_of (lent_ranges a.range_count a.bounds.now)) (memory a.ram.now a.parity.now)
-    a.«data».now (bytes_of widest a.value) (doubleword_of w xs))
-    _ _ _ _ (c.write_doubleword-written.ensures _ (rw (c.placed_lanes-word.ensures, placed_value a.value _ _ _) (part_bytes a.value _ _ h.1)))
+pub write_through-cycles-requires : goal.write_through-cycles-requires
+write_through-cycles-requires c =
+    let p = c.requires in
+    (cursor_doubleword _ _ _ _ _ _ _ _ _ p.0 c.wanted-w.ensures p.1 refl c.group_of-group.ensures.1, rw c.placed_lanes-word.ensures (placed_fits _ _ _ _))
+
+pub returns-then-inside : goal.returns-then-inside
+returns-then-inside c =
+    let sent = operand_lanes c.args.value _ _ _ _ c.placed_lanes-word.ensures (place_within _ _ c.requires.0 c.wanted-w.ensures c.requires.1).1 in
+    write_next_left _ _ _ _ _ _ _ _ _ _ _ c.wanted-w.ensures c.group_of-group.ensures.0
+    (stay_writes _ _ _ _ _ _ _ _ sent _ _ _ _
+    (elim c.match-found.branch [
+      | in-Some w ↦
+          let found = sym c.lookup-found.ensures ∙ w.in-Some.is in
+          put_found _ _ _ _ _ sent _ _ _ _ found (lookup_below _ _ _ _ found) w.change-is w.data_offset.ensures.0
+          (rw (lane_place w.data_offset.result c.wanted-w.result.from) at (w.data-is ∙ w.put_lanes.ensures))
+      | in-None w ↦ rw (sym c.lookup-found.ensures ∙ w.in-None.is) (w.change-is, w.data-is)
+    ])
+    (rw (← c.lookup-found.ensures, ← c.is_some.ensures) c.if-inside.true))
+
+pub returns-else-inside : goal.returns-else-inside
+returns-else-inside c =
+    let p : DoublewordNeeds c.wanted-w.result c.args.cursor.cycles (length c.args.ram.now) (length c.args.parity.now) (length c.group_of-group.result.now) (length c.args.log.now) =
+    cursor_doubleword _ _ _ _ _ _ _ _ _ c.requires.0 c.wanted-w.ensures c.requires.1 refl c.group_of-group.ensures.1 in
+    let t = c.write_through-cycles.ensures in
+    let sent = operand_lanes c.args.value _ _ _ _ c.placed_lanes-word.ensures (place_within _ _ c.requires.0 c.wanted-w.ensures c.requires.1).1 in
+    write_next_left _ _ _ _ _ _ _ _ _ _ _ c.wanted-w.ensures c.group_of-group.ensures.0
+    (ram_writes _ _ _ _ _ _ _ _ sent (one_run _ _ p.some p.lanes p.line) (omega (arith, p.served)) p.aligned _ _ _ t.0 t.1 t.2 _ _ _ _
+    (elim c.match-found.branch [
+      | in-Some w ↦
+          let found = sym c.lookup-found.ensures ∙ w.in-Some.is in
+          put_found _ _ _ _ _ sent _ _ _ _ found (lookup_below _ _ _ _ found) w.change-is w.data_offset.ensures.0
+          (rw (lane_place w.data_offset.result c.wanted-w.result.from) at (w.data-is ∙ w.put_lanes.ensures))
+      | in-None w ↦ rw (sym c.lookup-found.ensures ∙ w.in-None.is) (w.change-is, w.data-is)
+    ])
+    (rw (← c.lookup-found.ensures, ← c.is_some.ensures) c.if-inside.false))

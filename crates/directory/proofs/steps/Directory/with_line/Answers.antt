@@ -1,7 +1,4 @@
-use mathlib.Core.Path.{refl}
-use Rattle.directory.specs.Steps.{with_line}
 use Rattle.directory.proofs.steps.Directory.with_line.Goals as goal
 
 pub returns : goal.returns
-unfolding with_line
-returns c = refl
+returns c = c.line_in_place.ensures _ _ _ _

@@ -1,0 +1,2 @@
+-- Laws of the numbers that several proofs cite.
+pub mod Refused
