@@ -19,13 +19,13 @@ impl From<Kind> for u32 {
     }
 }
 
-// The flags of a cycle. mask: the lanes that it moves.
+// The flags of a cycle. mask: the lanes that it moves; kind: the flag of what it is made for.
 #[tactic(auto, using(crate::proofs::Flags::lanes_mask_lem, crate::proofs::Flags::flag_when), unfolding(crate::specs::Record::flags_of))]
-pub fn flags_of(mask: u32, kind: Kind, last: bool, wrong: bool) -> u32
-    requires { mask ≤ 15 }
-    ensures { (lane count : ℕ) → lane + count ≤ 4 → mask ≡ lanes_mask lane count → result ≡ flags_of lane count (kind_flag kind) last wrong }
+pub fn flags_of(mask: u32, kind: u32, last: bool, wrong: bool) -> u32
+    requires { (mask ≤ 15) × (kind ≤ 255) }
+    ensures { (lane count : ℕ) → lane + count ≤ 4 → mask ≡ lanes_mask lane count → result ≡ flags_of lane count kind last wrong }
 {
-    mask + u32::from(kind) + 64 * u32::from(last) + 128 * u32::from(wrong)
+    mask + kind + 64 * u32::from(last) + 128 * u32::from(wrong)
 }
 
 // A record at its place in the log.

@@ -18,9 +18,7 @@ use Rattle.words.proofs.Numbers.{Small, of_small, of_length, value_of_bytes}
 use Rattle.words.proofs.Parts.{powers_some, word_in_lem, word_of_all, word_in_lanes}
 use Rattle.memory.specs.Parity.{memory}
 use Rattle.bus.specs.Bus.{run, size_of, Cycle, cycles_of}
-use Rattle.bus.specs.declared.record.Kind.{Kind}
-use Rattle.bus.specs.declared.record.Kind.TheVariants.{Write}
-use Rattle.bus.specs.Record.{Record, flags_of, write_kind, kind_flag, read_record, write_record, logged}
+use Rattle.bus.specs.Record.{Record, flags_of, write_kind, read_record, write_record, logged}
 use Rattle.bus.specs.Runs.{run_cycles}
 use Rattle.bus.proofs.Sizing.{size_some, size_most}
 use Rattle.bus.proofs.Runs.{cycles_alone}
@@ -56,8 +54,8 @@ agree_run f g low end h last (x ∷ xs) from count a some b =
 -- READS
 
 -- a cycle of one doubleword of RAM
-pub read_part : (kind : Kind) (ram parity : List ℕ) (line base : ℕ) → ((i : ℕ) → get_or ram i 0 < 256) → line % 16 ≡ 0 → base % 4 ≡ 0 →
-    Agree (part_record (read_transfer ram parity (line + base) kind)) (read_record (kind_flag kind) (memory ram parity) line) base (base + 4)
+pub read_part : (kind : ℕ) (ram parity : List ℕ) (line base : ℕ) → ((i : ℕ) → get_or ram i 0 < 256) → line % 16 ≡ 0 → base % 4 ≡ 0 →
+    Agree (part_record (read_transfer ram parity (line + base) kind)) (read_record kind (memory ram parity) line) base (base + 4)
 unfolding part_record read_record
 read_part kind ram parity line base small al whole c low some high =
     let from = c.moved.from in
@@ -69,30 +67,30 @@ read_part kind ram parity line base small al whole c low some high =
     rw (e, p, part_wrong ram parity (line + base) (from % 4) count m l, word_in_lanes ram small (line + base) (from % 4) count l)
 
 -- the records of a run inside one doubleword of RAM
-pub read_records : (kind : Kind) (ram parity : List ℕ) (line from count base : ℕ) → ((i : ℕ) → get_or ram i 0 < 256) → line % 16 ≡ 0 → 0 < count → from % 4 + count ≤ 4 → base ≡ line + from / 4 * 4 →
+pub read_records : (kind : ℕ) (ram parity : List ℕ) (line from count base : ℕ) → ((i : ℕ) → get_or ram i 0 < 256) → line % 16 ≡ 0 → 0 < count → from % 4 + count ≤ 4 → base ≡ line + from / 4 * 4 →
     (last : Bool) (xs : List ℕ) →
     map (part_record (read_transfer ram parity base kind)) (run_cycles last xs (run from count))
-    ≡ map (read_record (kind_flag kind) (memory ram parity) line) (run_cycles last xs (run from count))
+    ≡ map (read_record kind (memory ram parity) line) (run_cycles last xs (run from count))
 read_records kind ram parity line from count base small al some l e last xs =
     let low = from / 4 * 4 in
     rw e (agree_run _ _ low (low + 4) (read_part kind ram parity line low small al (omega arith)) last xs from count (omega arith) some (omega arith))
 
 -- what the code leaves from numbers of RAM is what a read leaves
-module _ (kind : Kind) (ram parity : List ℕ) (line from count base : ℕ) (small : (i : ℕ) → get_or ram i 0 < 256) (al : line % 16 ≡ 0) (some : 0 < count) (l : from % 4 + count ≤ 4)
+module _ (kind : ℕ) (ram parity : List ℕ) (line from count base : ℕ) (small : (i : ℕ) → get_or ram i 0 < 256) (al : line % 16 ≡ 0) (some : 0 < count) (l : from % 4 + count ≤ 4)
     (e : base ≡ line + from / 4 * 4) (xs : List ℕ) (first used r : ℕ) (log₀ log : List ℕ) where
   abbrev numbers : Cycle → Record
   numbers = part_record (read_transfer ram parity base kind)
 
   pub read_made : (lane : ℕ) → lane % 4 ≡ from % 4 → (last : Bool) →
       CyclesMade numbers (run_cycles last xs (run lane count)) first used log₀ r log →
-      CyclesMade (read_record (kind_flag kind) (memory ram parity) line) (run_cycles last xs (run from count)) first used log₀ r log
+      CyclesMade (read_record kind (memory ram parity) line) (run_cycles last xs (run from count)) first used log₀ r log
   read_made lane h last =
       made_same _ _ _ _ first used r log₀ log
       (part_lane (read_transfer ram parity base kind) last xs lane from count h ∙ read_records kind ram parity line from count base small al some l e last xs)
 
   -- and with no other run, from the run of its lanes
   pub read_alone_lem : CyclesMade numbers (run_cycles true xs (run (from % 4) count)) first used log₀ r log →
-      CyclesMade (read_record (kind_flag kind) (memory ram parity) line) (cycles_of xs (run from count ∷ [])) first used log₀ r log
+      CyclesMade (read_record kind (memory ram parity) line) (cycles_of xs (run from count ∷ [])) first used log₀ r log
   read_alone_lem = rw (cycles_alone xs (run from count)) (read_made (from % 4) (omega arith) true)
 
 -- WRITES
@@ -168,7 +166,7 @@ module _ (from count word : ℕ) (l : from % 4 + count ≤ 4) (short : from < 16
   -- what the code leaves from a doubleword that has no other lanes is what a write leaves
   module _ (own : word ≡ lanes_word word (from % 4) count) (some : 0 < count) (line : ℕ) where
     abbrev sending : Cycle → Record
-    sending = part_record (unchecked_transfer (line + low) word Write)
+    sending = part_record (unchecked_transfer (line + low) word write_kind)
 
     -- a cycle that sends some of them
     write_part : Agree sending (write_record sent line) low (low + 4)
@@ -188,7 +186,7 @@ module _ (from count word : ℕ) (l : from % 4 + count ≤ 4) (short : from < 16
     write_made xs first used r log₀ log =
         rw (cycles_alone xs (run from count))
         (made_same _ _ _ _ first used r log₀ log
-        (part_lane (unchecked_transfer (line + low) word Write) true xs (from % 4) from count (omega arith)
+        (part_lane (unchecked_transfer (line + low) word write_kind) true xs (from % 4) from count (omega arith)
         ∙ agree_run _ _ low (low + 4) write_part true xs from count (omega arith) some (omega arith)))
 
     -- one cycle, where the board asks for no smaller size
@@ -200,5 +198,5 @@ module _ (from count word : ℕ) (l : from % 4 + count ≤ 4) (short : from < 16
         let lane = from % 4 in
         let e : lane % 4 ≡ lane = omega arith in
         let same : flags ≡ flags_of lane count write_kind true (not (eqb (bits_in 0 lane count) (bits_in 0 lane count))) = ef ∙ rw (eq-eqb (bits_in 0 lane count) (bits_in 0 lane count) refl) in
-        let put = part_left (unchecked_transfer (line + low) word Write) lane count first true log₀ (rw e same) (rw e own) el in
-        write_made xs first 0 1 log₀ log (part_whole (unchecked_transfer (line + low) word Write) lane count l xs answered w first log₀ log put)
+        let put = part_left (unchecked_transfer (line + low) word write_kind) lane count first true log₀ (rw e same) (rw e own) el in
+        write_made xs first 0 1 log₀ log (part_whole (unchecked_transfer (line + low) word write_kind) lane count l xs answered w first log₀ log put)

@@ -27,7 +27,7 @@ pub fn write_cycles(
     let base = (line + from / 4 * 4) as u32;
     let lane = from % 4;
     if answers[0] / 2 % 4 == 0 {
-        let flags = flags_of(lanes_mask(lane, count), Kind::Write, true, false);
+        let flags = flags_of(lanes_mask(lane, count), u32::from(Kind::Write), true, false);
         put_record(log, first, base, flags, word);
         return 1;
     }

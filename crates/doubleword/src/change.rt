@@ -5,6 +5,7 @@ ghost use Rattle.directory.specs.Steps.{directory_of};
 ghost use Rattle.doubleword.specs.Doubleword.{changed};
 ghost use Rattle.doubleword.specs.DoublewordCode.{BelowFour, NoFill};
 
+use directory::Directory;
 use ways::{LINES, SETS};
 
 // What a doubleword does to the directory: nothing, a use of a way, or a kept fill of a way.
@@ -63,4 +64,14 @@ pub fn change_in_place(
         }
         Change::Unchanged | Change::Use(_) => change_lru_in_place(lru, line, change),
     }
+}
+
+// The same by value: the change made in the arrays of the directory that it is given.
+pub fn changed_by(mut directory: Directory, line: u32, change: Change) -> Directory
+    requires { BelowFour change }
+    ensures { result ≡ changed directory line change }
+{
+    let lent = &mut directory;
+    change_in_place(&mut lent.tags, &mut lent.valid, &mut lent.lru, line, change);
+    directory
 }

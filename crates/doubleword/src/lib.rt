@@ -4,5 +4,5 @@
 mod change;
 mod cursor;
 
-pub use change::{Change, Wanted, change_in_place, change_lru_in_place};
+pub use change::{Change, Wanted, change_in_place, change_lru_in_place, changed_by};
 pub use cursor::AccessCursor;

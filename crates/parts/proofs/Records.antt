@@ -10,7 +10,7 @@ use lib.ListN.{length, get_or}
 use Rattle.laws.proofs.Tests.{by_test}
 use Rattle.words.specs.Bytes.{lanes_word}
 use Rattle.bus.specs.Bus.{Run, run, size_of}
-use Rattle.bus.specs.Record.{Record, kind_flag, flags_of, logged}
+use Rattle.bus.specs.Record.{Record, flags_of, logged}
 use Rattle.bus.specs.Runs.{run_cycles}
 use Rattle.bus.proofs.Sizing.{size_lane, size_whole}
 use Rattle.parts.specs.declared.lanes.Transfer.{Transfer}
@@ -26,7 +26,7 @@ part_blind t w x b = refl
 
 -- the record of a cycle, from what its parts leave
 pub part_left : (t : Transfer) (lane count place : ℕ) (last : Bool) (log₀ : List ℕ) {flags moved : ℕ} {log : List ℕ} →
-    flags ≡ flags_of (lane % 4) count (kind_flag t.kind) last (not (eqb (bits_in t.held (lane % 4) count) (bits_in t.due (lane % 4) count))) →
+    flags ≡ flags_of (lane % 4) count t.kind last (not (eqb (bits_in t.held (lane % 4) count) (bits_in t.due (lane % 4) count))) →
     moved ≡ lanes_word t.word (lane % 4) count →
     log ≡ logged log₀ place (record { address = t.base; flags = flags; word = moved } ∷ []) →
     log ≡ logged log₀ place (part_record t (moving lane count last) ∷ [])

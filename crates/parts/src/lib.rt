@@ -6,4 +6,4 @@ mod lanes;
 mod part;
 mod whole;
 
-pub use lanes::Transfer;
+pub use lanes::{Transfer, due_bits};

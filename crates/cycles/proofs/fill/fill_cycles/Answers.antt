@@ -3,8 +3,8 @@ use mathlib.Core.List.{List}
 use mathlib.Core.Path.{◌≡◌, ap}
 use native.Mathlib.Omega.{arith}
 use lib.ListN.{get_or}
-use Rattle.bus.specs.declared.record.Kind.TheVariants.{Fill}
 use Rattle.bus.specs.Bus.{burst_order}
+use Rattle.bus.specs.Record.{fill_kind}
 use Rattle.bus.proofs.BurstOrder.{Whole, burst_turn}
 use Rattle.parts.specs.Parts.{LineNeeds}
 use Rattle.cycles.proofs.Records.{read_made}
@@ -35,7 +35,7 @@ loop-turn-preserved c =
     let g = rw c.read-doubleword.ensures at c.whole_cycles-used.ensures in
     fill_next _ _ _ _ _ c.loop-turn.turn _ _ _ _ _ c.loop-turn-test.true p.1 c.loop-turn.invariant
     (ap (λ (l : List ℕ). get_or l c.loop-turn.turn 0) c.burst_order.ensures)
-    (read_made Fill a.ram.now a.parity.now a.line _ 4 _ (λ i. omega (arith, c.type_inv.ram i)) n.aligned
+    (read_made fill_kind a.ram.now a.parity.now a.line _ 4 _ (λ i. omega (arith, c.type_inv.ram i)) n.aligned
     (omega arith) (omega (arith, n.whole)) (omega (arith, n.whole)) _ _ _ _ _ _ 0 (omega (arith, n.whole)) _ g)
 
 pub returns : goal.returns

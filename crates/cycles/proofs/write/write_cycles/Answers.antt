@@ -7,7 +7,7 @@ pub returns-then-answers-eq0 : goal.returns-then-answers-eq0
 returns-then-answers-eq0 c =
     let p = c.requires in
     let a = c.args in
-    let flags = c.flags_of-flags.ensures (a.from % 4) a.count p.1 c.lanes_mask.ensures.0 in (
+    let flags = rw c.from.ensures at (c.flags_of-flags.ensures (a.from % 4) a.count p.1 c.lanes_mask.ensures.0) in (
       write_whole a.from a.count a.word p.1 p.2 p.3 p.0 a.line a.answers.now (omega (arith, p.4)) c.if-answers-eq0.true
           a.first a.log.now _ flags c.put_record.ensures,
       omega arith,

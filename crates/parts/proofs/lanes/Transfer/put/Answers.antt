@@ -11,6 +11,6 @@ returns c lane count l e =
     let m = e ∙ mask_lane lane count l in
     let h : lane % 4 + count ≤ 4 = omega arith in
     part_left a.self lane count a.place a.last a.log.now
-    (rw (masked_same a.self.held a.self.due a.mask (lane % 4) count m) at (c.flags_of-flags.ensures (lane % 4) count h m))
+    (rw (c.from.ensures, masked_same a.self.held a.self.due a.mask (lane % 4) count m) at (c.flags_of-flags.ensures (lane % 4) count h m))
     (c.lanes_word.ensures (lane % 4) count h m)
     c.put_record.ensures
