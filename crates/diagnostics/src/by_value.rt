@@ -4,14 +4,15 @@ ghost use Rattle.memory.specs.Parity.{Memory};
 ghost use Rattle.refusal.specs.Call.{after, state};
 ghost use Rattle.diagnostics.specs.Diagnostics.{test_read_line, test_write_call};
 
-use crate::in_place::{TestLine, test_read_in_place, test_write_in_place};
+use crate::in_place::{TestLine, test_read_in_place};
+use crate::number::test_write_number;
 use directory::{Directory, Outcome};
-use numbers::answer_of;
-use ways::Arrays;
+use ways::{Arrays, line_offset};
+use words::copy_line;
 
 // A line planted: its tag, its valid mark and its sixteen bytes. The LRU number of its set stays.
 pub fn test_write(
-    mut given: Directory,
+    given: Directory,
     data: &mut [u8],
     set: u32,
     way: u32,
@@ -22,19 +23,13 @@ pub fn test_write(
     ensures { (m : Memory) → after result m «data».new []
         ≡ test_write_call (state given m «data».old) set way tag mark bytes }
 {
-    let lent = &mut given;
-    let done = test_write_in_place(
-        &mut lent.tags,
-        &mut lent.valid,
-        lent.cd,
-        data,
-        set,
-        way,
-        tag,
-        mark,
-        &bytes,
-    );
-    given.answered(answer_of(done))
+    if let Err(refusal) = test_write_number(data.len(), given.cd, set, way, tag) {
+        return given.answered(refusal.number());
+    }
+    let s = set as usize;
+    let w = way as usize;
+    copy_line(&bytes, 0, data, line_offset(s, w));
+    given.with_line(s, w, tag, mark).answered(0)
 }
 
 // What a test read by value answers: the directory as it was given, and the line.

@@ -355,6 +355,23 @@ module _ (d : Directory) (cd nw : Bool) where
   unfolding control_call
   control_refused_lem e = cond_true _ _ _ e
 
+  -- by the number that the code has
+  pub control_refused_by : (n : ℕ) → n ≡ cond (control_refused cd nw) 9 0 → (n ≡ 0 → ⊥) → outcome d n 0 0 ≡ control_call d cd nw
+  unfolding control_call
+  control_refused_by n e h =
+      by_test (λ (b : Bool). n ≡ cond b 9 0 → outcome d n 0 0 ≡ cond b (outcome d 9 0 0) (outcome (after_control d cd nw) 0 0 0)) (control_refused cd nw)
+      (λ t m. ap (λ (x : ℕ). outcome d x 0 0) m)
+      (λ t m. absurd (h m))
+      e
+
+  pub control_done_by : (n : ℕ) → n ≡ cond (control_refused cd nw) 9 0 → n ≡ 0 → outcome (after_control d cd nw) n 0 0 ≡ control_call d cd nw
+  unfolding control_call
+  control_done_by n e z =
+      by_test (λ (b : Bool). n ≡ cond b 9 0 → outcome (after_control d cd nw) n 0 0 ≡ cond b (outcome d 9 0 0) (outcome (after_control d cd nw) 0 0 0)) (control_refused cd nw)
+      (λ t m. let met : n ≡ 9 = m in let no : ⊥ = omega (arith, met, z) in absurd no)
+      (λ t m. ap (λ (x : ℕ). outcome (after_control d cd nw) x 0 0) m)
+      e
+
 -- FLUSH: no line stays
 
 module _ (d : Directory) where

@@ -1,11 +1,11 @@
 // The steps on a directory whose arrays are lent, so that nothing is copied. A caller that owns the directory lends it field by
 // field; what a contract says holds whatever the fields are that a step is not lent.
-ghost use Rattle.std.specs.Prelude.{◌≡◌, Bool, List, ℕ, ◌<◌};
+ghost use Rattle.std.specs.Prelude.{◌≡◌, Bool, cond, List, ℕ, ◌<◌};
 ghost use Rattle.numbers.specs.Numbers.{answer_of};
 ghost use Rattle.ranges.specs.declared.Ranges.{Ranges};
 ghost use Rattle.ways.specs.Address.{set_count, way_count};
 ghost use Rattle.directory.specs.Outcome.{outcome};
-ghost use Rattle.directory.specs.Steps.{after_fill, after_flush, after_reset, after_snoop, after_use, control_call, directory_of, snoop_call, with_line};
+ghost use Rattle.directory.specs.Steps.{after_fill, after_flush, after_reset, after_snoop, after_use, control_call, control_refused, directory_of, snoop_call, with_line};
 
 use numbers::Refusal;
 use ways::{Arrays, LINES, SETS, WAYS, lookup, lru_after, set_of};
@@ -100,6 +100,16 @@ pub fn snoop_in_place<'a>(
     Ok(())
 }
 
+// What a control call asks, in place and by value: CD = 0 with NW = 1 is refused.
+pub fn control_number(cd: bool, nw: bool) -> Result<(), Refusal>
+    ensures { answer_of result ≡ cond (control_refused cd nw) 9 0 }
+{
+    if !cd & nw {
+        return Err(Refusal::WrongControl);
+    }
+    Ok(())
+}
+
 // The control call, which refuses CD = 0 with NW = 1.
 pub fn control_in_place(
     cd: &mut bool,
@@ -110,9 +120,7 @@ pub fn control_in_place(
     ensures { (tags : List ℕ) (valid : List Bool) (lru : List ℕ) (ranges : Ranges) → outcome (directory_of tags valid lru cd.new nw.new ranges) (answer_of result) 0 0
         ≡ control_call (directory_of tags valid lru cd.old nw.old ranges) new_cd new_nw }
 {
-    if !new_cd & new_nw {
-        return Err(Refusal::WrongControl);
-    }
+    control_number(new_cd, new_nw)?;
     *cd = new_cd;
     *nw = new_nw;
     Ok(())

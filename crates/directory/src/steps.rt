@@ -1,16 +1,17 @@
 // The directory and its steps. Each step hands the changed directory back.
 ghost use Rattle.std.specs.Prelude.{◌≡◌, ◌<◌};
 ghost use Rattle.directory.specs.Outcome.{outcome};
+ghost use Rattle.ways.specs.State.{state_number_in};
 ghost use Rattle.ways.specs.Address.{set_count, way_count};
 ghost use Rattle.directory.specs.Steps.{after_control, after_fill, after_flush, after_reset, after_snoop, after_use, control_call, first_reset, snoop_call, with_line, with_ranges};
 
 use crate::in_place::{
-    control_in_place, flush_in_place, invalidate_in_place, line_in_place, reset_in_place,
-    snoop_in_place, use_in_place,
+    control_number, fill_in_place, flush_in_place, invalidate_in_place, line_in_place,
+    reset_in_place, use_in_place,
 };
 use numbers::answer_of;
 use ranges::{BOUNDS, Ranges};
-use ways::{Arrays, LINES, SETS, WAYS, lookup, set_of};
+use ways::{LINES, SETS, WAYS, lookup, set_of, state_number};
 
 // The line of a set and a way is element set * WAYS + way of tags and valid. The layout is C's: a host holds one.
 #[repr(C)]
@@ -33,6 +34,21 @@ pub struct Outcome {
     pub number: u32,
     pub value: u64,
     pub cycles: u32,
+}
+
+// The number that the snoop call has of a set. Never in line: there, the compiler copies the directory once more in each snoop
+// call by value.
+#[inline(never)]
+fn set_number<'a>(
+    tags: &'a [u32; LINES],
+    valid: &'a [bool; LINES],
+    lru: &'a [u8; SETS],
+    set: usize,
+) -> u32
+    requires { set < set_count }
+    ensures { result ≡ state_number_in tags.now valid.now lru.now set }
+{
+    answer_of(state_number(tags, valid, lru, set))
 }
 
 impl Directory {
@@ -94,11 +110,18 @@ impl Directory {
     }
 
     // A kept fill of a way, which is a use of it.
-    pub fn filled(self, set: usize, way: usize, tag: u32) -> Self
+    pub fn filled(mut self, set: usize, way: usize, tag: u32) -> Self
         requires { (set < set_count) × (way < way_count) }
         ensures { result ≡ after_fill self set way tag }
     {
-        self.with_line(set, way, tag, true).used(set, way)
+        let Directory {
+            tags,
+            valid,
+            lru,
+            ..
+        } = &mut self;
+        fill_in_place(tags, valid, lru, set, way, tag);
+        self
     }
 
     // The plain step: sets any pair, also the one that the control call refuses.
@@ -139,11 +162,13 @@ impl Directory {
     }
 
     // The control call, which refuses CD = 0 with NW = 1.
-    pub fn control(mut self, cd: bool, nw: bool) -> Outcome
+    pub fn control(self, cd: bool, nw: bool) -> Outcome
         ensures { result ≡ control_call self cd nw }
     {
-        let done = control_in_place(&mut self.cd, &mut self.nw, cd, nw);
-        self.answered(answer_of(done))
+        if let Err(refusal) = control_number(cd, nw) {
+            return self.answered(refusal.number());
+        }
+        self.with_control(cd, nw).answered(0)
     }
 
     // The snoop call: the state of the address's set is checked first, whatever NW is. It stores the mark itself, and ends at one
@@ -151,12 +176,7 @@ impl Directory {
     pub fn snoop(mut self, address: u32) -> Outcome
         ensures { result ≡ snoop_call self address }
     {
-        let arrays = Arrays {
-            tags: &self.tags,
-            valid: &self.valid,
-            lru: &self.lru,
-        };
-        let number = answer_of(arrays.state_number(set_of(address)));
+        let number = set_number(&self.tags, &self.valid, &self.lru, set_of(address));
         if (number == 0) & !self.nw {
             if let Some(way) = lookup(&self.tags, &self.valid, address) {
                 let line = set_of(address) * WAYS + way;

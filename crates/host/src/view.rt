@@ -56,7 +56,7 @@ pub extern "C" fn unit486_view_in_place<'a>(
     if let Err(refusal) = views::view_number(arrays, ranges, ram, data, address) {
         return refusal.number();
     }
-    let part = views::accepted_view(arrays, ram, data, address);
+    let part = views::accepted_view(tags, valid, ram, data, address);
     words::copy_line(part, 0, shown, 0);
     0
 }

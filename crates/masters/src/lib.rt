@@ -11,12 +11,13 @@ mod taken;
 
 use directory::{Directory, Outcome};
 pub use in_place::external_write_in_place;
-use numbers::answer_of;
 use ranges::Kept;
+use taken::{external_write_number, put_bytes};
+use ways::Arrays;
 
 // Another master's write: the bytes into RAM with their parity, then a snoop. The data array is not touched.
 pub fn external_write(
-    mut given: Directory,
+    given: Directory,
     ram: &mut [u8],
     parity: &mut [u8],
     address: u32,
@@ -25,21 +26,25 @@ pub fn external_write(
     ensures { (array : List ℕ) → after result (memory ram.new parity.new) array []
         ≡ external_call (state given (memory ram.old parity.old) array) address bytes.now }
 {
-    let lent = &mut given;
-    let kept = Kept {
-        count: lent.ranges.count,
-        bounds: &lent.ranges.bounds,
+    let arrays = Arrays {
+        tags: &given.tags,
+        valid: &given.valid,
+        lru: &given.lru,
     };
-    let done = external_write_in_place(
-        &lent.tags,
-        &mut lent.valid,
-        &lent.lru,
-        lent.nw,
-        kept,
-        ram,
-        parity,
+    let ranges = Kept {
+        count: given.ranges.count,
+        bounds: &given.ranges.bounds,
+    };
+    if let Err(refusal) = external_write_number(
+        arrays,
+        ranges,
+        ram.len(),
+        parity.len(),
         address,
-        bytes,
-    );
-    given.answered(answer_of(done))
+        bytes.len(),
+    ) {
+        return given.answered(refusal.number());
+    }
+    put_bytes(ranges, ram, parity, address, bytes);
+    given.snooped(address).answered(0)
 }

@@ -1,4 +1,4 @@
-// What an external write asks for and stores.
+// What both forms of an external write ask for and store.
 ghost use Rattle.std.specs.Prelude.{◌≡◌, ◌+◌, ◌*◌, ◌%◌, ◌≤◌, length};
 ghost use Rattle.numbers.specs.Numbers.{answer_of};
 ghost use Rattle.ranges.specs.Ranges.{kept_ranges, ranges_of};

@@ -12,8 +12,8 @@ ghost use Rattle.refusal.specs.Call.{after, state};
 ghost use Rattle.read_only_ranges.specs.SetRanges.{set_ranges_call, set_ranges_number};
 
 use directory::{Directory, Outcome};
-use numbers::{Refusal, answer_of};
-use ranges::{BOUNDS, any_bad};
+use numbers::Refusal;
+use ranges::{BOUNDS, Ranges, any_bad};
 use refusal::ram_number;
 
 // Numbers 1, 37 and 38, of all ranges that are given.
@@ -41,13 +41,18 @@ fn bounds_of(ranges: &[u32]) -> [u32; BOUNDS]
     bounds
 }
 
-pub fn set_ranges(mut given: Directory, ram: &[u8], ranges: &[u32]) -> Outcome
+pub fn set_ranges(given: Directory, ram: &[u8], ranges: &[u32]) -> Outcome
     ensures { (parity array : List ℕ) → after result (memory ram.now parity) array []
         ≡ set_ranges_call (state given (memory ram.now parity) array) ranges.now }
 {
-    let kept = &mut given.ranges;
-    let done = set_ranges_in_place(&mut kept.count, &mut kept.bounds, ram, ranges);
-    given.answered(answer_of(done))
+    if let Err(refusal) = set_ranges_number(ram.len(), ranges) {
+        return given.answered(refusal.number());
+    }
+    let kept = Ranges {
+        count: (ranges.len() / 2) as u32,
+        bounds: bounds_of(ranges),
+    };
+    given.with_ranges(kept).answered(0)
 }
 
 // The rest of the directory is not lent, so it stays.

@@ -8,7 +8,7 @@ use numbers::Refusal;
 use ways::DATA_SIZE;
 
 // RAM has 16 to 16,777,216 bytes, a multiple of 16.
-fn bad_ram(ram: usize) -> bool
+pub fn bad_ram(ram: usize) -> bool
     ensures { result ≡ bad_ram ram }
 {
     (ram < 16) | (16777216 < ram) | (ram % 16 != 0)

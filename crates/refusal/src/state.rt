@@ -40,7 +40,7 @@ pub fn states_number<'a>(arrays: Arrays<'a>, address: u32, count: u32) -> Result
 // own_number, so that a call without has the test of its set in line.
 #[tactic(auto, using(crate::proofs::Order::first_met, crate::proofs::Order::next_met))]
 #[inline(never)]
-fn ranged_number<'a, 'b>(
+pub fn ranged_number<'a, 'b>(
     arrays: Arrays<'a>,
     ranges: Kept<'b>,
     ram: usize,

@@ -13,7 +13,7 @@ ghost use Rattle.views.specs.View.{shown, shown_at, view_at, view_in, view_numbe
 use numbers::Refusal;
 use ranges::Kept;
 use refusal::{ranges_number, view_input_number};
-use ways::{Arrays, data_offset, lookup, set_of};
+use ways::{Arrays, LINES, data_offset, lookup, set_of};
 
 // The companion question: whether the view is accepted, or what turns it away.
 #[tactic(auto, using(refusal::proofs::Order::first_met, refusal::proofs::Order::next_met), unfolding(crate::specs::View::view_number_in))]
@@ -43,24 +43,23 @@ pub fn view<'a>(
         × (result.ref_ptr ≡ view_at arrays.entry.tags.now arrays.entry.valid.now arrays.entry.lru.now (kept_ranges ranges.entry) ram.now «data».now ram.entry.ref_ptr «data».entry.ref_ptr address) }
 {
     match view_number(arrays, ranges, ram, data, address) {
-        Ok(()) => accepted_view(arrays, ram, data, address),
+        Ok(()) => accepted_view(arrays.tags, arrays.valid, ram, data, address),
         Err(_) => &ram[0..0],
     }
 }
 
 // The same where the view is known to be accepted, so that a caller who has asked does not ask again.
 pub fn accepted_view<'a>(
-    arrays: Arrays<'a>,
+    tags: &'a [u32; LINES],
+    valid: &'a [bool; LINES],
     ram: &'a [u8],
     data: &'a [u8],
     address: u32,
 ) -> &'a [u8]
     requires { view_input_number (length ram.now) (length «data».now) address ≡ 0 }
-    ensures { (result.now ≡ shown (lookup_in arrays.entry.tags.now arrays.entry.valid.now address) ram.now «data».now address)
-        × (result.ref_ptr ≡ shown_at (lookup_in arrays.entry.tags.now arrays.entry.valid.now address) ram.entry.ref_ptr «data».entry.ref_ptr address) }
+    ensures { (result.now ≡ shown (lookup_in tags.now valid.now address) ram.now «data».now address)
+        × (result.ref_ptr ≡ shown_at (lookup_in tags.now valid.now address) ram.entry.ref_ptr «data».entry.ref_ptr address) }
 {
-    let tags = arrays.tags;
-    let valid = arrays.valid;
     match lookup(tags, valid, address) {
         Some(way) => sixteen(data, data_offset(address, way)),
         None => sixteen(ram, (address / 16 * 16) as usize),

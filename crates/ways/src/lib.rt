@@ -11,5 +11,5 @@ mod ways;
 pub use address::{data_offset, line_offset, set_of, tag_of};
 pub use lru::lru_after;
 pub use sizes::{DATA_SIZE, LINES, SETS, WAYS};
-pub use state::{Arrays, sound_set};
+pub use state::{Arrays, sound_set, state_number};
 pub use ways::{lookup, victim};

@@ -108,7 +108,7 @@ pub fn sound_set<'a>(tags: &'a [u32; LINES], lru: &'a [u8; SETS], set: usize) ->
 
 // The lowest number that a set meets. Nearly always the quick test tells that it meets none. The arrays come one by one, so that a
 // caller hands them over in registers.
-fn state_number<'a>(
+pub fn state_number<'a>(
     tags: &'a [u32; LINES],
     valid: &'a [bool; LINES],
     lru: &'a [u8; SETS],

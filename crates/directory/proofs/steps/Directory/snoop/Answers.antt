@@ -16,16 +16,16 @@ bounds-self-line c =
 pub returns-in-Some : goal.returns-in-Some
 unfolding invalidated
 returns-in-Some c =
-    snoop_call_done _ _ _ ((c.answer_of-number.ensures ∙ c.state_number.ensures) ∙ ap (state_number_of c.args.self) c.set_of.ensures)
+    snoop_call_done _ _ _ (c.set_number-number.ensures ∙ ap (state_number_of c.args.self) c.set_of.ensures)
     c.if-number-self.true _ (rw (← c.in-Some.ensures, c.set_of-in-Some.ensures))
 
 pub returns-in_default : goal.returns-in_default
 unfolding invalidated
 returns-in_default c =
-    snoop_call_done _ _ _ ((c.answer_of-number.ensures ∙ c.state_number.ensures) ∙ ap (state_number_of c.args.self) c.set_of.ensures)
+    snoop_call_done _ _ _ (c.set_number-number.ensures ∙ ap (state_number_of c.args.self) c.set_of.ensures)
     c.if-number-self.true _ (rw (← c.in_default.ensures))
 
 pub returns-else-number-self : goal.returns-else-number-self
 returns-else-number-self c =
-    snoop_call_kept _ _ _ ((c.answer_of-number.ensures ∙ c.state_number.ensures) ∙ ap (state_number_of c.args.self) c.set_of.ensures)
+    snoop_call_kept _ _ _ (c.set_number-number.ensures ∙ ap (state_number_of c.args.self) c.set_of.ensures)
     c.if-number-self.false
