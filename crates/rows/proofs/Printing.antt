@@ -1,14 +1,11 @@
 -- Laws of text put into a buffer: digits, rows, the header.
-use Prim.Native.Nat.{ℕ, zero, suc, ◌+◌, ◌-◌, ◌/◌, ◌%◌, ◌≤◌, ◌<◌, min}
+use Prim.Native.Nat.{ℕ, zero, suc, ◌+◌, ◌/◌, ◌%◌, ◌≤◌, ◌<◌, min}
 use mathlib.Core.Path.{◌≡◌, refl, sym, ◌∙◌}
 use mathlib.Core.List.{List, [], ◌∷◌, ◌++◌}
 use native.Mathlib.Numerals.{add-one}
 use native.Mathlib.Omega.{arith}
-use lib.ListN.{length, drop, set, take, drop_of_length-le, length-append}
-use lib.Seq.{sets, set_out, length-sets, length-take-le, take_all, sets-eq}
-use borrow.Rule.Slice.PartMut.{put_mid}
-use Rattle.std.proofs.lemmas.Slice.{put_mid-paste}
-use Rattle.std.proofs.lemmas.List.{take-append-drop}
+use lib.ListN.{length, drop, get_or, set, length-append}
+use lib.Seq.{sets, drop-cons, set_out}
 use Rattle.laws.proofs.Tests.{same_or}
 use Rattle.laws.proofs.Lists.{sets_append}
 use Rattle.fields.specs.Fields.{tab, newline}
@@ -91,19 +88,11 @@ pub header_length : length header ≡ 26
 unfolding header
 header_length = refl
 
--- a text cut off where the buffer ends
-pub put_kept : (out text ys : List ℕ) (at kept size : ℕ) → at ≤ length out → kept ≡ min (length text) (length out - at) → size ≡ kept → ys ≡ take kept text → put_mid at size out ys ≡ sets out at text
-put_kept out text ys at kept size h k same-size e =
-    let first = take kept text in
-    let long : length first ≡ kept = length-take-le kept text (omega (arith, k)) in
-    let same : sets out at text ≡ sets (sets out at first) (at + length first) (drop kept text) = rw (take-append-drop kept text) at (sets_append out at first (drop kept text)) in
-    let rest : sets (sets out at first) (at + length first) (drop kept text) ≡ sets out at first =
-    same_or _ kept (length text)
-    (λ all. rw (drop_of_length-le text {i = kept} (omega (arith, all))))
-    (λ cut. put_beyond (sets out at first) (at + length first) (drop kept text) (omega (arith, cut, long, length-sets out at first, k))) in
-    put_mid-paste at size out ys first kept e (sym same-size) (sym long)
-    ∙ rw (take_all kept first (omega (arith, long))) (sym (rw long at (sets-eq first out at (omega (arith, long, k)))))
-    ∙ sym (same ∙ rest)
+-- a text goes on: the k-th byte is put, the others are left to put
+pub text_next : (out text : List ℕ) (at k : ℕ) → k < length text → sets (set out (at + k) (get_or text k 0)) (at + (k + 1)) (drop (k + 1) text) ≡ sets out (at + k) (drop k text)
+text_next out text at k h =
+    let e : at + (k + 1) ≡ suc (at + k) = omega arith in
+    rw (e, add-one k, drop-cons text k 0 h)
 
 -- a place beyond the end is as good as the end
 pub put_within : (out text : List ℕ) (at from : ℕ) → from ≡ min at (length out) → sets out from text ≡ sets out at text

@@ -13,7 +13,17 @@ pub fn copy_bytes(src: &[u8], s: usize, dst: &mut [u8], d: usize, count: usize)
     if count == 4 {
         copy_array::<4>(src, s, dst, d);
     } else {
-        dst[d..d + count].copy_from_slice(&src[s..s + count]);
+        copy_each(src, s, dst, d, count);
+    }
+}
+
+// Byte after byte, so that a few bytes are moved without a call.
+fn copy_each(src: &[u8], s: usize, dst: &mut [u8], d: usize, count: usize)
+    requires { (s + count ≤ length src.now) × (d + count ≤ length dst.old) }
+    ensures { dst.new ≡ sets dst.old d (bytes_at src.now s count) }
+{
+    for k in 0..count {
+        dst[d + k] = src[s + k];
     }
 }
 

@@ -1,11 +1,12 @@
-use Rattle.std.proofs.Common.{refl, sym, arith, ◌∙◌}
-use Rattle.rows.proofs.Printing.{put_kept, put_beyond}
+use Rattle.std.proofs.Common.{refl, ap, arith, ◌∙◌}
+use lib.ListN.{length, length-set, drop_of_length-le}
+use Rattle.rows.proofs.Printing.{text_next}
 use Rattle.rows.proofs.put_text.Goals as goal
-use Rattle.rows.proofs.put_text.Goals.{then-at-out, else-at-out}
+
+pub loop-k-preserved : goal.loop-k-preserved
+loop-k-preserved c =
+    let l = c.loop-k in
+    (ap length c.put.ensures ∙ length-set l.out _ _ ∙ l.invariant.0, rw c.put.ensures (text_next l.out c.args.text.now c.args.at l.k (omega arith)) ∙ l.invariant.1)
 
 pub returns : goal.returns
-returns c =
-    elim c.if-at-out.branch [
-      | then-at-out w ↦ (refl, w.out-is ∙ put_kept _ _ _ _ w.min-kept.result _ (omega arith) w.min-kept.ensures (omega arith) w.copy_from_slice.ensures.after)
-      | else-at-out w ↦ (refl, w.out-is ∙ sym (put_beyond _ _ c.args.text.now w.if-at-out.false))
-    ]
+returns c = (refl, rw (drop_of_length-le c.args.text.now {i = c.loop-k.k} (omega arith)) at c.loop-k.invariant.1)
