@@ -14,7 +14,7 @@ use Rattle.std.specs.Bool.{then_some}
 use Rattle.std.proofs.lemmas.List.Folds.{list_all-append, list_all_at, list_all_more}
 use borrow.Author.Tests.{eqb-false, le-leb, lt-leb}
 use Rattle.laws.proofs.Tests.{by_test}
-use Rattle.fields.specs.Number.{is_digit, value_after, decimal_value, is_number, number_within}
+use Rattle.fields.specs.Number.{is_digit, value_after, decimal_value, is_number, number_within, bit_of}
 
 -- one digit more is read
 value_step : (n : ℕ) (l : List ℕ) (k : ℕ) → k < length l → value_after n (drop k l) ≡ value_after (n * 10 + (get_or l k 0 - 48)) (drop (k + 1) l)
@@ -92,3 +92,10 @@ module _ (field : List ℕ) (value k : ℕ) (inv : ScanInvariant field value k) 
       let more : 1 ≤ length field = omega (arith, eqb-false (length field) 0 some) in
       rw (le-leb 1 (length field) more, le-leb (length field) most few, digits, all)
       (by_test (λ b. then_some b value ≡ cond b (Some value) None) (leb value limit) (λ _. refl) (λ _. refl))
+
+-- a field of none or more bytes than one is no bit
+pub bit_other : (field : List ℕ) → (length field ≡ 1 → ⊥) → None ≡ bit_of field
+unfolding bit_of
+bit_other [] n = refl
+bit_other (c ∷ []) n = absurd (n refl)
+bit_other (c ∷ d ∷ cs) n = refl

@@ -1,13 +1,13 @@
 -- Laws of the number before the first tab of a text: what its scanning finds.
-use Prim.Native.Nat.{ℕ, suc, ◌+◌, ◌-◌, ◌≤◌, ◌<◌}
+use Prim.Native.Nat.{ℕ, zero, suc, ◌+◌, ◌-◌, ◌≤◌, ◌<◌}
 use mathlib.Core.Path.{◌≡◌, refl, sym, ap, ◌∙◌}
 use mathlib.Core.Bool.{Bool, false, cond, and-false}
 use mathlib.Core.List.{List, [], ◌∷◌}
 use native.Mathlib.Omega.{arith}
 use lib.Dec.{eqb, ltb}
-use lib.ListN.{length, take, drop, get_or}
+use lib.ListN.{length, take, drop, get_or, length-take}
 use lib.Seq.{length-take-le}
-use borrow.Author.Tests.{eqb-true, ltb-true, ltb-false}
+use borrow.Author.Tests.{eqb-true, ltb-true, ltb-false, lt-ltb}
 use Rattle.laws.proofs.Tests.{by_test}
 use Rattle.std.specs.Prelude.{Option, Some, None}
 use Rattle.std.specs.List.{list_all, position}
@@ -15,16 +15,58 @@ use Rattle.std.specs.Option.{option_and_then}
 use Rattle.std.proofs.lemmas.List.Folds.{list_all_at}
 use Rattle.fields.specs.Number.{is_digit, number_of, number_within, bit_of}
 use Rattle.fields.specs.Fields.{index_of, tab, fields_of, is_hex, is_pairs, leading_with, leading_of}
-use Rattle.fields.proofs.Parts.{drop_part, parts_end, parts_more, index_most, index_step, found_index}
-use Rattle.fields.proofs.Digits.{number_other}
+use Rattle.fields.proofs.Parts.{drop_part, parts_end, parts_more, index_most, index_step, found_index, place_none, place_some}
+use Rattle.fields.proofs.Digits.{number_other, number_long}
 
 -- a search for the tab and what stands before it
 lead_by : (l : List ℕ) (end : Option ℕ) → end ≡ position (λ c. eqb c tab) l → leading_of l ≡ option_and_then (λ e. leading_with (number_of (take e l)) (e + 1)) end
 unfolding leading_of
 lead_by l end e = rw (e, found_index tab l) (by_test (λ t. cond t (leading_with (number_of (take (index_of tab l) l)) (index_of tab l + 1)) None ≡ option_and_then (λ e. leading_with (number_of (take e l)) (e + 1)) (cond t (Some (index_of tab l)) None)) (ltb (index_of tab l) (length l)) (λ _. refl) (λ _. refl))
 
-pub lead_none : (l : List ℕ) → None ≡ position (λ c. eqb c tab) l → None ≡ leading_of l
-lead_none l e = sym (lead_by l None e)
+-- The tab after a number is among the first eleven bytes of a text: a tab found there is its first, and with none there no number leads.
+index_first : (n : ℕ) (l : List ℕ) → index_of tab (take n l) < length (take n l) → index_of tab l ≡ index_of tab (take n l)
+index_first zero l h = absurd (omega (arith, h))
+index_first (suc n) [] h = absurd (omega (arith, h))
+index_first (suc n) (c ∷ cs) h =
+    rw (index_step tab c cs, index_step tab c (take n cs))
+    (by_test (λ b. cond b 0 (suc (index_of tab (take n cs))) < suc (length (take n cs)) → cond b 0 (suc (index_of tab cs)) ≡ cond b 0 (suc (index_of tab (take n cs))))
+    (eqb c tab)
+    (λ _ _. refl)
+    (λ _ i. ap suc (index_first n cs (omega (arith, i))))
+    (rw (index_step tab c (take n cs)) at h))
+
+index_later : (n : ℕ) (l : List ℕ) → index_of tab (take n l) ≡ length (take n l) → length (take n l) ≤ index_of tab l
+index_later zero l e = omega arith
+index_later (suc n) [] e = omega arith
+index_later (suc n) (c ∷ cs) e =
+    rw (index_step tab c cs)
+    (by_test (λ b. cond b 0 (suc (index_of tab (take n cs))) ≡ suc (length (take n cs)) → suc (length (take n cs)) ≤ cond b 0 (suc (index_of tab cs)))
+    (eqb c tab)
+    (λ _ f. omega (arith, f))
+    (λ _ f. omega (arith, index_later n cs (omega (arith, f))))
+    (rw (index_step tab c (take n cs)) at e))
+
+pub first_tab : (n : ℕ) (l : List ℕ) (end : ℕ) → Some end ≡ position (λ c. eqb c tab) (take n l) → Some end ≡ position (λ c. eqb c tab) l
+first_tab n l end found =
+    let (place, more) = place_some tab (take n l) end found in
+    let same : index_of tab l ≡ end = index_first n l (omega (arith, place, more)) ∙ sym place in
+    let inside : index_of tab l < length l = omega (arith, same, more, length-take n l) in
+    sym (found_index tab l ∙ rw (lt-ltb (index_of tab l) (length l) inside, same))
+
+pub lead_none : (n : ℕ) (l : List ℕ) → (n < length l → 10 < n) → None ≡ position (λ c. eqb c tab) (take n l) → None ≡ leading_of l
+unfolding leading_of leading_with
+lead_none n l ten none =
+    let later : length (take n l) ≤ index_of tab l = index_later n l (place_none tab (take n l) none) in
+    by_test (λ b. ltb (index_of tab l) (length l) ≡ b → None ≡ cond b (leading_with (number_of (take (index_of tab l) l)) (index_of tab l + 1)) None)
+    (ltb (index_of tab l) (length l))
+    (λ _ i.
+    let inside : index_of tab l < length l = ltb-true (index_of tab l) (length l) i in
+    let part : n < length l = omega (arith, later, inside, length-take n l) in
+    let size : length (take (index_of tab l) l) ≡ index_of tab l = length-take-le (index_of tab l) l (omega (arith, inside)) in
+    let long : 10 < length (take (index_of tab l) l) = omega (arith, size, later, part, ten part, length-take n l) in
+    rw (← number_long 10 4294967295 (take (index_of tab l) l) long))
+    (λ _ _. refl)
+    refl
 
 module _ (l : List ℕ) (end : ℕ) (found : Some end ≡ position (λ c. eqb c tab) l) where
   pub lead_other : None ≡ number_of (take end l) → None ≡ leading_of l

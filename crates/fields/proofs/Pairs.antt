@@ -1,12 +1,21 @@
 -- Laws of hex pairs, and of the bytes that they say put at the start of zeros.
 use Prim.Native.Nat.{ℕ, suc, ◌+◌, ◌*◌, ◌/◌, ◌≤◌, ◌<◌}
 use mathlib.Core.Path.{◌≡◌, refl, sym, ap, ◌∙◌}
+use mathlib.Core.Bool.{Bool, ◌&&◌, and_assoc, and-true}
 use mathlib.Core.List.{List, [], ◌∷◌}
 use native.Mathlib.Numerals.{add-one}
 use native.Mathlib.Omega.{arith}
-use lib.ListN.{length, take, drop, get_or, set, replicate, length-drop, length-replicate}
+use lib.ListN.{length, take, drop, get_or, set, replicate, length-drop, length-replicate, drop_of_length-le}
 use lib.Seq.{sets, drop-cons, take_at, sets-eq, length-sets}
+use Rattle.std.specs.List.{list_all}
 use Rattle.fields.specs.Fields.{hex_of, pair_bytes}
+
+-- what was found of the bytes before the k-th takes in the k-th, and at the end it is what was found of all
+pub all_and : (test : ℕ → Bool) (l : List ℕ) (k : ℕ) (found : Bool) → k < length l → (found && test (get_or l k 0) && list_all test (drop (k + 1) l)) ≡ (found && list_all test (drop k l))
+all_and test l k found h = rw (add-one k, drop-cons l k 0, and_assoc)
+
+pub all_and_end : (test : ℕ → Bool) (l : List ℕ) (k : ℕ) (found : Bool) → length l ≤ k → (found && list_all test (drop k l)) ≡ found
+all_and_end test l k found h = rw (drop_of_length-le l h) (and-true found)
 
 -- the next pair
 pairs_cons : (l : List ℕ) (k : ℕ) → 2 * k + 1 < length l → pair_bytes (drop (2 * k) l) ≡ (hex_of (get_or l (2 * k) 0) * 16 + hex_of (get_or l (2 * k + 1) 0)) ∷ pair_bytes (drop (2 * (k + 1)) l)

@@ -31,12 +31,16 @@ fn is_hex(c: u8) -> bool
     matches!(c, b'0'..=b'9' | b'A'..=b'F')
 }
 
-// An even number of uppercase hex digits.
-#[tactic(auto, unfolding(crate::specs::Fields::is_pairs))]
+// An even number of uppercase hex digits. Each byte is looked at, so that no branch waits for the one before it.
+#[tactic(auto, using(crate::proofs::Pairs::all_and, crate::proofs::Pairs::all_and_end), unfolding(crate::specs::Fields::is_pairs))]
 pub fn is_pairs(field: &[u8]) -> bool
     ensures { result ≡ is_pairs field.now }
 {
-    field.len() % 2 == 0 && field.iter().all(|c| is_hex(*c))
+    let mut well_formed = field.len() % 2 == 0;
+    for c in field {
+        well_formed = well_formed & is_hex(*c);
+    }
+    well_formed
 }
 
 #[tactic(auto, unfolding(crate::specs::Fields::hex_of))]

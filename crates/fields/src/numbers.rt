@@ -44,12 +44,14 @@ pub fn scan_value(field: &[u8]) -> Option<u64>
     scan_within(field, 20, 18446744073709551615)
 }
 
-// The number before the first tab of a text, and the place after that tab.
+// The number before the first tab of a text, and the place after that tab. A number has ten digits at most, so the tab is looked for
+// in eleven bytes, however long the text is.
 pub fn leading_number(text: &[u8]) -> Option<(u32, usize)>
     ensures value { result ≡ leading_of text.now }
     ensures within { IfSome result (λ r. r.1 ≤ length text.now) }
 {
-    let end = place_of(text, b'\t')?;
+    let first = &text[..text.len().min(11)];
+    let end = place_of(first, b'\t')?;
     let number = scan_number(&text[..end])?;
     Some((number as u32, end + 1))
 }

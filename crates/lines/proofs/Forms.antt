@@ -19,7 +19,7 @@ use Rattle.fields.proofs.Parts.{drop_part, parts_some, parts_end, parts_more, in
 use Rattle.fields.proofs.LeadingNumber.{Led, rest_from, led, unled, tab_no_number, tab_no_bit, tab_no_pairs}
 use Rattle.lines.specs.declared.Event.{Event}
 use Rattle.lines.specs.declared.Event.TheVariants.{Read, Write, External, Snoop}
-use Rattle.lines.specs.Scan.{with, of_none, of_one, of_two, of_three, access_of, read_with, write_with, external_of, snoop_of, control_of, event_of, form_of, scanned}
+use Rattle.lines.specs.Scan.{with, of_none, of_one, of_two, of_three, access_of, read_with, read_of, write_with, write_of, external_of, snoop_of, control_of, event_of, form_of, scanned}
 
 -- a line with fields where none belongs
 none_some : (event : Option Event) (l : List ℕ) → of_none event (fields_of l) ≡ None
@@ -136,13 +136,23 @@ no_second (Some a) = refl
 no_second None = refl
 
 -- the last field of each form
-pub read_last : (n m : ℕ) (x : List ℕ) → of_one (read_with n m) (fields_of x) ≡ with (bit_of x) (λ pcd. Some (Read n m pcd))
+pub last_pcd : (n m : ℕ) (x : List ℕ) → of_one (read_with n m) (fields_of x) ≡ with (bit_of x) (λ pcd. Some (Read n m pcd))
 unfolding read_with with
-read_last n m x = one_field (read_with n m) x (λ t. rw (tab_no_bit x t))
+last_pcd n m x = one_field (read_with n m) x (λ t. rw (tab_no_bit x t))
 
-pub write_last : (n m : ℕ) (x : List ℕ) → of_one (write_with n m) (fields_of x) ≡ with (value_field_of x) (λ value. Some (Write n m value))
+pub last_value : (n m : ℕ) (x : List ℕ) → of_one (write_with n m) (fields_of x) ≡ with (value_field_of x) (λ value. Some (Write n m value))
 unfolding write_with with
-write_last n m x = one_field (write_with n m) x (λ t. let none : value_field_of x ≡ None = tab_no_number _ _ x t in rw none)
+last_value n m x = one_field (write_with n m) x (λ t. let none : value_field_of x ≡ None = tab_no_number _ _ x t in rw none)
+
+-- a read and a write whose address and width are numbers
+module _ (a w x : List ℕ) (n m : ℕ) (e : number_of a ≡ Some n) (f : number_of w ≡ Some m) where
+  pub read_last : of_one (read_of a w) (fields_of x) ≡ with (bit_of x) (λ pcd. Some (Read n m pcd))
+  unfolding read_of
+  read_last = access_third read_with a w n m (fields_of x) e f ∙ last_pcd n m x
+
+  pub write_last : of_one (write_of a w) (fields_of x) ≡ with (value_field_of x) (λ value. Some (Write n m value))
+  unfolding write_of
+  write_last = access_third write_with a w n m (fields_of x) e f ∙ last_value n m x
 
 external_first : (a pairs : List ℕ) → number_of a ≡ None → external_of a pairs ≡ None
 unfolding external_of with

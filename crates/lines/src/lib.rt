@@ -78,7 +78,7 @@ fn access_of(fields: &[u8]) -> Option<(u32, u32, &[u8])>
     Some((address, width, &rest[last..]))
 }
 
-#[tactic(auto, using(crate::proofs::Forms::read_last), unfolding(crate::specs::Scan::read_of, crate::specs::Scan::with))]
+#[tactic(auto, using(crate::proofs::Forms::last_pcd), unfolding(crate::specs::Scan::read_of, crate::specs::Scan::with))]
 fn read_of(fields: &[u8]) -> Option<Event>
     ensures { result ≡ of_three read_of (fields_of fields.now) }
 {
@@ -86,7 +86,7 @@ fn read_of(fields: &[u8]) -> Option<Event>
     Some(Event::Read(address, width, scan_bit(pcd)?))
 }
 
-#[tactic(auto, using(crate::proofs::Forms::write_last), unfolding(crate::specs::Scan::write_of, crate::specs::Scan::with))]
+#[tactic(auto, using(crate::proofs::Forms::last_value), unfolding(crate::specs::Scan::write_of, crate::specs::Scan::with))]
 fn write_of(fields: &[u8]) -> Option<Event>
     ensures { result ≡ of_three write_of (fields_of fields.now) }
 {

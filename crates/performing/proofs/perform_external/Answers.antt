@@ -14,4 +14,4 @@ slice_bounds-external_write_in_place-end c = (front_count 80 _ (pair_bytes c.arg
 
 pub returns : goal.returns
 unfolding step_by
-returns c array = rw (c.number_only.ensures, c.answer_of.ensures) (own_log _ _ _ _ (c.external_write_in_place.ensures c.args.directory.now.cd array ∙ rw (front_count 80 _ (pair_bytes c.args.pairs.now) _ c.pair_bytes-count.ensures.0 c.pair_bytes-count.ensures.1 (omega (arith, pairs_length c.args.pairs.now, c.requires))).2))
+returns c cd array = rw (c.number_only.ensures, c.answer_of.ensures) (own_log _ _ _ _ (c.external_write_in_place.ensures cd array ∙ rw (front_count 80 _ (pair_bytes c.args.pairs.now) _ c.pair_bytes-count.ensures.0 c.pair_bytes-count.ensures.1 (omega (arith, pairs_length c.args.pairs.now, c.requires))).2))

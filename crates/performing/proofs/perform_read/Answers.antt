@@ -5,4 +5,4 @@ use Rattle.performing.proofs.perform_read.Goals as goal
 
 pub returns : goal.returns
 unfolding step_by
-returns c = own_log _ _ _ _ (c.read_in_place.ensures c.args.directory.now.nw ∙ rw c.board_answers-answers.ensures)
+returns c nw = own_log _ _ _ _ (c.read_in_place.ensures nw ∙ rw c.board_answers-answers.ensures)
