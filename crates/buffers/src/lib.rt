@@ -15,6 +15,13 @@ pub fn array_of<T: Copy, const N: usize>(element: T) -> [T; N]
     [element; N]
 }
 
+// 65,536 zeros.
+pub fn large_buffer() -> [u8; 65536]
+    ensures { 65536 ≡ length result }
+{
+    array_of(0)
+}
+
 // Reads until the input ends or fills the buffer. Answers how many bytes it put at the start, or the error of a read that failed.
 pub fn read_full(reader: &mut impl Read, buffer: &mut [u8]) -> io::Result<usize>
     ensures bound { ReadsAtMost result buffer.new }

@@ -1,5 +1,5 @@
 // Rows on the control call and the snoop call, for each pair of CD and NW.
-use crate::given::{MODES, SET, address, is_held};
+use crate::given::{MODES, SET, address, is_held, with_line};
 use directory::Directory;
 
 pub fn control_rows(rt: &impl Print) {
@@ -44,10 +44,9 @@ fn snoop_row(rt: &impl Print, cd: bool, nw: bool) {
 
 // The pair CD = 0, NW = 1, which a control call refuses, is wanted here too.
 fn two_lines(cd: bool, nw: bool) -> Directory {
-    let mut d = Directory::first()
-        .with_control(cd, nw)
-        .with_line(SET, 1, 7, true)
-        .with_line(SET, 2, 9, true);
+    let mut d = Directory::first().with_control(cd, nw);
+    d = with_line(d, SET, 1, 7, true);
+    d = with_line(d, SET, 2, 9, true);
     d.lru[SET] = 3;
     d
 }

@@ -1,7 +1,7 @@
-// The directories that the rows begin with, and what is asked of one. Lines and LRU numbers are stored, so that no row depends on
-// fills or uses, which other rows test.
+// The directories that the rows begin with, and what is asked of one. Lines and LRU numbers are stored to the fields, so that no row
+// depends on fills or uses, which other rows test.
 ghost use Rattle.std.specs.Prelude.{◌<◌};
-ghost use Rattle.ways.specs.Address.{way_count};
+ghost use Rattle.ways.specs.Address.{set_count, way_count};
 
 use directory::Directory;
 use numbers::answer_of;
@@ -13,11 +13,21 @@ pub const SET: usize = 5;
 // Every pair of CD and NW.
 pub const MODES: [(bool, bool); 4] = [(false, false), (false, true), (true, false), (true, true)];
 
+// Any tag and either mark of one line, which is no use of its way.
+pub fn with_line(mut d: Directory, set: usize, way: usize, tag: u32, valid: bool) -> Directory
+    requires { (set < set_count) × (way < way_count) }
+{
+    let line = set * WAYS + way;
+    d.tags[line] = tag;
+    d.valid[line] = valid;
+    d
+}
+
 // A reset directory but for SET, whose ways are valid with tags 10 to 13.
 pub fn full_set(lru: u8) -> Directory {
     let mut d = Directory::first();
     for way in 0..WAYS {
-        d = d.with_line(SET, way, 10 + way as u32, true);
+        d = with_line(d, SET, way, 10 + way as u32, true);
     }
     d.lru[SET] = lru;
     d

@@ -1,7 +1,7 @@
 // Rows on the way that a fill replaces, for each LRU number.
 ghost use Rattle.std.specs.Prelude.{◌<◌};
 
-use crate::given::{SET, full_set, victim};
+use crate::given::{SET, address, full_set, victim};
 use directory::Directory;
 use ways::WAYS;
 
@@ -32,11 +32,18 @@ fn fills_row(rt: &impl Print, lru: u8) {
     let _ = print!(rt; "fills\t{lru}");
     let mut d = full_set(lru);
     for tag in 20..24 {
-        let way = victim(&d);
-        let _ = print!(rt; "\t{way}");
-        d = d.filled(SET, way, tag);
+        d = fill(rt, d, address(tag, 0));
     }
     let _ = println!(rt; "\t{}", d.lru[SET]);
+}
+
+// Prints the way that the fill takes.
+#[tactic(auto, using(ways::proofs::FourWays::victim_below))]
+fn fill(rt: &impl Print, d: Directory, address: u32) -> Directory {
+    let set = ways::set_of(address);
+    let way = ways::victim(&d.valid, &d.lru, set);
+    let _ = print!(rt; "\t{way}");
+    d.filled(set, way, ways::tag_of(address))
 }
 
 // Every pair of an LRU number and a mask of valid marks.

@@ -2,7 +2,7 @@
 ghost use Rattle.std.specs.Prelude.{◌<◌};
 ghost use Rattle.ways.specs.Address.{way_count};
 
-use crate::given::{SET, full_set, refusal};
+use crate::given::{SET, full_set, refusal, with_line};
 use directory::Directory;
 use std::fmt::Display;
 use ways::WAYS;
@@ -48,7 +48,7 @@ fn rows_with_tag_of(rt: &impl Print, name: &str, lower: usize, valid: bool)
         state_row(
             rt,
             format_args!("{name}_{lower}_{upper}"),
-            &d.with_line(SET, upper, tag, valid),
+            &with_line(d, SET, upper, tag, valid),
         );
     }
 }
@@ -67,7 +67,7 @@ fn tag_row(rt: &impl Print, name: &str, way: usize, tag: u32, valid: bool)
     state_row(
         rt,
         format_args!("{name}_{way}"),
-        &good().with_line(SET, way, tag, valid),
+        &with_line(good(), SET, way, tag, valid),
     );
 }
 
@@ -79,20 +79,18 @@ fn lru_limit_rows(rt: &impl Print) {
 
 // All three faults: the lowest number is given.
 fn order_21() -> Directory {
-    full_set(8)
-        .with_line(SET, 0, TAG_LIMIT + 1, true)
-        .with_line(SET, 1, TAG_LIMIT + 1, true)
+    let d = with_line(full_set(8), SET, 0, TAG_LIMIT + 1, true);
+    with_line(d, SET, 1, TAG_LIMIT + 1, true)
 }
 
 // The faults 22 and 23.
 fn order_22() -> Directory {
-    full_set(8).with_line(SET, 3, TAG_LIMIT + 1, true)
+    with_line(full_set(8), SET, 3, TAG_LIMIT + 1, true)
 }
 
 fn other_set() -> Directory {
-    let mut d = good()
-        .with_line(OTHER_SET, 0, TAG_LIMIT + 1, true)
-        .with_line(OTHER_SET, 1, TAG_LIMIT + 1, true);
+    let mut d = with_line(good(), OTHER_SET, 0, TAG_LIMIT + 1, true);
+    d = with_line(d, OTHER_SET, 1, TAG_LIMIT + 1, true);
     d.lru[OTHER_SET] = 8;
     d
 }

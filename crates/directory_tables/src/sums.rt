@@ -1,5 +1,5 @@
 // Rows on a whole directory: the number of valid lines, the sums of tags and of LRU numbers, CD and NW.
-use crate::given::full_set;
+use crate::given::{full_set, with_line};
 use directory::Directory;
 use ways::{LINES, SETS};
 
@@ -9,9 +9,8 @@ pub fn reset_row(rt: &impl Print) {
 
 // Lines of two sets are valid before the flush.
 pub fn flush_row(rt: &impl Print) {
-    let mut d = full_set(3)
-        .with_control(false, false)
-        .with_line(127, 3, 99, true);
+    let mut d = full_set(3).with_control(false, false);
+    d = with_line(d, 127, 3, 99, true);
     d.lru[127] = 5;
     sums_row(rt, "flush", &d.flushed());
 }

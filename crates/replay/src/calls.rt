@@ -9,53 +9,48 @@ use carried::CarriedWrites;
 use directory::Outcome;
 use numbers::answer_of;
 use ranges::Kept;
-use std::alloc::AllocError;
 use ways::Arrays;
 
 // Room for the answers or bytes that a line gives.
 const ROOM: usize = 64;
 
-// Runs the lines of a script, each on the unit that the lines before it left.
-pub fn run_script(rt: &(impl Print + AllocGlobal), script: &[u8]) -> Result<(), AllocError> {
-    let mut unit = Unit::empty(rt.alloc());
-    for line in script.split(|byte| *byte == b'\n') {
-        unit.run_line(rt, line)?;
+// Runs the lines of a script, each on the unit that the lines before it left. The first makes a unit, whatever its letter is.
+pub fn run_script(rt: &impl Print, script: &[u8]) {
+    if script.is_empty() {
+        return;
     }
-    Ok(())
+    let mut unit = Unit::empty();
+    for (k, line) in script.split(|byte| *byte == b'\n').enumerate() {
+        let (letter, mut fields) = Fields::of(line);
+        unit.run_line(rt, if k == 0 { b'N' } else { letter }, &mut fields);
+    }
 }
 
 impl Unit {
-    fn run_line(&mut self, rt: &(impl Print + AllocGlobal), line: &[u8]) -> Result<(), AllocError> {
+    fn run_line(&mut self, rt: &impl Print, letter: u8, fields: &mut Fields) {
         self.freshen_log();
-        let (letter, mut fields) = Fields::of(line);
         match letter {
-            b'N' => self.unit_row(rt, &mut fields)?,
+            b'N' => self.unit_row(rt, fields),
             b'V' => self.view_row(rt, fields.number()),
             b't' => self.test_read_row(rt, fields.number(), fields.number()),
             b'g' => self.ranges_row(rt),
             b'B' => board_row(rt, fields.number(), fields.number()),
-            _ => self.call_row(rt, letter, &mut fields),
+            b'R' | b'r' | b'Q' | b'W' | b'w' | b'X' | b'S' | b'F' | b'C' | b'Z' | b'p' | b'O' => {
+                self.call_row(rt, letter, fields)
+            }
+            _ => self.store(letter, fields),
         }
-        Ok(())
     }
 
-    fn unit_row(
-        &mut self,
-        rt: &(impl Print + AllocGlobal),
-        fields: &mut Fields,
-    ) -> Result<(), AllocError> {
-        *self = Unit::of_line(rt.alloc(), fields)?;
+    fn unit_row(&mut self, rt: &impl Print, fields: &mut Fields) {
+        self.begin(fields);
         self.freshen_log();
         let _ = println!(rt; "N\t{self}");
-        Ok(())
     }
 
-    // Number, value, cycle count, the words of the records, and the digests. A letter that is no call's is a store's.
+    // Number, value, cycle count, the words of the records, and the digests.
     fn call_row(&mut self, rt: &impl Print, letter: u8, fields: &mut Fields) {
-        let Some(done) = self.call(letter, fields) else {
-            self.store(letter, fields);
-            return;
-        };
+        let done = self.call(letter, fields);
         self.directory = done.directory;
         let _ = print!(rt;
             "{}\t{}\t{}\t{}",
@@ -64,64 +59,77 @@ impl Unit {
             done.value,
             done.cycles
         );
-        for word in self.log.iter().take(done.cycles as usize * 3) {
+        let words = done.cycles as usize * 3;
+        for word in self.log[..self.lengths.log].iter().take(words) {
             let _ = print!(rt; "\t{word}");
         }
         let _ = println!(rt; "\t{self}");
     }
 
-    fn call(&mut self, letter: u8, fields: &mut Fields) -> Option<Outcome> {
+    // The last is Z's, a reset.
+    fn call(&mut self, letter: u8, fields: &mut Fields) -> Outcome {
         match letter {
-            b'R' | b'r' => Some(self.read(letter, fields)),
-            b'Q' => Some(self.read_carrying(fields)),
-            b'W' | b'w' => Some(self.write(letter, fields)),
-            b'X' => Some(self.external_write(fields)),
-            b'S' => Some(self.directory.snoop(fields.number())),
-            b'F' => Some(self.directory.flushed().answered(0)),
-            b'C' => Some(self.directory.control(fields.number(), fields.number())),
-            b'Z' => Some(self.directory.reset().answered(0)),
-            b'p' => Some(self.test_write(fields)),
-            b'O' => Some(self.set_ranges(fields)),
-            _ => None,
+            b'R' | b'r' => self.read(letter, fields),
+            b'Q' => self.read_carrying(fields),
+            b'W' | b'w' => self.write(letter, fields),
+            b'X' => self.external_write(fields),
+            b'S' => self.directory.snoop(fields.number()),
+            b'F' => self.directory.flushed().answered(0),
+            b'C' => self.directory.control(fields.number(), fields.number()),
+            b'p' => self.test_write(fields),
+            b'O' => self.set_ranges(fields),
+            _ => self.directory.reset().answered(0),
         }
     }
 
     fn read(&mut self, letter: u8, fields: &mut Fields) -> Outcome {
         let address = fields.number();
         let width = fields.number();
-        let pcd = fields.number();
+        let pcd = fields.number::<u64>() == 1;
         let mut answers = [0; ROOM];
         let n = answers_of(letter, fields, address, width, &mut answers);
+        let lent = self.lengths;
+        let directory = self.directory;
+        let ram = &self.ram[..];
+        let parity = &self.parity[..];
+        let data = &mut self.data[..];
+        let log = &mut self.log[..];
         read_calls::read(
-            self.directory,
-            &self.ram,
-            &self.parity,
-            &mut self.data,
+            directory,
+            &ram[..lent.ram],
+            &parity[..lent.parity],
+            &mut data[..lent.data],
             address,
             width,
             pcd,
             &answers[..n],
-            &mut self.log,
+            &mut log[..lent.log],
         )
     }
 
     fn read_carrying(&mut self, fields: &mut Fields) -> Outcome {
         let address = fields.number();
         let width = fields.number();
-        let pcd = fields.number();
+        let pcd = fields.number::<u64>() == 1;
         let mut answers = [0; ROOM];
         let n = fields.digits(&mut answers);
         let carried = carried_writes(fields);
+        let lent = self.lengths;
+        let directory = self.directory;
+        let ram = &mut self.ram[..];
+        let parity = &mut self.parity[..];
+        let data = &mut self.data[..];
+        let log = &mut self.log[..];
         carrying_calls::read_carrying(
-            self.directory,
-            &mut self.ram,
-            &mut self.parity,
-            &mut self.data,
+            directory,
+            &mut ram[..lent.ram],
+            &mut parity[..lent.parity],
+            &mut data[..lent.data],
             address,
             width,
             pcd,
             &answers[..n],
-            &mut self.log,
+            &mut log[..lent.log],
             carried,
         )
     }
@@ -132,16 +140,22 @@ impl Unit {
         let value = fields.number();
         let mut answers = [0; ROOM];
         let n = answers_of(letter, fields, address, width, &mut answers);
+        let lent = self.lengths;
+        let directory = self.directory;
+        let ram = &mut self.ram[..];
+        let parity = &mut self.parity[..];
+        let data = &mut self.data[..];
+        let log = &mut self.log[..];
         write_calls::write(
-            self.directory,
-            &mut self.ram,
-            &mut self.parity,
-            &mut self.data,
+            directory,
+            &mut ram[..lent.ram],
+            &mut parity[..lent.parity],
+            &mut data[..lent.data],
             address,
             width,
             value,
             &answers[..n],
-            &mut self.log,
+            &mut log[..lent.log],
         )
     }
 
@@ -149,28 +163,42 @@ impl Unit {
         let address = fields.number();
         let mut bytes = [0; ROOM];
         let n = fields.numbers(&mut bytes);
+        let lent = self.lengths;
+        let directory = self.directory;
+        let ram = &mut self.ram[..];
+        let parity = &mut self.parity[..];
         masters::external_write(
-            self.directory,
-            &mut self.ram,
-            &mut self.parity,
+            directory,
+            &mut ram[..lent.ram],
+            &mut parity[..lent.parity],
             address,
             &bytes[..n],
         )
     }
 
     fn test_write(&mut self, fields: &mut Fields) -> Outcome {
+        let lent = self.lengths;
         let set = fields.number();
         let way = fields.number();
         let tag = fields.number();
         let mark = fields.number();
         let mut bytes = [0; 16];
         fields.numbers(&mut bytes);
-        diagnostics::test_write(self.directory, &mut self.data, set, way, tag, mark, bytes)
+        diagnostics::test_write(
+            self.directory,
+            &mut self.data[..lent.data],
+            set,
+            way,
+            tag,
+            mark,
+            bytes,
+        )
     }
 
     // Number, tag, valid mark and LRU number of a test read, its sixteen bytes, which are one field, and the digests.
     fn test_read_row(&mut self, rt: &impl Print, set: u32, way: u32) {
-        let done = diagnostics::test_read(self.directory, &self.data, set, way);
+        let lent = self.lengths;
+        let done = diagnostics::test_read(self.directory, &self.data[..lent.data], set, way);
         let line = done.line;
         let _ = print!(rt;
             "t\t{}\t{}\t{}\t{}\t",
@@ -186,14 +214,16 @@ impl Unit {
 
     // The words that the line gives are lent, a start without a length too.
     fn set_ranges(&mut self, fields: &mut Fields) -> Outcome {
+        let lent = self.lengths;
         let mut words = [0; 32];
         let n = fields.numbers(&mut words);
-        read_only_ranges::set_ranges(self.directory, &self.ram, &words[..n])
+        read_only_ranges::set_ranges(self.directory, &self.ram[..lent.ram], &words[..n])
     }
 
     // Number, length and bytes of a view, which are one field, empty where the view is turned away, and the digests, which show that
     // a view and its number leave all as it was.
     fn view_row(&self, rt: &impl Print, address: u32) {
+        let lent = self.lengths;
         let d = &self.directory;
         let arrays = Arrays {
             tags: &d.tags,
@@ -204,8 +234,10 @@ impl Unit {
             count: d.ranges.count,
             bounds: &d.ranges.bounds,
         };
-        let number = answer_of(views::view_number(arrays, ranges, &self.ram, &self.data, address));
-        let shown = views::view(arrays, ranges, &self.ram, &self.data, address);
+        let ram = &self.ram[..lent.ram];
+        let data = &self.data[..lent.data];
+        let number = answer_of(views::view_number(arrays, ranges, ram, data, address));
+        let shown = views::view(arrays, ranges, ram, data, address);
         let _ = print!(rt; "V\t{number}\t{}\t", shown.len());
         print_pairs(rt, shown);
         let _ = println!(rt; "\t{self}");

@@ -10,7 +10,7 @@ mod script;
 mod stores;
 mod unit;
 
-use buffers::{array_of, read_full};
+use buffers::{large_buffer, read_full};
 use std::rt::Files;
 use std::{env, fs, io};
 
@@ -22,11 +22,11 @@ fn main(rt: HostRuntime) -> io::Result<()> {
 }
 
 // A script's rows stand below its name.
-fn run_file(rt: &(impl Files + Print + AllocGlobal), name: &str) -> io::Result<()> {
+fn run_file(rt: &(impl Files + Print), name: &str) -> io::Result<()> {
     let mut file = fs::open(rt, name)?;
     let _ = println!(rt; "{name}");
-    let mut text: [u8; 65536] = array_of(0);
+    let mut text = large_buffer();
     let n = read_full(&mut file, &mut text)?;
-    calls::run_script(rt, &text[..n])?;
+    calls::run_script(rt, &text[..n]);
     Ok(())
 }

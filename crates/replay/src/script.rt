@@ -1,4 +1,5 @@
-// Script lines: a letter and fields, a blank before each field.
+// Script lines: a letter and fields, a blank before each field. Whatever else a line has, it says something: a number ends at the
+// first byte that is no digit, and the next field begins there.
 ghost use Rattle.std.specs.Prelude.{◌≤◌, length};
 
 // What the number of a field is kept as, modulo its size.
@@ -31,10 +32,10 @@ impl FromField for usize {
     }
 }
 
-// A mark, PCD, CD or NW.
+// A mark, CD or NW. PCD stands where W and w have their value, and is compared whole.
 impl FromField for bool {
     fn from_field(number: u64) -> bool {
-        number == 1
+        number & 0xffff_ffff == 1
     }
 }
 
@@ -45,41 +46,40 @@ pub struct Fields<'a> {
 }
 
 impl<'a> Fields<'a> {
-    // A line's letter, 0 where there is none, and the fields after it.
+    // A line's letter, 0 where there is none, and the fields, from its second byte on.
     pub fn of(line: &'a [u8]) -> (u8, Fields<'a>) {
-        let mut fields = Fields { rest: line };
-        let letter = fields.next().and_then(|field| field.first().copied());
-        (letter.unwrap_or(0), fields)
+        match line {
+            [letter, rest @ ..] => (*letter, Fields { rest }),
+            [] => (0, Fields { rest: line }),
+        }
     }
 
-    // The bytes up to the next blank, if any are left.
-    fn next(&mut self) -> Option<&'a [u8]> {
-        let rest = self.rest;
-        if rest.is_empty() {
-            return None;
-        }
-        let (field, after) = match rest.iter().position(|byte| *byte == b' ') {
-            Some(end) => (&rest[..end], &rest[end + 1..]),
-            None => (rest, &rest[rest.len()..]),
+    // The digits that come next, after one blank or none.
+    fn next(&mut self) -> &'a [u8] {
+        let rest = match self.rest {
+            [b' ', after @ ..] => after,
+            rest => rest,
         };
+        let end = rest.iter().position(|byte| !byte.is_ascii_digit());
+        let (field, after) = rest.split_at(end.unwrap_or(rest.len()));
         self.rest = after;
-        Some(field)
+        field
     }
 
     // The number of the next field, 0 where there is none.
     pub fn number<T: FromField>(&mut self) -> T {
-        T::from_field(self.next().map_or(0, value))
+        T::from_field(value(self.next()))
     }
 
-    // The numbers of the fields that are left: how many there are, as far as they have room.
+    // The numbers of the fields that are left, each after a blank: how many there are, as far as they have room.
     pub fn numbers<T: FromField>(&mut self, room: &mut [T]) -> usize
         ensures { result ≤ length room.new }
     {
         for (n, place) in room.iter_mut().enumerate() {
-            let Some(field) = self.next() else {
+            let [b' ', ..] = self.rest else {
                 return n;
             };
-            *place = T::from_field(value(field));
+            *place = self.number();
         }
         room.len()
     }
@@ -88,7 +88,7 @@ impl<'a> Fields<'a> {
     pub fn digits(&mut self, room: &mut [u8]) -> usize
         ensures { result ≤ length room.new }
     {
-        let field = self.next().unwrap_or(&[]);
+        let field = self.next();
         for (place, digit) in room.iter_mut().zip(field) {
             *place = digit & 15;
         }

@@ -53,7 +53,7 @@ impl Unit {
 
     // Turns bits of a parity byte over.
     fn flip_parity(&mut self, place: usize, mask: u8) {
-        if let Some(lanes) = self.parity.get_mut(place) {
+        if let Some(lanes) = self.parity[..self.lengths.parity].get_mut(place) {
             *lanes ^= mask;
         }
     }

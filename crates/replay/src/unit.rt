@@ -1,8 +1,10 @@
 // Units: what the calls are lent, and the line for a new one.
+ghost use Rattle.std.specs.Prelude.{◌≡◌, ◌≤◌, length};
+
 use crate::digest::Adler;
 use crate::script::Fields;
+use buffers::{array_of, large_buffer};
 use directory::Directory;
-use std::alloc::{AllocError, Global};
 use std::fmt;
 
 // The most bytes that an array of a unit has, and the most words that its log has.
@@ -10,51 +12,75 @@ const MOST_BYTES: usize = 65536;
 
 const MOST_WORDS: usize = 192;
 
+// How much of each array of a unit is lent.
+#[derive(Clone, Copy)]
+pub struct Lengths {
+    pub ram: usize,
+    pub parity: usize,
+    pub data: usize,
+    pub log: usize,
+    ghost ram_fits: { ram ≤ 65536 },
+    ghost parity_fits: { parity ≤ 65536 },
+    ghost data_fits: { «data» ≤ 65536 },
+    ghost log_fits: { log ≤ 192 },
+}
+
 #[derive(Drop)]
 pub struct Unit {
     pub directory: Directory,
-    pub ram: Vec<u8>,
-    pub parity: Vec<u8>,
-    pub data: Vec<u8>,
-    pub log: Vec<u32>,
+    pub ram: [u8; MOST_BYTES],
+    pub parity: [u8; MOST_BYTES],
+    pub data: [u8; MOST_BYTES],
+    pub log: [u32; MOST_WORDS],
+    pub lengths: Lengths,
 }
 
 impl Unit {
     // The unit before a script's first line: nothing is lent.
-    pub fn empty(alloc: Global) -> Unit {
+    pub fn empty() -> Unit {
         Unit {
             directory: Directory::first(),
-            ram: Vec::new(alloc),
-            parity: Vec::new(alloc),
-            data: Vec::new(alloc),
-            log: Vec::new(alloc),
+            ram: large_buffer(),
+            parity: large_buffer(),
+            data: large_buffer(),
+            log: log_buffer(),
+            lengths: Lengths {
+                ram: 0,
+                parity: 0,
+                data: 0,
+                log: 0,
+            },
         }
     }
 
-    // A new unit has the directory of a reset and parity that agrees. Its line gives the four lengths, and what RAM and data array are
-    // filled from.
-    pub fn of_line(alloc: Global, fields: &mut Fields) -> Result<Unit, AllocError> {
-        let mut ram = vec![in alloc; 0u8; fields.number::<usize>().min(MOST_BYTES)]?;
-        let mut parity = vec![in alloc; 0u8; fields.number::<usize>().min(MOST_BYTES)]?;
-        let mut data = vec![in alloc; 0u8; fields.number::<usize>().min(MOST_BYTES)]?;
-        let log = vec![in alloc; 0u32; fields.number::<usize>().min(MOST_WORDS)]?;
-        set_bytes(&mut ram, fields.number());
-        set_parity(&mut parity, &ram);
-        set_bytes(&mut data, fields.number());
-        let directory = Directory::first();
-        Ok(Unit {
-            directory,
-            ram,
-            parity,
-            data,
-            log,
-        })
+    // Makes a new unit of it, with the directory of a reset and parity that agrees. Its line gives the four lengths, and what RAM and
+    // data array are filled from.
+    pub fn begin(&mut self, fields: &mut Fields) {
+        let lent = Lengths {
+            ram: fields.number::<usize>().min(MOST_BYTES),
+            parity: fields.number::<usize>().min(MOST_BYTES),
+            data: fields.number::<usize>().min(MOST_BYTES),
+            log: fields.number::<usize>().min(MOST_WORDS),
+        };
+        let ram_seed = fields.number();
+        let data_seed = fields.number();
+        self.directory = Directory::first();
+        self.lengths = lent;
+        let ram = &mut self.ram[..];
+        let parity = &mut self.parity[..];
+        let data = &mut self.data[..];
+        set_bytes(&mut ram[..lent.ram], ram_seed);
+        set_parity(&mut parity[..lent.parity], &ram[..lent.ram]);
+        set_bytes(&mut data[..lent.data], data_seed);
     }
 
     // The log before each call, so that words which the call leaves alone show.
     pub fn freshen_log(&mut self) {
-        for (word, value) in self.log.iter_mut().zip(0xc0de_0000..) {
+        let words = self.lengths.log;
+        let mut value = 0xc0de_0000u32;
+        for word in self.log[..words].iter_mut() {
             *word = value;
+            value = value.wrapping_add(1);
         }
     }
 }
@@ -62,11 +88,12 @@ impl Unit {
 // The digests of directory, RAM, parity array, data array and log.
 impl fmt::Display for Unit {
     fn fmt<W: fmt::Write>(&self, f: &mut fmt::Formatter<W>) -> fmt::Result {
+        let lent = self.lengths;
         let directory = directory_sum(&self.directory);
-        let ram = Adler::start().bytes(&self.ram);
-        let parity = Adler::start().bytes(&self.parity);
-        let data = Adler::start().bytes(&self.data);
-        let log = Adler::start().words(&self.log);
+        let ram = Adler::start().bytes(&self.ram[..lent.ram]);
+        let parity = Adler::start().bytes(&self.parity[..lent.parity]);
+        let data = Adler::start().bytes(&self.data[..lent.data]);
+        let log = Adler::start().words(&self.log[..lent.log]);
         write!(f, "{directory}\t{ram}\t{parity}\t{data}\t{log}")
     }
 }
@@ -74,6 +101,12 @@ impl fmt::Display for Unit {
 fn directory_sum(d: &Directory) -> Adler {
     let lines = Adler::start().words(&d.tags).marks(&d.valid);
     lines.bytes(&d.lru).mark(d.cd).mark(d.nw)
+}
+
+fn log_buffer() -> [u32; MOST_WORDS]
+    ensures { 192 ≡ length result }
+{
+    array_of(0)
 }
 
 // Bytes of a linear congruential generator's states.
@@ -87,6 +120,7 @@ fn set_bytes(bytes: &mut [u8], seed: u32) {
 
 // Parity that agrees, as far as either array goes: a script may give them lengths that do not match.
 fn set_parity(parity: &mut [u8], ram: &[u8]) {
+    parity.fill(0);
     for (lanes, doubleword) in parity.iter_mut().zip(ram.chunks(4)) {
         *lanes = odd_lanes(doubleword);
     }

@@ -7,10 +7,11 @@
 
 mod print;
 
+ghost use Rattle.std.specs.Prelude.{◌≡◌, length};
 ghost use Rattle.std.specs.Io.{ReadsAtMost};
 
 use board::BLOCKS;
-use buffers::{array_of, read_full};
+use buffers::{array_of, large_buffer, read_full};
 use print::{board_rows, run_rows, table_row};
 use std::rt::Files;
 use std::{env, fs, io};
@@ -25,7 +26,7 @@ fn main(rt: HostRuntime) -> io::Result<()> {
     let Some(name) = names.next() else {
         return Ok(());
     };
-    let mut input: [u8; 65536] = array_of(0);
+    let mut input = large_buffer();
     let n = read_file(&rt, name.as_str(), &mut input)?;
     let mut table = board::block_answers();
     for name in names {
@@ -41,8 +42,7 @@ fn load_file(
     input: &[u8],
 ) -> io::Result<()> {
     let _ = println!(rt; "{name}");
-    // Enough for every table file in ../data.
-    let mut space: [u8; 131072] = array_of(0);
+    let mut space = text_buffer();
     let n = read_file(rt, name, &mut space)?;
     let text = &space[..n];
     let done = block_table::load(table, text);
@@ -64,4 +64,11 @@ fn read_file(rt: &impl Files, name: &str, buffer: &mut [u8]) -> io::Result<usize
 {
     let mut file = fs::open(rt, name)?;
     read_full(&mut file, buffer)
+}
+
+// Enough for every table file in ../data.
+fn text_buffer() -> [u8; 131072]
+    ensures { 131072 ≡ length result }
+{
+    array_of(0)
 }

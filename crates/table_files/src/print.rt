@@ -2,7 +2,7 @@
 ghost use Rattle.std.specs.Prelude.{◌<◌};
 
 use board::BLOCKS;
-use buffers::{array_of, within};
+use buffers::{large_buffer, within};
 
 // The number that a load answered, and the table that it handed back.
 pub fn table_row(rt: &impl Print, load: &str, number: u32, table: &[u8; BLOCKS]) {
@@ -33,7 +33,7 @@ fn board_row(rt: &impl Print, table: &[u8; BLOCKS], block: u32)
 
 // The output of the run over event lines, which is short.
 pub fn run_rows(rt: &impl Print, table: &[u8; BLOCKS], input: &[u8]) {
-    let mut output: [u8; 65536] = array_of(0);
+    let mut output = large_buffer();
     let whole = events::run(table, input, &mut output);
     let n = within(whole, &output);
     let _ = rt.write_all(&output[..n]);
