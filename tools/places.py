@@ -50,7 +50,7 @@ def main():
         "5 base, word, held and due": heads(group("base", "word", "held", "due"), files),
         "5 ten parameters or more": heads(lambda n, ps, r: len(ps) >= 10, files),
         "6 a buffer with its length beside it": heads(lambda n, ps, r: bool({"words", "values", "bytes", "line", "script"} & set(ps)) and bool({"to", "count", "at", "place"} & set(ps)), files),
-        "7 closures, dyn, function pointers": lines(r"\bdyn\b|\bfn\(|impl Fn", files),
+        "7 closures, dyn, function pointers": lines(r"\bdyn\b|\bfn\(|impl Fn|: Fn\w*\(|\|\w+(, \w+)*\|", files),
         "7 switches on a letter": lines(r"match letter", files),
     }
     for title, places in found.items():
